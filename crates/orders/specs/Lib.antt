@@ -1,0 +1,11 @@
+-- What a reader must believe, in the sequence of document 01.
+pub mod Lists
+pub mod CircularOrder
+pub mod Tree
+pub mod Form
+pub mod TreeText
+pub mod Reduce
+pub mod Join
+pub mod Conflict
+pub mod Aim
+pub mod Circles

@@ -1,0 +1,49 @@
+-- Words on lists that the definitions use.
+use mathlib.Core.Path.{_≡_}
+use mathlib.Core.Logic.{_≢_, _⊎_}
+use mathlib.Core.Bool.{Bool, true, false, cond}
+use mathlib.Core.List.{List, [], _∷_}
+use Prim.Native.Nat.{ℕ, zero, suc, _<_}
+use lib.Dec.{eqb}
+
+module _ {A : Type 0} where
+  -- P holds of every element.
+  abbrev pub All : (A → Type 0) → List A → Type 0
+  All P [] = Unit {0}
+  All P (x ∷ xs) = P x × All P xs
+
+  -- No element stands twice.
+  abbrev pub Distinct : List A → Type 0
+  Distinct [] = Unit {0}
+  Distinct (x ∷ xs) = All (λ y. x ≢ y) xs × Distinct xs
+
+  -- x stands in the list.
+  abbrev pub In : A → List A → Type 0
+  In x [] = ⊥
+  In x (y ∷ l) = (x ≡ y) ⊎ In x l
+
+-- The test whether a number stands in the list.
+abbrev pub elem : List ℕ → ℕ → Bool
+elem [] x = false
+elem (y ∷ l) x = cond (eqb x y) true (elem l x)
+
+-- The k numbers from a on.
+abbrev pub range : ℕ → ℕ → List ℕ
+range a zero = []
+range a (suc k) = a ∷ range (suc a) k
+
+-- `Pick x l m`: x stands in l, and m is l without it.
+pub data Pick {A : Type 0} : A → List A → List A → Type 0 where
+  here : {x : A} {l : List A} → Pick x (x ∷ l) l
+  there : {x y : A} {l m : List A} → Pick x l m → Pick x (y ∷ l) (y ∷ m)
+
+-- `Perm l m`: m is a rearrangement of l. Take an element of l, put it in front, and go on with what is left.
+pub data Perm {A : Type 0} : List A → List A → Type 0 where
+  done : Perm [] []
+  next : {x : A} {l k m : List A} → Pick x l k → Perm k m → Perm l (x ∷ m)
+
+-- Dictionary order: xs is not after ys.
+abbrev pub Lex : List ℕ → List ℕ → Type 0
+Lex [] ys = Unit {0}
+Lex (x ∷ xs) [] = ⊥
+Lex (x ∷ xs) (y ∷ ys) = (x < y) ⊎ ((x ≡ y) × Lex xs ys)
