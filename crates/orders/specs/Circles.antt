@@ -5,13 +5,12 @@ use mathlib.Core.List.{List, [], _∷_, _++_}
 use Prim.Native.Nat.{ℕ}
 use Prim.Native.Char.{code}
 use Prim.Native.String.{String}
-use lib.Dec.{eqb}
-use Rattle.orders.specs.Lists.{elem}
+use Rattle.orders.specs.Lists.{elem, same}
 use Rattle.orders.specs.CircularOrder.{Restriction}
 use Rattle.orders.specs.Tree.{C, Forest, nil, leaf, node}
 use Rattle.orders.specs.TreeText.{tree-text}
 use Rattle.orders.specs.Join.{fresh, join}
-use Rattle.orders.specs.Conflict.{all-of, conflict-list}
+use Rattle.orders.specs.Conflict.{conflict-list}
 
 -- A group that is tried: kept, with an empty conflict list; or refused (8), with its conflict list.
 pub data Try : Type 0 where
@@ -28,12 +27,6 @@ pub record Circle : Type 0 where
 abbrev pub bytes : String → List ℕ
 bytes String.[] = []
 bytes (String._∷_ c s) = code c ∷ bytes s
-
-abbrev pub same : List ℕ → List ℕ → Bool
-same [] [] = true
-same [] (y ∷ ys) = false
-same (x ∷ xs) [] = false
-same (x ∷ xs) (y ∷ ys) = eqb x y && same xs ys
 
 abbrev pub with-tree : Option Forest → (Forest → Bool) → Bool
 with-tree none k = false

@@ -1,20 +1,11 @@
 -- Document 01, "Conflict list", over circular orders, without a tree. It computes: "impossible together" is tried on every circular order.
-use mathlib.Core.Bool.{Bool, true, false, cond, _&&_}
+use mathlib.Core.Bool.{Bool, true, false, cond}
 use mathlib.Core.List.{List, [], _∷_, _++_, map}
 use Prim.Native.Nat.{ℕ, suc}
-use Rattle.orders.specs.Lists.{elem}
+use Rattle.orders.specs.Lists.{elem, some-of, all-of}
 use Rattle.orders.specs.CircularOrder.{Restriction, others}
 
 module _ {A : Type 0} where
-  -- Some element passes the test; every one does.
-  abbrev pub some-of : (A → Bool) → List A → Bool
-  some-of p [] = false
-  some-of p (x ∷ l) = cond (p x) true (some-of p l)
-
-  abbrev pub all-of : (A → Bool) → List A → Bool
-  all-of p [] = true
-  all-of p (x ∷ l) = p x && all-of p l
-
   -- x put at each place of the list; for each list of a list of lists; all rearrangements.
   abbrev pub spread : A → List A → List (List A)
   spread x [] = (x ∷ []) ∷ []

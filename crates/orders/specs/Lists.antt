@@ -1,7 +1,7 @@
 -- Words on lists that the definitions use.
 use mathlib.Core.Path.{_≡_}
 use mathlib.Core.Logic.{_≢_, _⊎_}
-use mathlib.Core.Bool.{Bool, true, false, cond}
+use mathlib.Core.Bool.{Bool, true, false, cond, _&&_}
 use mathlib.Core.List.{List, [], _∷_}
 use Prim.Native.Nat.{ℕ, zero, suc, _<_}
 use lib.Dec.{eqb}
@@ -22,10 +22,31 @@ module _ {A : Type 0} where
   In x [] = ⊥
   In x (y ∷ l) = (x ≡ y) ⊎ In x l
 
+  -- Some element passes the test; every one does.
+  abbrev pub some-of : (A → Bool) → List A → Bool
+  some-of p [] = false
+  some-of p (x ∷ l) = cond (p x) true (some-of p l)
+
+  abbrev pub all-of : (A → Bool) → List A → Bool
+  all-of p [] = true
+  all-of p (x ∷ l) = p x && all-of p l
+
+  -- The elements that pass the test.
+  abbrev pub filter : (A → Bool) → List A → List A
+  filter p [] = []
+  filter p (x ∷ l) = cond (p x) (x ∷ filter p l) (filter p l)
+
 -- The test whether a number stands in the list.
 abbrev pub elem : List ℕ → ℕ → Bool
 elem [] x = false
 elem (y ∷ l) x = cond (eqb x y) true (elem l x)
+
+-- The test whether two lists are equal.
+abbrev pub same : List ℕ → List ℕ → Bool
+same [] [] = true
+same [] (y ∷ ys) = false
+same (x ∷ xs) [] = false
+same (x ∷ xs) (y ∷ ys) = eqb x y && same xs ys
 
 -- The k numbers from a on.
 abbrev pub range : ℕ → ℕ → List ℕ
