@@ -1,8 +1,10 @@
 -- Document 01, "The tree" and "Tree text": the form of a tree that a text or a node table has, and the standard order.
+use mathlib.Core.Bool.{Bool, true, _&&_}
 use mathlib.Core.List.{List, [], _∷_}
 use Prim.Native.Nat.{ℕ, suc, _+_, _≤_, _<_}
+use lib.Dec.{leb, ltb}
 use lib.ListN.{length}
-use Rattle.orders.specs.Lists.{Perm, Lex}
+use Rattle.orders.specs.Lists.{Perm, Lex, rearranged?}
 use Rattle.orders.specs.CircularOrder.{others}
 use Rattle.orders.specs.Tree.{Kind, P, C, Forest, nil, leaf, node, Item, leaf-item, node-item, items, rev, frontier, Allowed}
 
@@ -71,3 +73,24 @@ nodes (node k i f) = suc (nodes i + nodes f)
 -- "The bins printed are then the standard order": of a tree in form.
 abbrev pub standard : Forest → List ℕ
 standard t = 1 ∷ frontier t
+
+-- The test whether a tree is in form for n leaves (it decides `InForm`).
+abbrev pub rises? : ℕ → List Item → Bool
+rises? m [] = true
+rises? m (t ∷ ts) = ltb m (first-of t) && rises? (first-of t) ts
+
+abbrev pub rising? : List Item → Bool
+rising? [] = true
+rising? (t ∷ ts) = rises? (first-of t) ts
+
+abbrev pub sorted? : Kind → Forest → Bool
+sorted? P i = rising? (items i)
+sorted? C i = ltb (first i) (first (rev i))
+
+abbrev pub canonical? : Forest → Bool
+canonical? nil = true
+canonical? (leaf b f) = canonical? f
+canonical? (node k i f) = ((leb 2 (length (items i)) && sorted? k i) && canonical? i) && canonical? f
+
+unfoldable pub in-form? : ℕ → Forest → Bool
+in-form? n t = leb (length (items t)) 1 && (canonical? t && rearranged? (others n) (frontier t))

@@ -2,6 +2,7 @@
 use mathlib.Core.Path.{_≡_}
 use mathlib.Core.Logic.{_≢_, _⊎_}
 use mathlib.Core.Bool.{Bool, true, false, cond, _&&_}
+use mathlib.Core.Option.{Option, none, some}
 use mathlib.Core.List.{List, [], _∷_}
 use Prim.Native.Nat.{ℕ, zero, suc, _<_}
 use lib.Dec.{eqb}
@@ -62,6 +63,16 @@ pub data Pick {A : Type 0} : A → List A → List A → Type 0 where
 pub data Perm {A : Type 0} : List A → List A → Type 0 where
   done : Perm [] []
   next : {x : A} {l k m : List A} → Pick x l k → Perm k m → Perm l (x ∷ m)
+
+-- The test whether the second list is a rearrangement of the first (it decides `Perm`): each number of the first is taken out of the second,
+-- and nothing is left.
+abbrev pub without : ℕ → List ℕ → Option (List ℕ)
+without x [] = none
+without x (y ∷ l) = cond (eqb x y) (some l) (elim (without x l) [ none ↦ none | some m ↦ some (y ∷ m) ])
+
+abbrev pub rearranged? : List ℕ → List ℕ → Bool
+rearranged? [] m = same m []
+rearranged? (x ∷ l) m = elim (without x m) [ none ↦ false | some k ↦ rearranged? l k ]
 
 -- Dictionary order: xs is not after ys.
 abbrev pub Lex : List ℕ → List ℕ → Type 0

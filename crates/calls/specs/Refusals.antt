@@ -1,0 +1,64 @@
+-- Document 01, "What a call refuses": the numbers of the table, what is returned with them, and the checks, each by itself.
+use mathlib.Core.Bool.{Bool, true, false, cond, not, _&&_, _||_}
+use mathlib.Core.Option.{Option, none, some}
+use mathlib.Core.List.{List, [], _∷_}
+use Prim.Native.Nat.{ℕ, suc}
+use lib.Dec.{eqb, leb, ltb}
+use lib.ListN.{length}
+use Rattle.orders.specs.Lists.{elem, same}
+use Rattle.calls.specs.declared.Refusal.{Refusal}
+use Rattle.calls.specs.declared.Refusal.the-variants.{RingSize, ShortTable, NotInForm, EmptyGroup, OutsideRing, Repeated, BookFull, Impossible, NoSuchGroup, NotConsecutive, RingFile, TreeText}
+use Rattle.calls.specs.declared.Answer.{Answer}
+use Rattle.calls.specs.declared.Answer.the-variants.{Done, Refused}
+
+-- What is returned: the number, then the place or byte where one is named.
+abbrev pub reported : Refusal → List ℕ
+reported RingSize = 1 ∷ []
+reported ShortTable = 2 ∷ []
+reported NotInForm = 3 ∷ []
+reported EmptyGroup = 4 ∷ []
+reported (OutsideRing place) = 5 ∷ place ∷ []
+reported (Repeated place) = 6 ∷ place ∷ []
+reported BookFull = 7 ∷ []
+reported Impossible = 8 ∷ []
+reported NoSuchGroup = 9 ∷ []
+reported NotConsecutive = 10 ∷ []
+reported (RingFile byte) = 11 ∷ byte ∷ []
+reported (TreeText byte) = 12 ∷ byte ∷ []
+
+-- The same of an answer; 0 for a call that is not refused, then its number.
+abbrev pub report : Answer → List ℕ
+report (Done value) = 0 ∷ value ∷ []
+report (Refused refusal) = reported refusal
+
+-- A check, and "down the table": the first one that refuses.
+abbrev pub refuse : Bool → Refusal → Option Refusal
+refuse true r = some r
+refuse false r = none
+
+abbrev pub down : List (Option Refusal) → Option Refusal
+down [] = none
+down (none ∷ checks) = down checks
+down (some r ∷ checks) = some r
+
+-- 1: "n is 0 or above 256".
+abbrev pub bad-size : ℕ → Bool
+bad-size n = eqb n 0 || ltb 256 n
+
+-- 2: "a lent table is too short: 256 records, 384 mark words, n places for the order, 96 for a conflict list, 2,048 bytes for a tree text to
+-- be written". A node table is lent as rows, with the number of records that they are.
+abbrev pub short : ℕ → List ℕ → Bool
+short size table = ltb (length table) size
+
+abbrev pub short-nodes : ℕ → List ℕ → Bool
+short-nodes have table = ltb have 256 || short 65792 table
+
+-- 5 and 6: "a bin is 0 or above n", "a bin stands earlier in the same list": "of 5 and 6 the earlier place counts". From place k on; `seen`
+-- stands before it.
+unfoldable pub bad-leaf : ℕ → List ℕ → ℕ → List ℕ → Option Refusal
+bad-leaf n seen k [] = none
+bad-leaf n seen k (b ∷ bs) = cond (eqb b 0 || ltb n b) (some (OutsideRing k)) (cond (elem seen b) (some (Repeated k)) (bad-leaf n (b ∷ seen) (suc k) bs))
+
+-- 4, 5 and 6.
+abbrev pub list-checks : ℕ → List ℕ → List (Option Refusal)
+list-checks n list = refuse (same list []) EmptyGroup ∷ bad-leaf n [] 0 list ∷ []
