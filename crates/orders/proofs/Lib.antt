@@ -1,1 +1,34 @@
+-- Laws of lists.
+pub mod ListLaws
+pub mod Perm
+pub mod Members
+pub mod Lex
+-- Round the circle and on the line.
+pub mod Contiguous
+pub mod CircleAndLine
+-- Laws of trees.
+pub mod Laws
+pub mod First
+pub mod Parts
+pub mod Mirror
+pub mod Insert
+pub mod Forms
+-- The update: the linear and reduced forms of a node; what reducing keeps.
+pub mod Gives
+pub mod Fits
+pub mod Classes
+pub mod Reading
+pub mod Linear
+pub mod Gather
+pub mod Reduced
+pub mod ReduceOrders
+pub mod ReduceForm
+pub mod ReduceIdle
+-- The theorems: the form tests, the standard order, a restriction that joins, the fresh ring, the order tests, the conflict list, the marked circles.
+pub mod FormTests
+pub mod StandardOrders
+pub mod Joining
+pub mod Fresh
+pub mod Decide
+pub mod Conflicts
 pub mod Circles

@@ -1,0 +1,108 @@
+-- Trees in form for n leaves: their leaves differ, how many nodes they have, and what they are for n = 1, n = 2 and from 3 on.
+use mathlib.Core.Path.{_≡_, ap, refl}
+use mathlib.Core.Logic.{_≢_, inl, inr}
+use mathlib.Core.Bool.{Bool, false, true}
+use mathlib.Core.List.{[], _∷_}
+use Prim.Native.Nat.{_+_, _<_, _≤_, suc, zero, ℕ}
+use native.Mathlib.Omega.{arith}
+use borrow.Author.Tests.{ltb-false, ltb-true}
+use lib.Dec.{ltb}
+use lib.ListN.{length, length-append}
+use Rattle.orders.specs.Lists.{All, Distinct, In, range, Perm}
+use Rattle.orders.specs.CircularOrder.{others}
+use Rattle.orders.specs.Tree.{Kind, Forest, nil, leaf, node, items, frontier}
+use Rattle.orders.specs.Form.{Canonical, Single, InForm, nodes}
+use Rattle.orders.proofs.ListLaws.{cons-head}
+use Rattle.orders.proofs.Perm.{perm-length, perm-distinct, short-perm}
+use Rattle.orders.proofs.Laws.{Forked}
+use Rattle.orders.proofs.Parts.{canonical-forked}
+
+-- The numbers of a range.
+range-above : (m a n : ℕ) → m < a → All (λ y. m ≢ y) (range a n)
+range-above m a zero h = tt
+range-above m a (suc n) h = ((λ e. omega arith), range-above m (suc a) n (omega arith))
+
+range-distinct : (a n : ℕ) → Distinct (range a n)
+range-distinct a zero = tt
+range-distinct a (suc n) = (range-above a (suc a) n (omega arith), range-distinct (suc a) n)
+
+pub range-length : (a n : ℕ) → length (range a n) ≡ n
+range-length a zero = refl
+range-length a (suc n) = ap suc (range-length (suc a) n)
+
+range-from : (a n y : ℕ) → In y (range a n) → a ≤ y
+range-from a zero y i = absurd i
+range-from a (suc n) y (inl e) = omega arith
+range-from a (suc n) y (inr i) = let r = range-from (suc a) n y i in omega arith
+
+pub in-range : (a n y : ℕ) → a ≤ y → y < a + n → In y (range a n)
+in-range a zero y l h = absurd (omega arith)
+in-range a (suc n) y l h = at (ltb a y) refl (in-range (suc a) n y)
+  where
+    at : (b : Bool) → ltb a y ≡ b → (suc a ≤ y → y < suc a + n → In y (range (suc a) n)) → In y (range a (suc n))
+    at true q r = inr (r (ltb-true a y q) (omega arith))
+    at false q r = let u = ltb-false a y q in inl (omega arith)
+
+-- Leaf 1 is none of the others, and they differ.
+pub not-one : (n y : ℕ) → In y (others n) → 1 < y
+not-one zero y i = absurd i
+not-one (suc n) y i = range-from 2 n y i
+
+others-distinct : (n : ℕ) → Distinct (others n)
+others-distinct zero = tt
+others-distinct (suc n) = range-distinct 2 n
+
+pub form-distinct : (n : ℕ) (t : Forest) → InForm n t → Distinct (frontier t)
+form-distinct n t h = perm-distinct (h .all-leaves) (others-distinct n)
+
+pub form-forked : (n : ℕ) (t : Forest) → InForm n t → Forked t
+form-forked n t h = canonical-forked t (h .canonical)
+
+-- Where each node has two or more items, the nodes and the items are no more than the leaves.
+nodes-bound : (f : Forest) → Forked f → nodes f + length (items f) ≤ length (frontier f)
+nodes-bound nil h = omega arith
+nodes-bound (leaf b f) h = let r = nodes-bound f h in omega arith
+nodes-bound (node k i f) h =
+    let r = nodes-bound f (h .1) in
+    let s = nodes-bound i (h .0 .1) in
+    omega (arith, h .0 .0, length-append (frontier i) (frontier f))
+
+-- A ring of n leaves has at most n − 2 nodes.
+pub form-nodes : (n : ℕ) (t : Forest) → InForm n t → 2 ≤ n → nodes t + 2 ≤ n
+form-nodes zero t h l = absurd (omega arith)
+form-nodes (suc n) t h l =
+    go t (h .single) (omega (arith, nodes-bound t (form-forked (suc n) t h), perm-length (h .all-leaves), range-length 2 n)) (omega (arith, perm-length (h .all-leaves), range-length 2 n))
+  where
+    go : (t : Forest) → Single (items t) → nodes t + length (items t) ≤ n → 1 ≤ length (frontier t) → nodes t + 2 ≤ suc n
+    go nil o b m = absurd (omega arith)
+    go (leaf x f) o b m = omega arith
+    go (node k i f) o b m = omega arith
+
+-- For n = 1 nothing, for n = 2 leaf 2, and from 3 on a node.
+node-long : (k : Kind) (i : Forest) → Canonical (node k i nil) → 2 ≤ length (frontier (node k i nil))
+node-long k i c = omega (arith, nodes-bound (node k i nil) (canonical-forked (node k i nil) c))
+
+pub form-one : (t : Forest) → InForm 1 t → t ≡ nil
+form-one t f = go t (f .single) (f .canonical) (perm-length (f .all-leaves))
+  where
+    go : (t : Forest) → Single (items t) → Canonical t → 0 ≡ length (frontier t) → t ≡ nil
+    go nil o c e = refl
+    go (leaf b nil) o c e = absurd (omega arith)
+    go (node k i nil) o c e = absurd (omega (arith, node-long k i c))
+
+pub form-two : (t : Forest) → InForm 2 t → t ≡ leaf 2 nil
+form-two t f = go t (f .single) (f .canonical) (f .all-leaves)
+  where
+    go : (t : Forest) → Single (items t) → Canonical t → Perm (2 ∷ []) (frontier t) → t ≡ leaf 2 nil
+    go nil o c p = absurd (omega (arith, perm-length p))
+    go (leaf b nil) o c p = ap (λ x. leaf x nil) (cons-head (short-perm p (omega arith)))
+    go (node k i nil) o c p = absurd (omega (arith, perm-length p, node-long k i c))
+
+pub form-more : (n : ℕ) (t : Forest) → InForm n t → 3 ≤ n → (k : Kind) × (i : Forest) × (t ≡ node k i nil)
+form-more zero t f l = absurd (omega arith)
+form-more (suc n) t f l = go t (f .single) (omega (arith, perm-length (f .all-leaves), range-length 2 n))
+  where
+    go : (t : Forest) → Single (items t) → 2 ≤ length (frontier t) → (k : Kind) × (i : Forest) × (t ≡ node k i nil)
+    go nil o m = absurd (omega arith)
+    go (leaf b nil) o m = absurd (omega arith)
+    go (node k i nil) o m = (k, i, refl)
