@@ -1,7 +1,7 @@
 -- What each call of document 01 answers, and what every lent table holds afterwards, refusals down the table included.
 -- "Each call makes the checks that concern what it is lent, down the table." A refusal leaves every table as it was.
 use mathlib.Core.Path.{_≡_}
-use mathlib.Core.Bool.{Bool, true, false, not, _&&_, _||_}
+use mathlib.Core.Bool.{Bool, true, false, not, _||_}
 use mathlib.Core.Option.{Option, none, some}
 use mathlib.Core.List.{List, [], _∷_, _++_}
 use Prim.Native.Nat.{ℕ, _+_, _-_}

@@ -1,6 +1,6 @@
 -- Document 01: "A book group is four words of 64 marks, bin 1 the lowest mark of the first word. A group's size is the count of marks set in
 -- its four words." Here for any number of words: sets of leaves as mark words.
-use mathlib.Core.Bool.{Bool, true, false, cond, not, _&&_, _||_}
+use mathlib.Core.Bool.{Bool, false, cond, not, _&&_, _||_}
 use mathlib.Core.List.{List, [], _∷_}
 use Prim.Native.Nat.{ℕ, zero, suc, _+_, _*_, _/_, _%_, _^_}
 use lib.Dec.{eqb, leb}

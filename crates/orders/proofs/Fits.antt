@@ -5,10 +5,10 @@ use mathlib.Core.Bool.{Bool, cond, false, true, true≢false}
 use mathlib.Core.Option.{Option, none, some}
 use mathlib.Core.List.{List, [], _++_, _∷_, reverse, reverse-cons, reverse-reverse}
 use Prim.Native.Nat.{ℕ}
-use Rattle.orders.specs.Lists.{All}
+use Rattle.orders.specs.Lists.{All, some-of}
 use Rattle.orders.specs.CircularOrder.{Restriction, Inside, Outside}
 use Rattle.orders.specs.Tree.{Forest, nil, Item, append, rev, Consistent, no-items}
-use Rattle.orders.specs.Reduce.{put, one, Class, empty, full, partial, any, complement, class-by, class, is, Part, whole, every, _⊕_, up, down, middle}
+use Rattle.orders.specs.Reduce.{put, one, Class, empty, full, partial, complement, class-by, class, is, Part, whole, every, _⊕_, up, down, middle}
 use Rattle.orders.proofs.ListLaws.{all-append, all-left, all-right}
 use Rattle.orders.proofs.Perm.{perm-sym, perm-all}
 use Rattle.orders.proofs.Members.{NonEmpty, perm-reverse}
@@ -65,28 +65,28 @@ module _ (S : Restriction) where
   not-both [] h o i = h
   not-both (x ∷ xs) h o i = true≢false (sym (i .0) ∙ o .0)
 
-any-false : (S : Restriction) (xs : L) → any S xs ≡ false → Outside S xs
-any-false S [] e = tt
-any-false S (x ∷ xs) e = go (S x) refl e (any-false S xs)
+some-false : (S : Restriction) (xs : L) → some-of S xs ≡ false → Outside S xs
+some-false S [] e = tt
+some-false S (x ∷ xs) e = go (S x) refl e (some-false S xs)
   where
-    go : (b : Bool) → S x ≡ b → cond b true (any S xs) ≡ false → (any S xs ≡ false → Outside S xs) → (S x ≡ false) × Outside S xs
+    go : (b : Bool) → S x ≡ b → cond b true (some-of S xs) ≡ false → (some-of S xs ≡ false → Outside S xs) → (S x ≡ false) × Outside S xs
     go true q e h = absurd (true≢false e)
     go false q e h = (q, h e)
 
-pub any-out : (S : Restriction) (xs : L) → Outside S xs → any S xs ≡ false
-any-out S [] h = refl
-any-out S (x ∷ xs) h = rw (h .0) (any-out S xs (h .1))
+pub some-out : (S : Restriction) (xs : L) → Outside S xs → some-of S xs ≡ false
+some-out S [] h = refl
+some-out S (x ∷ xs) h = rw (h .0) (some-out S xs (h .1))
 
-any-true : (S : Restriction) (xs : L) → any S xs ≡ true → Outside S xs → ⊥
-any-true S xs e o = true≢false (sym e ∙ any-out S xs o)
+some-true : (S : Restriction) (xs : L) → some-of S xs ≡ true → Outside S xs → ⊥
+some-true S xs e o = true≢false (sym e ∙ some-out S xs o)
 
 pub mark : (S : Restriction) (xs : L) → NonEmpty xs → Mark S xs (class S xs)
-mark S xs h = go (any S xs) refl (any (complement S) xs) refl
+mark S xs h = go (some-of S xs) refl (some-of (complement S) xs) refl
   where
-    go : (a : Bool) → any S xs ≡ a → (b : Bool) → any (complement S) xs ≡ b → Mark S xs (class-by a b)
-    go false p b q = let o = any-false S xs p in (o, not-both S xs h o)
-    go true p false q = (uncomplement-out S xs (any-false (complement S) xs q), any-true S xs p)
-    go true p true q = (any-true S xs p, (λ i. any-true (complement S) xs q (complement-in S xs i)))
+    go : (a : Bool) → some-of S xs ≡ a → (b : Bool) → some-of (complement S) xs ≡ b → Mark S xs (class-by a b)
+    go false p b q = let o = some-false S xs p in (o, not-both S xs h o)
+    go true p false q = (uncomplement-out S xs (some-false (complement S) xs q), some-true S xs p)
+    go true p true q = (some-true S xs p, (λ i. some-true (complement S) xs q (complement-in S xs i)))
 
 -- All of one class.
 abbrev pub Of : Class → List Part → Type 0

@@ -59,7 +59,7 @@ pub form-forked : (n : ℕ) (t : Forest) → InForm n t → Forked t
 form-forked n t h = canonical-forked t (h .canonical)
 
 -- Where each node has two or more items, the nodes and the items are no more than the leaves.
-nodes-bound : (f : Forest) → Forked f → nodes f + length (items f) ≤ length (frontier f)
+pub nodes-bound : (f : Forest) → Forked f → nodes f + length (items f) ≤ length (frontier f)
 nodes-bound nil h = omega arith
 nodes-bound (leaf b f) h = let r = nodes-bound f h in omega arith
 nodes-bound (node k i f) h =

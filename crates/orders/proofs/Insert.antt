@@ -1,7 +1,7 @@
 -- insert and orient: the orders allowed stay the same, and the items come out in order; first leaves of items that share no leaf differ.
 use mathlib.Core.Path.{_∙_, _≡_, ap, refl, subst, sym}
 use mathlib.Core.Logic.{_↔_, _≢_, inl, inr}
-use mathlib.Core.Bool.{Bool, cond, false, true}
+use mathlib.Core.Bool.{false, true}
 use mathlib.Core.List.{List, [], _++_, _∷_}
 use Prim.Native.Nat.{_≤_, ℕ}
 use native.Mathlib.Omega.{arith}
@@ -11,17 +11,12 @@ use Rattle.orders.specs.Lists.{All, Distinct, Perm, next}
 use Rattle.orders.specs.Tree.{Kind, P, C, Forest, nil, leaf, node, Item, leaf-item, node-item, items, append, rev, frontier, Turn, Consistent, node-first}
 use Rattle.orders.specs.Form.{first, first-of, TwoItems, Canonical}
 use Rattle.orders.specs.Reduce.{one, insert, orient}
-use Rattle.orders.proofs.ListLaws.{all-left, all-right, all-map}
+use Rattle.orders.proofs.ListLaws.{all-left, all-right, all-map, cond-cases}
 use Rattle.orders.proofs.Perm.{perm-refl, perm-trans, perm-sym, perm-all, pick-middle}
 use Rattle.orders.proofs.Members.{NonEmpty, perm-nonempty}
 use Rattle.orders.proofs.Laws.{forest-nil, rev-rev, items-append, rev-perm, leaves-of, flat, frontier-flat, Canonical-of, canonical-all}
 use Rattle.orders.proofs.First.{Starts, canonical-starts}
 use Rattle.orders.proofs.Parts.{put-one, items-put}
-
--- A choice, by its test.
-pub cond-cases : (c : Bool) (f g : Forest) (Q : Forest → Type 0) → (c ≡ true → Q f) → (c ≡ false → Q g) → Q (cond c f g)
-cond-cases true f g Q y n = y refl
-cond-cases false f g Q y n = n refl
 
 -- The items of `insert t e` are those of t and e.
 later : (t f g : Forest) (v : Item) (h : Forest) → items h ≡ v ∷ items f → Perm (items (append t f)) (items g) → Perm (items (append t h)) (v ∷ items g)

@@ -24,9 +24,11 @@ pub mod Reduced
 pub mod ReduceOrders
 pub mod ReduceForm
 pub mod ReduceIdle
--- The theorems: the form tests, the standard order, a restriction that joins, the fresh ring, the order tests, the conflict list, the marked circles.
+-- The theorems: the form tests, the standard order, the tree text, a restriction that joins, the fresh ring, the order tests, the conflict list, the marked circles.
 pub mod FormTests
 pub mod StandardOrders
+pub mod Digits
+pub mod TextTree
 pub mod Joining
 pub mod Fresh
 pub mod Decide

@@ -1,5 +1,6 @@
--- Laws of lists: a statement of every element, and what a split of an appended list says.
-use mathlib.Core.Path.{_≡_}
+-- Laws of lists: a statement of every element, and what a split of an appended list says; and a choice by a test.
+use mathlib.Core.Path.{_≡_, refl}
+use mathlib.Core.Bool.{Bool, true, false, cond}
 use mathlib.Core.List.{List, [], _++_, _∷_}
 use Rattle.orders.specs.Lists.{All}
 
@@ -25,3 +26,8 @@ module _ {A : Type 0} where
 
   pub cons-tail : {x y : A} {xs ys : List A} → x ∷ xs ≡ y ∷ ys → xs ≡ ys
   cons-tail e = cc
+
+-- What holds of either choice holds of the choice.
+pub cond-cases : {A : Type 0} (c : Bool) (f g : A) (Q : A → Type 0) → (c ≡ true → Q f) → (c ≡ false → Q g) → Q (cond c f g)
+cond-cases true f g Q y n = y refl
+cond-cases false f g Q y n = n refl

@@ -161,15 +161,11 @@ module _ {A : Type 0} (p : A → Bool) where
   all-decides P h (x ∷ l) = both (h x) (all-decides P h l)
 
 -- The test of membership.
-elem-some : (l : List ℕ) (x : ℕ) → elem l x ≡ some-of (eqb x) l
-elem-some [] x = refl
-elem-some (y ∷ l) x = ap (cond (eqb x y) true) (elem-some l x)
-
 pub elem-in : (l : List ℕ) (x : ℕ) → elem l x ≡ true → In x l
-elem-in l x e = let r = of-some (eqb x) l (sym (elem-some l x) ∙ e) in subst (λ z. In z l) (sym (eqb-true x (r .0) (r .2))) (r .1)
+elem-in l x e = let r = of-some (eqb x) l e in subst (λ z. In z l) (sym (eqb-true x (r .0) (r .2))) (r .1)
 
 pub in-elem : (l : List ℕ) (x : ℕ) → In x l → elem l x ≡ true
-in-elem l x i = elem-some l x ∙ to-some (eqb x) l x i (eq-eqb x x refl)
+in-elem l x i = to-some (eqb x) l x i (eq-eqb x x refl)
 
 -- A member can be picked.
 in-pick : (x : ℕ) (l : List ℕ) → In x l → (m : List ℕ) × Pick x l m

@@ -13,14 +13,14 @@ use Rattle.orders.specs.Lists.{Distinct, In, some-of}
 use Rattle.orders.specs.CircularOrder.{Restriction, Inside, Outside}
 use Rattle.orders.specs.Tree.{Kind, P, C, Forest, nil, leaf, node, Item, leaf-item, node-item, items, append, rev, frontier}
 use Rattle.orders.specs.Form.{first, first-of, Rises, Rising, Sorted, TwoItems, Canonical, Single}
-use Rattle.orders.specs.Reduce.{put, one, insert, orient, pack, Class, empty, full, partial, any, complement, class-by, class, is, Part, whole, only, middle, gather, among, reduced-node, settled, node-part, parts, reduce}
-use Rattle.orders.proofs.ListLaws.{all-left, all-right}
+use Rattle.orders.specs.Reduce.{put, one, insert, orient, pack, Class, empty, full, partial, complement, class-by, class, is, Part, whole, only, middle, gather, among, reduced-node, settled, node-part, parts, reduce}
+use Rattle.orders.proofs.ListLaws.{all-left, all-right, cond-cases}
 use Rattle.orders.proofs.Members.{in-nonempty, in-one, in-left, in-right, in-append, all-in, in-all, distinct-left, distinct-right, apart, of-some}
 use Rattle.orders.proofs.Contiguous.{L}
 use Rattle.orders.proofs.First.{rises-rising}
 use Rattle.orders.proofs.Parts.{put-one, items-put}
-use Rattle.orders.proofs.Insert.{cond-cases, first-one}
-use Rattle.orders.proofs.Fits.{whole-append, Mark, any-out, mark, Of, of-every}
+use Rattle.orders.proofs.Insert.{first-one}
+use Rattle.orders.proofs.Fits.{whole-append, Mark, some-out, mark, Of, of-every}
 use Rattle.orders.proofs.Classes.{only-all, only-none, only-append}
 use Rattle.orders.proofs.ReduceOrders.{part-item, whole-parts}
 
@@ -96,7 +96,7 @@ module _ (a : List Part) (p : Part) (b : List Part) (ha : Of empty a) (hb : Of e
 module _ (S : Restriction) where
   -- Classes.
   class-out : (xs : L) → Outside S xs → class S xs ≡ empty
-  class-out xs h = ap (λ c. class-by c (any (complement S) xs)) (any-out S xs h)
+  class-out xs h = ap (λ c. class-by c (some-of (complement S) xs)) (some-out S xs h)
 
   class-some : (x : ℕ) (xs : L) → In x xs → S x ≡ true → is empty (class S xs) ≡ false
   class-some x xs i e = go (class S xs) (mark S xs (in-nonempty x xs i))
@@ -183,25 +183,21 @@ module _ (S : Restriction) where
             past q (parts S f) (part-sort (class S (frontier i)) k i (parts S i) ∙ class-out (frontier i) (outside (frontier i) (λ o. apart x (frontier i) (frontier f) d o m) hi)) (b m)
 
   -- At most one marked leaf; only marked leaves.
-  any-some : (xs : L) → any S xs ≡ some-of S xs
-  any-some [] = refl
-  any-some (x ∷ xs) = ap (cond (S x) true) (any-some xs)
-
   pub reduce-few : (t : Forest) → Single (items t) → Canonical t → Distinct (frontier t) → (x : ℕ) → ((y : ℕ) → In y (frontier t) → S y ≡ true → y ≡ x) → reduce S t ≡ some t
   unfolding reduce
   reduce-few nil l c d x h = refl
   reduce-few (leaf b nil) l c d x h = refl
-  reduce-few (node k i nil) l c d x h = part-stays (class S (frontier i)) k i (λ e. go (any S (frontier i)) refl e)
+  reduce-few (node k i nil) l c d x h = part-stays (class S (frontier i)) k i (λ e. go (some-of S (frontier i)) refl e)
     where
       hi : (y : ℕ) → In y (frontier i) → S y ≡ true → y ≡ x
       hi y m = h y (in-left y (frontier i) [] m)
 
-      go : (b : Bool) → any S (frontier i) ≡ b → class S (frontier i) ≡ partial → reduced-node k (parts S i) ≡ some (node k i nil)
+      go : (b : Bool) → some-of S (frontier i) ≡ b → class S (frontier i) ≡ partial → reduced-node k (parts S i) ≡ some (node k i nil)
       go true q e =
-          let r = of-some S (frontier i) (sym (any-some (frontier i)) ∙ q) in
+          let r = of-some S (frontier i) q in
           let z = hi (r .0) (r .1) (r .2) in
           reduced-back k i (c .0 .0 .0) (c .0 .0 .1) (spot x (subst (λ y. S y ≡ true) z (r .2)) i (c .0 .1) (subst (λ y. In y (frontier i)) z (r .1)) (subst Distinct (append-nil (frontier i)) d) hi)
-      go false q e = absurd (no (sym (ap (λ a. class-by a (any (complement S) (frontier i))) q) ∙ e))
+      go false q e = absurd (no (sym (ap (λ a. class-by a (some-of (complement S) (frontier i))) q) ∙ e))
         where
           no : empty ≡ partial → ⊥
           no f = true≢false (ap (is empty) f)
