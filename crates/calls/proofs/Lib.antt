@@ -1,3 +1,2 @@
--- The node table and the tree determine each other; circle e run through the calls.
+-- The node table and the tree determine each other.
 pub mod NodeTables
-pub mod Example
