@@ -1,52 +1,23 @@
 -- Trees in form for n leaves: their leaves differ, how many nodes they have, and what they are for n = 1, n = 2 and from 3 on.
 use mathlib.Core.Path.{_≡_, ap, refl}
-use mathlib.Core.Logic.{_≢_, inl, inr}
-use mathlib.Core.Bool.{Bool, false, true}
 use mathlib.Core.List.{[], _∷_}
 use Prim.Native.Nat.{_+_, _<_, _≤_, suc, zero, ℕ}
 use native.Mathlib.Omega.{arith}
-use borrow.Author.Tests.{ltb-false, ltb-true}
-use lib.Dec.{ltb}
 use lib.ListN.{length, length-append}
-use Rattle.orders.specs.Lists.{All, Distinct, In, range, Perm}
+use Rattle.orders.specs.Lists.{Distinct, In, Perm}
 use Rattle.orders.specs.CircularOrder.{others}
 use Rattle.orders.specs.Tree.{Kind, Forest, nil, leaf, node, items, frontier}
 use Rattle.orders.specs.Form.{Canonical, Single, InForm, nodes}
 use Rattle.orders.proofs.ListLaws.{cons-head}
 use Rattle.orders.proofs.Perm.{perm-length, perm-distinct, short-perm}
+use Rattle.orders.proofs.Ranges.{range-length, in-range, range-distinct}
 use Rattle.orders.proofs.Laws.{Forked}
 use Rattle.orders.proofs.Parts.{canonical-forked}
-
--- The numbers of a range.
-range-above : (m a n : ℕ) → m < a → All (λ y. m ≢ y) (range a n)
-range-above m a zero h = tt
-range-above m a (suc n) h = ((λ e. omega arith), range-above m (suc a) n (omega arith))
-
-range-distinct : (a n : ℕ) → Distinct (range a n)
-range-distinct a zero = tt
-range-distinct a (suc n) = (range-above a (suc a) n (omega arith), range-distinct (suc a) n)
-
-pub range-length : (a n : ℕ) → length (range a n) ≡ n
-range-length a zero = refl
-range-length a (suc n) = ap suc (range-length (suc a) n)
-
-range-from : (a n y : ℕ) → In y (range a n) → a ≤ y
-range-from a zero y i = absurd i
-range-from a (suc n) y (inl e) = omega arith
-range-from a (suc n) y (inr i) = let r = range-from (suc a) n y i in omega arith
-
-pub in-range : (a n y : ℕ) → a ≤ y → y < a + n → In y (range a n)
-in-range a zero y l h = absurd (omega arith)
-in-range a (suc n) y l h = at (ltb a y) refl (in-range (suc a) n y)
-  where
-    at : (b : Bool) → ltb a y ≡ b → (suc a ≤ y → y < suc a + n → In y (range (suc a) n)) → In y (range a (suc n))
-    at true q r = inr (r (ltb-true a y q) (omega arith))
-    at false q r = let u = ltb-false a y q in inl (omega arith)
 
 -- Leaf 1 is none of the others, and they differ.
 pub not-one : (n y : ℕ) → In y (others n) → 1 < y
 not-one zero y i = absurd i
-not-one (suc n) y i = range-from 2 n y i
+not-one (suc n) y i = in-range 2 n y i .0
 
 others-distinct : (n : ℕ) → Distinct (others n)
 others-distinct zero = tt

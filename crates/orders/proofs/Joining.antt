@@ -18,7 +18,8 @@ use Rattle.orders.proofs.Perm.{perm-trans, perm-sym}
 use Rattle.orders.proofs.Members.{in-one, all-in, in-all, perm-in, elem-in, in-elem, all-but-one}
 use Rattle.orders.proofs.Contiguous.{L, Contiguous}
 use Rattle.orders.proofs.CircleAndLine.{complement-out, consecutive-side}
-use Rattle.orders.proofs.Forms.{range-length, in-range, not-one, form-distinct, form-forked}
+use Rattle.orders.proofs.Ranges.{range-length, range-in}
+use Rattle.orders.proofs.Forms.{not-one, form-distinct, form-forked}
 use Rattle.orders.proofs.Gives.{Gives}
 use Rattle.orders.proofs.ReduceOrders.{reduce-ok, reduce-frontier, reduce-single}
 use Rattle.orders.proofs.ReduceForm.{reduce-canonical}
@@ -132,5 +133,5 @@ join-idle n l t w f (inr e) = most-leaves n w f (size e)
         no-leaf [] h a = absurd (omega arith)
         no-leaf (x ∷ l) h a = absurd (omega (arith, a .0 .0, a .0 .1))
     most-leaves (suc n) w f e =
-        let r = all-but-one l (range 1 (suc n)) (w .different) (λ y i. let b = all-in (λ b. (1 ≤ b) × (b ≤ suc n)) y l (w .in-range) i in in-range 1 (suc n) y (b .0) (omega (arith, b .1))) (omega (arith, range-length 1 (suc n))) in
+        let r = all-but-one l (range 1 (suc n)) (w .different) (λ y i. let b = all-in (λ b. (1 ≤ b) × (b ≤ suc n)) y l (w .in-range) i in range-in 1 (suc n) y (b .0) (omega (arith, b .1))) (omega (arith, range-length 1 (suc n))) in
         join-stays (suc n) (elem l) t f false (r .0) (λ y i q. r .1 y i (λ j. true≢false (sym (in-elem l y j) ∙ q)))

@@ -2,6 +2,7 @@
 pub mod ListLaws
 pub mod Perm
 pub mod Members
+pub mod Ranges
 pub mod Lex
 -- Round the circle and on the line.
 pub mod Contiguous

@@ -137,6 +137,11 @@ both {a} {b} {A} {B} h k = go a refl
     go true q = ((λ e. (h .0 q, k .0 e)), (λ r. k .1 (r .1)))
     go false q = ((λ e. absurd (true≢false (sym e))), (λ r. absurd (true≢false (sym (h .1 (r .0)) ∙ q))))
 
+-- A test that does not hold is false.
+pub false-if : (b : Bool) → (b ≡ true → ⊥) → b ≡ false
+false-if true h = absurd (h refl)
+false-if false h = refl
+
 -- Tests of the elements of a list.
 module _ {A : Type 0} (p : A → Bool) where
   pub of-some : (l : List A) → some-of p l ≡ true → (x : A) × In x l × (p x ≡ true)
@@ -159,6 +164,11 @@ module _ {A : Type 0} (p : A → Bool) where
   pub all-decides : (P : A → Type 0) → ((x : A) → (p x ≡ true) ↔ P x) → (l : List A) → (all-of p l ≡ true) ↔ All P l
   all-decides P h [] = ((λ e. tt), (λ a. refl))
   all-decides P h (x ∷ l) = both (h x) (all-decides P h l)
+
+  pub all-passed : (l : List A) → (all-of p l ≡ true) ↔ ((x : A) → In x l → p x ≡ true)
+  all-passed l =
+      let d = all-decides (λ x. p x ≡ true) (λ x. ((λ h. h), (λ h. h))) l in
+      ((λ e x. all-in (λ x. p x ≡ true) x l (d .0 e)), (λ h. d .1 (in-all (λ x. p x ≡ true) l h)))
 
 -- The test of membership.
 pub elem-in : (l : List ℕ) (x : ℕ) → elem l x ≡ true → In x l

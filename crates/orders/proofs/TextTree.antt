@@ -13,7 +13,8 @@ use Rattle.orders.specs.TreeText.{digits, letter, text, more, tree-text,
 use Rattle.orders.proofs.ListLaws.{all-left, all-right, all-map, cons-head, cons-tail}
 use Rattle.orders.proofs.Perm.{perm-all, perm-length}
 use Rattle.orders.proofs.Members.{NonEmpty}
-use Rattle.orders.proofs.Forms.{range-length, form-forked, nodes-bound}
+use Rattle.orders.proofs.Ranges.{range-length}
+use Rattle.orders.proofs.Forms.{form-forked, nodes-bound}
 use Rattle.orders.proofs.Digits.{Digit, digits-all, digits-nonempty, digits-injective, digits-length}
 
 -- No digit comes first.

@@ -1,0 +1,118 @@
+-- The list of marks, and how many there are.
+use mathlib.Core.Path.{_≡_, refl, sym, ap, ap₂, _∙_}
+use mathlib.Core.Bool.{Bool, true, false, true≢false}
+use mathlib.Core.List.{List, [], _∷_}
+use Prim.Native.Nat.{ℕ, zero, suc, _+_, _*_, _/_, _%_, _^_, _≤_, _<_}
+use native.Mathlib.Nat.{mod-lt, add-zero, add-suc, suc-add, mul-zero}
+use native.Mathlib.Numerals.{add-one}
+use native.Mathlib.Decide.{decLe}
+use native.Mathlib.Omega.{arith}
+use lib.ListN.{length, getD}
+use lib.Arith.{lt-one}
+use lib.Pow.{shr-lt}
+use lib.Count.{ones, ones-step, ones-ones}
+use Rattle.orders.specs.Lists.{All, Distinct, In, filter, elem, range}
+use Rattle.orders.specs.CircularOrder.{Restriction}
+use Rattle.marks.specs.Marks.{bit, marked, words-of, leaves-of}
+use Rattle.orders.proofs.Members.{false-if, elem-in, in-elem, in-all}
+use Rattle.orders.proofs.Ranges.{filter-different, in-filter, filter-in, in-range, range-in, range-append, filter-agree, count, count-cons, count-append, count-elem}
+use Rattle.marks.proofs.Word.{digit-times, bit-zero, bit-half}
+use Rattle.marks.proofs.Words.{Words, words-agree, words-of-marked, length-words, leaf-at, marked-at, marked-past, marked-words}
+
+-- A leaf stands in the list of marks just when it is marked, and then it is one of the words' leaves.
+pub leaf-marked : (ws : List ℕ) (x : ℕ) → In x (leaves-of ws) → marked ws x ≡ true
+unfolding leaves-of
+leaf-marked ws x i = in-filter (marked ws) (range 1 (64 * length ws)) x i .0
+
+pub leaf-range : (ws : List ℕ) (x : ℕ) → In x (leaves-of ws) → (1 ≤ x) × (x ≤ 64 * length ws)
+unfolding leaves-of
+leaf-range ws x i = let h = in-range 1 (64 * length ws) x (in-filter (marked ws) (range 1 (64 * length ws)) x i .1) in (omega arith, omega arith)
+
+pub marked-leaf : (ws : List ℕ) (x : ℕ) → marked ws x ≡ true → In x (leaves-of ws)
+unfolding leaves-of marked
+marked-leaf ws zero e = absurd (true≢false (sym e))
+marked-leaf ws (suc m) e = go (decLe (suc m) (64 * length ws))
+  where
+    go : Dec (suc m ≤ 64 * length ws) → In (suc m) (filter (marked ws) (range 1 (64 * length ws)))
+    go (yes l) = filter-in (marked ws) (range 1 (64 * length ws)) (suc m) e (range-in 1 (64 * length ws) (suc m) (omega arith) (omega arith))
+    go (no l) = absurd (true≢false (sym e ∙ marked-past ws (suc m) (omega arith)))
+
+-- So the list is one of different leaves, and the words are those of the list.
+pub leaves-different : (ws : List ℕ) → Distinct (leaves-of ws)
+unfolding leaves-of
+leaves-different ws = filter-different (marked ws) 1 (64 * length ws)
+
+pub leaves-range : (ws : List ℕ) → All (λ b. (1 ≤ b) × (b ≤ 64 * length ws)) (leaves-of ws)
+leaves-range ws = in-all (λ b. (1 ≤ b) × (b ≤ 64 * length ws)) (leaves-of ws) (λ x i. leaf-range ws x i)
+
+pub elem-leaves : (ws : List ℕ) (x : ℕ) → elem (leaves-of ws) x ≡ marked ws x
+elem-leaves ws x = go (marked ws x) refl
+  where
+    go : (b : Bool) → marked ws x ≡ b → elem (leaves-of ws) x ≡ b
+    go true e = in-elem (leaves-of ws) x (marked-leaf ws x e)
+    go false e = false-if (elem (leaves-of ws) x) (λ t. true≢false (sym (leaf-marked ws x (elem-in (leaves-of ws) x t)) ∙ e))
+
+pub words-of-leaves : (ws : List ℕ) → Words ws → words-of (length ws) (elem (leaves-of ws)) ≡ ws
+words-of-leaves ws v = words-agree (length ws) (elem (leaves-of ws)) (marked ws) (λ x l m. elem-leaves ws x) ∙ words-of-marked ws v
+
+-- What holds of the leaf of each mark holds of each leaf of the list.
+pub by-mark : (ws : List ℕ) (P : ℕ → Type 0) → ((i j : ℕ) → i < length ws → j < 64 → bit (getD ws i 0) j ≡ true → P (64 * i + suc j))
+    → (x : ℕ) → In x (leaves-of ws) → P x
+unfolding marked
+by-mark ws P h x i = at x (leaf-range ws x i) (leaf-marked ws x i)
+  where
+    at : (x : ℕ) → (1 ≤ x) × (x ≤ 64 * length ws) → marked ws x ≡ true → P x
+    at zero r e = absurd (omega arith)
+    at (suc m) r e = rw leaf-at at (h (m / 64) (m % 64) (omega (arith, leaf-at m)) (mod-lt m (omega arith)) e)
+
+-- The list of marks of the words of a restriction.
+pub leaves-of-words : (k : ℕ) (G : Restriction) → leaves-of (words-of k G) ≡ filter G (range 1 (64 * k))
+unfolding leaves-of
+leaves-of-words k G =
+    rw (length-words k G) (filter-agree (marked (words-of k G)) G 1 (64 * k) (λ x l m. marked-words k G x l (omega arith)))
+
+-- ---- sizes
+
+-- The marks of one word, and of all of them.
+count-word : (k w a : ℕ) (p : ℕ → Bool) → w < 2 ^ k → ((j : ℕ) → j < k → p (a + j) ≡ bit w j) → ones w ≡ count p (range a k)
+count-word zero w a p l h = ap ones (lt-one l) ∙ ones-ones 0
+count-word (suc k) w a p l h =
+    omega (
+      arith,
+      ones-step w,
+      digit-times (w % 2) 1 (p a) (mod-lt w (omega arith)) (sym (bit-zero w) ∙ sym (h 0 (omega arith)) ∙ ap p (add-zero a)),
+      count-cons p a (range (suc a) k),
+      count-word k (w / 2) (suc a) p (shr-lt k 1 (rw add-one l)) (λ j m. ap p (suc-add a j ∙ sym (add-suc a j)) ∙ h (suc j) (omega arith) ∙ sym (bit-half w j)),
+    )
+
+abbrev pub sum-ones : List ℕ → ℕ
+sum-ones [] = 0
+sum-ones (w ∷ ws) = ones w + sum-ones ws
+
+-- (For words of any width: at 64 the range would be written out.)
+count-words : (width : ℕ) (ws : List ℕ) (a : ℕ) (p : ℕ → Bool) → ((i : ℕ) → getD ws i 0 < 2 ^ width)
+    → ((i j : ℕ) → j < width → p (a + (width * i + j)) ≡ bit (getD ws i 0) j) → sum-ones ws ≡ count p (range a (width * length ws))
+count-words width [] a p v h = rw mul-zero
+count-words width (w ∷ ws) a p v h =
+    ap₂ (λ (x y : ℕ). x + y) (count-word width w a p (v 0) (λ j m. ap p (first j) ∙ h 0 j m))
+    (count-words width ws (a + width) p (λ i. v (suc i)) (λ i j m. ap p (next i j) ∙ h (suc i) j m))
+    ∙ sym (count-append p (range a width) (range (a + width) (width * length ws)))
+    ∙ ap (count p) (sym (range-append a width (width * length ws)) ∙ ap (range a) (all (length ws)))
+  where
+    first : (j : ℕ) → a + j ≡ a + (width * 0 + j)
+    first j = omega arith
+
+    next : (i j : ℕ) → a + width + (width * i + j) ≡ a + (width * suc i + j)
+    next i j = omega arith
+
+    all : (n : ℕ) → width + width * n ≡ width * suc n
+    all n = omega arith
+
+-- The size is the count of marks set in the words.
+pub size-is : (ws : List ℕ) → Words ws → sum-ones ws ≡ length (leaves-of ws)
+unfolding leaves-of
+size-is ws v = count-words 64 ws 1 (marked ws) v (λ i j l. ap (marked ws) (omega arith) ∙ marked-at ws i j l)
+
+-- A list of different leaves of the words has as many as its words have marks.
+pub size-of-list : (k : ℕ) (l : List ℕ) → Distinct l → All (λ b. (1 ≤ b) × (b ≤ 64 * k)) l → length (leaves-of (words-of k (elem l))) ≡ length l
+size-of-list k l d h = ap length (leaves-of-words k (elem l)) ∙ count-elem (64 * k) l d h
