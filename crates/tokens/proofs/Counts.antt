@@ -1,0 +1,134 @@
+-- Leaves, nodes and items, counted and found by tokens and by views.
+use mathlib.Core.Path.{_≡_, refl}
+use mathlib.Core.List.{List, [], _∷_, _++_, append-nil}
+use Prim.Native.Nat.{ℕ, _+_, _/_, _%_, _≤_, _<_}
+use native.Mathlib.Omega.{arith}
+use native.Mathlib.Numerals.{add-one}
+use lib.ListN.{length, drop, getD, length-append}
+use lib.Seq.{drop-cons}
+use Rattle.orders.specs.Tree.{Kind, P, C, Forest, nil, leaf, node, append, rev, items, frontier}
+use Rattle.orders.specs.Form.{first, nodes}
+use Rattle.tokens.specs.Tokens.{Judged, j-nil, j-leaf, j-node, tree, encode}
+use Rattle.tokens.specs.Views.{shape-of, leaf-of, first-of, items-of, rest-of}
+use Rattle.tokens.proofs.Laws.{leaf-even, node-odd}
+
+-- How many tokens are those of nodes.
+abbrev pub node-tokens : List ℕ → ℕ
+node-tokens [] = 0
+node-tokens (t ∷ l) = t / 8 % 2 + node-tokens l
+
+node-tokens-append : (l m : List ℕ) → node-tokens (l ++ m) ≡ node-tokens l + node-tokens m
+node-tokens-append [] m = omega arith
+node-tokens-append (t ∷ l) m = omega (arith, node-tokens-append l m)
+
+pub node-tokens-drop : (l : List ℕ) (i : ℕ) → i < length l → node-tokens (drop i l) ≡ getD l i 0 / 8 % 2 + node-tokens (drop (i + 1) l)
+node-tokens-drop l i h = rw (add-one, drop-cons l i 0)
+
+pub node-tokens-are : (j : Judged) → node-tokens (encode j) ≡ nodes (tree j)
+unfolding encode
+node-tokens-are j-nil = refl
+node-tokens-are (j-leaf s b j) = omega (arith, leaf-even s b, node-tokens-are j)
+node-tokens-are (j-node s k i j) =
+    omega (
+      arith,
+      node-odd s k (length (encode i)),
+      node-tokens-append (encode i) (encode j),
+      node-tokens-are i,
+      node-tokens-are j,
+    )
+
+-- Every token is a leaf's or a node's.
+pub leaves-and-nodes : (j : Judged) → length (frontier (tree j)) + nodes (tree j) ≡ length (encode j)
+unfolding encode
+leaves-and-nodes j-nil = refl
+leaves-and-nodes (j-leaf s b j) = omega (arith, leaves-and-nodes j)
+leaves-and-nodes (j-node s k i j) =
+    omega (
+      arith,
+      length-append (frontier (tree i)) (frontier (tree j)),
+      length-append (encode i) (encode j),
+      leaves-and-nodes i,
+      leaves-and-nodes j,
+    )
+
+pub items-le : (j : Judged) → length (items (tree j)) ≤ length (encode j)
+unfolding encode
+items-le j-nil = omega arith
+items-le (j-leaf s b j) = omega (arith, items-le j)
+items-le (j-node s k i j) = omega (arith, items-le j, length-append (encode i) (encode j))
+
+pub items-more : (j : Judged) → 0 < length (encode j) → length (items (tree j)) ≡ 1 + length (items (tree (rest-of j)))
+unfolding encode rest-of
+items-more j-nil h = absurd (omega arith)
+items-more (j-leaf s b j) h = omega arith
+items-more (j-node s k i j) h = omega arith
+
+-- The leaves of the first item, then those of the others.
+pub frontier-split : (j : Judged) → frontier (tree j) ≡ frontier (tree (first-of j)) ++ frontier (tree (rest-of j))
+unfolding first-of rest-of
+frontier-split j-nil = refl
+frontier-split (j-leaf s b j) = refl
+frontier-split (j-node s k i j) = rw append-nil
+
+pub frontier-leaf : (j : Judged) → shape-of j ≡ 1 → frontier (tree (first-of j)) ≡ leaf-of j ∷ []
+unfolding first-of shape-of leaf-of
+frontier-leaf j-nil h = absurd (omega arith)
+frontier-leaf (j-leaf s b j) h = refl
+frontier-leaf (j-node s P i j) h = absurd (omega arith)
+frontier-leaf (j-node s C i j) h = absurd (omega arith)
+
+pub frontier-node : (j : Judged) → (shape-of j ≡ 1 → ⊥) → frontier (tree (first-of j)) ≡ frontier (tree (items-of j))
+unfolding first-of shape-of items-of
+frontier-node j-nil h = refl
+frontier-node (j-leaf s b j) h = absurd (h refl)
+frontier-node (j-node s k i j) h = append-nil (frontier (tree i))
+
+pub nodes-split : (j : Judged) → nodes (tree j) ≡ nodes (tree (first-of j)) + nodes (tree (rest-of j))
+unfolding first-of rest-of
+nodes-split j-nil = refl
+nodes-split (j-leaf s b j) = omega arith
+nodes-split (j-node s k i j) = omega arith
+
+-- The first leaf of the first item.
+pub first-here : (j : Judged) → shape-of j ≡ 1 → first (tree j) ≡ leaf-of j
+unfolding shape-of leaf-of
+first-here j-nil h = absurd (omega arith)
+first-here (j-leaf s b j) h = refl
+first-here (j-node s P i j) h = absurd (omega arith)
+first-here (j-node s C i j) h = absurd (omega arith)
+
+pub first-inside : (j : Judged) → (shape-of j ≡ 1 → ⊥) → first (tree j) ≡ first (tree (items-of j))
+unfolding shape-of items-of
+first-inside j-nil h = refl
+first-inside (j-leaf s b j) h = absurd (h refl)
+first-inside (j-node s k i j) h = refl
+
+-- The first leaf of the last item: that of the only item, or of the last one after the first.
+pub last-one : (j : Judged) → rest-of j ≡ j-nil → first (rev (tree j)) ≡ first (tree j)
+unfolding rest-of
+last-one j-nil e = refl
+last-one (j-leaf s b j) e = rw e
+last-one (j-node s k i j) e = rw e
+
+-- With something in front, what comes after does not matter.
+two-first : (f g h : Forest) → (b : ℕ) → first (append (append f (leaf b g)) h) ≡ first (append f (leaf b g))
+two-first nil g h b = refl
+two-first (leaf a f) g h b = refl
+two-first (node k i f) g h b = refl
+
+two-first-node : (f g h : Forest) (k : Kind) (i : Forest) → first (append (append f (node k i g)) h) ≡ first (append f (node k i g))
+two-first-node nil g h k i = refl
+two-first-node (leaf a f) g h k i = refl
+two-first-node (node d n f) g h k i = refl
+
+more-first : (j : Judged) (h : Forest) → 0 < length (encode j) → first (append (rev (tree j)) h) ≡ first (rev (tree j))
+unfolding encode
+more-first j-nil h ne = absurd (omega arith)
+more-first (j-leaf s b j) h ne = two-first (rev (tree j)) nil h b
+more-first (j-node s k i j) h ne = two-first-node (rev (tree j)) nil h k (tree i)
+
+pub last-more : (j : Judged) → 0 < length (encode (rest-of j)) → first (rev (tree j)) ≡ first (rev (tree (rest-of j)))
+unfolding rest-of
+last-more j-nil ne = refl
+last-more (j-leaf s b j) ne = more-first j (leaf b nil) ne
+last-more (j-node s k i j) ne = more-first j (node k (tree i) nil) ne
