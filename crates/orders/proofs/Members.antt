@@ -178,7 +178,7 @@ pub in-elem : (l : List ℕ) (x : ℕ) → In x l → elem l x ≡ true
 in-elem l x i = to-some (eqb x) l x i (eq-eqb x x refl)
 
 -- A member can be picked.
-in-pick : (x : ℕ) (l : List ℕ) → In x l → (m : List ℕ) × Pick x l m
+pub in-pick : (x : ℕ) (l : List ℕ) → In x l → (m : List ℕ) × Pick x l m
 in-pick x [] h = absurd h
 in-pick x (y ∷ l) (inl e) = (l, subst (λ z. Pick x (z ∷ l) l) e here)
 in-pick x (y ∷ l) (inr h) = let r = in-pick x l h in (y ∷ r .0, there (r .1))

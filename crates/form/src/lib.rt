@@ -1,0 +1,130 @@
+// Whether tokens are those of a tree in form for n leaves: one item at most, in the published form, whose leaves are 2 to n.
+ghost use mathlib.Core.Path.{_≡_};
+ghost use Prim.Native.Nat.{_≤_, _<_};
+ghost use lib.ListN.{length};
+ghost use Rattle.orders.specs.Lists.{rearranged?};
+ghost use Rattle.orders.specs.CircularOrder.{Restriction, others};
+ghost use Rattle.orders.specs.Tree.{items, frontier};
+ghost use Rattle.orders.specs.Form.{rises?, canonical?, in-form?};
+ghost use Rattle.marks.specs.Marks.{words-of};
+ghost use Rattle.tokens.specs.Tokens.{Judged, tree, encode, Tokens};
+ghost use Rattle.form.specs.Tests.{first-sorted?, new-leaf?, Marked};
+
+// Whether the first leaves of the items rise, all above m.
+fn rises(toks: &[u16], m: u16) -> bool
+    requires { ⌜ Tokens (now toks) ⌝ }
+    ensures { λ r. ⌜ ((j : Judged) → now (toks .entry) ≡ encode j → r ≡ rises? m (items (tree j))) ⌝ }
+{
+    if toks.len() == 0 {
+        return true;
+    }
+    let b = tokens::first_leaf(toks);
+    if b <= m {
+        return false;
+    }
+    rises(tokens::rest(toks), b)
+}
+
+// Whether the first item, where it is a node, has two or more items, sorted as its kind asks.
+fn sorted(toks: &[u16]) -> bool
+    requires { ⌜ (Tokens (now toks)) × (0 < length (now toks)) ⌝ }
+    ensures { λ r. ⌜ ((j : Judged) → now (toks .entry) ≡ encode j → r ≡ first-sorted? (tree j)) ⌝ }
+{
+    let s = tokens::shape(toks);
+    if s == 1 {
+        return true;
+    }
+    let inner = tokens::items(toks);
+    if tokens::item_count(inner) < 2 {
+        return false;
+    }
+    let b = tokens::first_leaf(inner);
+    if s == 2 {
+        return rises(tokens::rest(inner), b);
+    }
+    b < tokens::last_leaf(inner)
+}
+
+// Whether every node, at any depth, has two or more items, sorted as its kind asks.
+fn canonical(toks: &[u16]) -> bool
+    requires { ⌜ Tokens (now toks) ⌝ }
+    ensures { λ r. ⌜ ((j : Judged) → now (toks .entry) ≡ encode j → r ≡ canonical? (tree j)) ⌝ }
+{
+    if toks.len() == 0 {
+        return true;
+    }
+    if !sorted(toks) {
+        return false;
+    }
+    if !canonical(tokens::items(toks)) {
+        return false;
+    }
+    canonical(tokens::rest(toks))
+}
+
+// Whether the leaf is from 2 to n and not marked.
+fn new_leaf(leaf: u16, n: usize, words: &[u64]) -> bool
+    requires { ⌜ n ≤ 256 ⌝ }
+    ensures { λ r. ⌜ ((G : Restriction) → now (words .entry) ≡ words-of 4 G → r ≡ new-leaf? n G leaf) ⌝ }
+{
+    if leaf < 2 {
+        return false;
+    }
+    if leaf as usize > n {
+        return false;
+    }
+    !marks::test(words, leaf)
+}
+
+// Whether the leaves are from 2 to n, none of them marked and none twice. Marks them.
+fn new_leaves(toks: &[u16], n: usize, words: &mut [u64]) -> bool
+    requires { ⌜ (Tokens (now toks)) × (n ≤ 256) ⌝ }
+    ensures { λ r. ⌜ ((j : Judged) (G : Restriction) → now (toks .entry) ≡ encode j → now (words .entry) ≡ words-of 4 G
+        → Marked n G (frontier (tree j)) (now (words .exit)) r) ⌝ }
+{
+    if toks.len() == 0 {
+        return true;
+    }
+    if tokens::shape(toks) == 1 {
+        let b = tokens::leaf(toks);
+        if !new_leaf(b, n, words) {
+            return false;
+        }
+        marks::set(words, b);
+        return new_leaves(tokens::rest(toks), n, words);
+    }
+    if !new_leaves(tokens::items(toks), n, words) {
+        return false;
+    }
+    new_leaves(tokens::rest(toks), n, words)
+}
+
+// Whether the leaves are those from 2 to n, each once.
+fn all_leaves(toks: &[u16], n: usize) -> bool
+    requires { ⌜ (Tokens (now toks)) × (n ≤ 256) ⌝ }
+    ensures { λ r. ⌜ ((j : Judged) → now (toks .entry) ≡ encode j → r ≡ rearranged? (others n) (frontier (tree j))) ⌝ }
+{
+    let k = tokens::leaf_count(toks);
+    if n == 0 {
+        return k == 0;
+    }
+    if k != n - 1 {
+        return false;
+    }
+    let mut words = [0u64; 4];
+    new_leaves(toks, n, &mut words)
+}
+
+// Whether the tokens are those of a tree in form for n leaves.
+pub fn in_form(toks: &[u16], n: usize) -> bool
+    requires { ⌜ (Tokens (now toks)) × (n ≤ 256) ⌝ }
+    ensures { λ r. ⌜ ((j : Judged) → now (toks .entry) ≡ encode j → r ≡ in-form? n (tree j)) ⌝ }
+{
+    if tokens::item_count(toks) > 1 {
+        return false;
+    }
+    if !canonical(toks) {
+        return false;
+    }
+    all_leaves(toks, n)
+}

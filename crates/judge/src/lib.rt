@@ -1,0 +1,113 @@
+// The judge: each item of a tree in tokens is labelled with its state under a restriction, and so whether the restriction is possible.
+ghost use mathlib.Core.Path.{_≡_};
+ghost use Prim.Native.Nat.{_<_, _≤_};
+ghost use lib.ListN.{length};
+ghost use Rattle.orders.specs.Tree.{items};
+ghost use Rattle.orders.specs.Form.{Single, Every, TwoItems};
+ghost use Rattle.orders.specs.Reduce.{reduce};
+ghost use Rattle.marks.specs.Marks.{marked};
+ghost use Rattle.tokens.specs.Tokens.{State, number, Judged, tree, encode, Tokens, Wrote};
+ghost use Rattle.tokens.specs.Views.{shape-of, leaf-of};
+ghost use Rattle.judge.specs.Judge.{leaf-state, states, judge};
+ghost use Rattle.judge.specs.Automaton.{Run, start-of, step, runs, verdict, code};
+ghost use Rattle.judge.specs.Total.{is-some};
+
+// The automaton after one more item, of state s.
+fn step(run: u8, s: u16) -> u8
+    ensures { λ r. ⌜ ((q : Run) (z : State) → run ≡ code q → s ≡ number z → r ≡ code (step q z)) ⌝ }
+{
+    let table: [[u8; 5]; 17] = [
+        [1, 2, 4, 6, 7],
+        [1, 3, 4, 6, 7],
+        [3, 2, 4, 7, 7],
+        [3, 3, 4, 7, 7],
+        [4, 4, 5, 7, 7],
+        [5, 5, 7, 7, 7],
+        [6, 7, 7, 7, 7],
+        [7, 7, 7, 7, 7],
+        [9, 10, 11, 15, 16],
+        [9, 13, 12, 15, 16],
+        [14, 10, 14, 16, 16],
+        [14, 13, 15, 16, 16],
+        [15, 13, 15, 16, 16],
+        [15, 13, 15, 16, 16],
+        [14, 16, 16, 16, 16],
+        [15, 16, 16, 16, 16],
+        [16, 16, 16, 16, 16],
+    ];
+    let q = run as usize;
+    let z = s as usize;
+    if q >= 17 {
+        return 0;
+    }
+    if z >= 5 {
+        return 0;
+    }
+    table[q][z]
+}
+
+// The number of the state of a node whose items took the automaton here.
+fn verdict(run: u8) -> u16
+    ensures { λ r. ⌜ (r ≤ 4) × ((q : Run) → run ≡ code q → r ≡ number (verdict q)) ⌝ }
+{
+    let table: [u16; 17] = [0, 0, 1, 2, 2, 3, 3, 4, 0, 0, 1, 2, 2, 2, 2, 3, 4];
+    let i = run as usize;
+    if i < 17 {
+        return table[i];
+    }
+    0
+}
+
+// The number of the first item's state, if it is a leaf.
+fn leaf_state(toks: &[u16], marks: &[u64]) -> u16
+    requires { ⌜ (Tokens (now toks)) × (0 < length (now toks)) ⌝ }
+    ensures { λ r. ⌜ (r ≤ 4) × ((j : Judged) → now (toks .entry) ≡ encode j → shape-of j ≡ 1 → r ≡ number (leaf-state (marked (now (marks .entry)) (leaf-of j)))) ⌝ }
+{
+    if marks::test(marks, tokens::leaf(toks)) {
+        return 1;
+    }
+    0
+}
+
+// Where the automaton starts on the first item's items.
+fn start(toks: &[u16]) -> u8
+    requires { ⌜ (Tokens (now toks)) × (0 < length (now toks)) ⌝ }
+    ensures { λ r. ⌜ ((j : Judged) → now (toks .entry) ≡ encode j → r ≡ code (start-of j)) ⌝ }
+{
+    if tokens::shape(toks) == 3 {
+        return 8;
+    }
+    0
+}
+
+// Writes the items to the start of out, each with its state under the marks, whatever state it had; answers where they take the automaton.
+pub fn judge(toks: &[u16], marks: &[u64], run: u8, out: &mut [u16]) -> u8
+    requires { ⌜ (Tokens (now toks)) × (length (now toks) ≤ length (now out)) ⌝ }
+    ensures { λ r. ⌜ ((j : Judged) (q : Run) → now (toks .entry) ≡ encode j → run ≡ code q
+        → (r ≡ code (runs q (states (judge (marked (now (marks .entry))) (tree j)))))
+        × Wrote (encode (judge (marked (now (marks .entry))) (tree j))) (now (out .entry)) (now (out .exit)) (length (now (toks .entry)))) ⌝ }
+{
+    if toks.len() == 0 {
+        return run;
+    }
+    let t = toks[0];
+    if tokens::shape(toks) == 1 {
+        let s = leaf_state(toks, marks);
+        out[0] = t - t % 8 + s;
+        return judge(tokens::rest(toks), marks, step(run, s), &mut out[1..]);
+    }
+    let x = tokens::items(toks);
+    let s = verdict(judge(x, marks, start(toks), &mut out[1..]));
+    out[0] = t - t % 8 + s;
+    let m = 1 + x.len();
+    judge(tokens::rest(toks), marks, step(run, s), &mut out[m..])
+}
+
+// Whether the marked leaves can be made consecutive. judged is scratch.
+pub fn possible(toks: &[u16], marks: &[u64], judged: &mut [u16]) -> bool
+    requires { ⌜ (Tokens (now toks)) × (length (now toks) ≤ length (now judged)) ⌝ }
+    ensures { λ r. ⌜ ((j : Judged) → now (toks .entry) ≡ encode j → Single (items (tree j)) → Every (λ k i. TwoItems (items i)) (tree j)
+        → r ≡ is-some (reduce (marked (now (marks .entry))) (tree j))) ⌝ }
+{
+    verdict(judge(toks, marks, 0, judged)) != 4
+}
