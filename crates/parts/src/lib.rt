@@ -1,0 +1,157 @@
+// Parts of a judged sequence: items by state, and the small trees that are made of them.
+ghost use mathlib.Core.Path.{_≡_};
+ghost use mathlib.Core.List.{reverse};
+ghost use Prim.Native.Nat.{ℕ, _+_, _<_, _≤_};
+ghost use lib.ListN.{length};
+ghost use Rattle.orders.specs.Tree.{P, Forest, nil, node};
+ghost use Rattle.orders.specs.Form.{first};
+ghost use Rattle.orders.specs.Reduce.{pack, insert};
+ghost use Rattle.tokens.specs.Tokens.{Judged, encode, Tokens, Wrote};
+ghost use Rattle.judge.specs.Judge.{all-empty, rises};
+ghost use Rattle.judge.specs.Total.{states-of, whole-of, c-node-of, totals};
+ghost use Rattle.parts.specs.Writers.{flat, Fits, with-state, all-with-state, from-partial};
+
+// How many items have the state s.
+pub fn count(x: &[u16], s: u16) -> usize
+    requires { ⌜ Tokens (now x) ⌝ }
+    ensures { λ r. ⌜ (r ≤ length (now (x .entry)))
+        × ((j : Judged) → now (x .entry) ≡ encode j → r ≡ length (with-state s (totals j))) ⌝ }
+{
+    if x.len() == 0 {
+        return 0;
+    }
+    if tokens::state(x) == s {
+        return 1 + count(tokens::rest(x), s);
+    }
+    count(tokens::rest(x), s)
+}
+
+// Writes the items of state s, in their order.
+pub fn only(x: &[u16], s: u16, out: &mut [u16]) -> usize
+    requires { ⌜ Fits (λ ts. whole-of (with-state s ts)) (now x) (now out) ⌝ }
+    ensures { λ r. ⌜ ((j : Judged) → now (x .entry) ≡ encode j
+        → Wrote (flat (whole-of (with-state s (totals j)))) (now (out .entry)) (now (out .exit)) r) ⌝ }
+{
+    if x.len() == 0 {
+        return 0;
+    }
+    if tokens::state(x) == s {
+        let k = tokens::strip(tokens::first(x), out);
+        return k + only(tokens::rest(x), s, &mut out[k..]);
+    }
+    only(tokens::rest(x), s, out)
+}
+
+// The same as at most one item: as one P-node where they are two or more.
+pub fn pack_state(x: &[u16], s: u16, out: &mut [u16]) -> usize
+    requires { ⌜ (Fits (λ ts. pack (whole-of (with-state s ts))) (now x) (now out)) × (length (now x) ≤ 512) ⌝ }
+    ensures { λ r. ⌜ ((j : Judged) → now (x .entry) ≡ encode j
+        → Wrote (flat (pack (whole-of (with-state s (totals j))))) (now (out .entry)) (now (out .exit)) r) ⌝ }
+{
+    if count(x, s) < 2 {
+        return only(x, s, out);
+    }
+    let k = only(x, s, &mut out[1..]);
+    out[0] = (32 * k + 8) as u16;
+    1 + k
+}
+
+// The items from the first partial one on.
+pub fn find_partial(x: &[u16]) -> &[u16]
+    requires { ⌜ Tokens (now x) ⌝ }
+    ensures { λ r. ⌜ (length (now r) ≤ length (now (x .entry)))
+        × ((j : Judged) → now (x .entry) ≡ encode j → now r ≡ encode (from-partial j)) ⌝ }
+{
+    if x.len() == 0 {
+        return x;
+    }
+    if tokens::state(x) >= 2 {
+        return x;
+    }
+    find_partial(tokens::rest(x))
+}
+
+// Whether all items have the state s.
+pub fn all_of_state(x: &[u16], s: u16) -> bool
+    requires { ⌜ Tokens (now x) ⌝ }
+    ensures { λ r. ⌜ ((j : Judged) → now (x .entry) ≡ encode j → r ≡ all-with-state s (totals j)) ⌝ }
+{
+    if x.len() == 0 {
+        return true;
+    }
+    if tokens::state(x) != s {
+        return false;
+    }
+    all_of_state(tokens::rest(x), s)
+}
+
+// Whether a C-node's items read: empty ones, at most one partial one that has a line, full ones.
+pub fn rises(x: &[u16]) -> bool
+    requires { ⌜ Tokens (now x) ⌝ }
+    ensures { λ r. ⌜ ((j : Judged) → now (x .entry) ≡ encode j → r ≡ rises (states-of (totals j))) ⌝ }
+{
+    if x.len() == 0 {
+        return true;
+    }
+    let s = tokens::state(x);
+    if s == 0 {
+        return rises(tokens::rest(x));
+    }
+    if s >= 3 {
+        return false;
+    }
+    all_of_state(tokens::rest(x), 1)
+}
+
+// Writes a C-node with the items x, in the direction of the published form.
+pub fn c_node(x: &[u16], out: &mut [u16]) -> usize
+    requires { ⌜ ((f : Forest) × (now x ≡ flat f) × (length (now x) < length (now out)) × (length (now x) ≤ 1024)) ⌝ }
+    ensures { λ r. ⌜ ((f : Forest) → now (x .entry) ≡ flat f
+        → Wrote (flat (c-node-of f)) (now (out .entry)) (now (out .exit)) r) ⌝ }
+{
+    if tokens::last_leaf(x) < tokens::first_leaf(x) {
+        let k = tokens::reverse(x, &mut out[1..]);
+        out[0] = (32 * k + 24) as u16;
+        return 1 + k;
+    }
+    let m = tokens::copy(x, &mut out[1..]);
+    out[0] = (32 * m + 24) as u16;
+    1 + m
+}
+
+// Writes the empty items of x, and t, whose first leaf is b, before the first of them with a larger first leaf.
+pub fn insert(x: &[u16], b: u16, t: &[u16], out: &mut [u16]) -> usize
+    requires { ⌜ ((j : Judged) × (g : Forest) × (now x ≡ encode j) × (now t ≡ flat g) × (b ≡ first g)
+        × (length (flat (insert g (whole-of (with-state 0 (totals j))))) ≤ length (now out))) ⌝ }
+    ensures { λ r. ⌜ ((j : Judged) (g : Forest) → now (x .entry) ≡ encode j → now (t .entry) ≡ flat g
+        → Wrote (flat (insert g (whole-of (with-state 0 (totals j))))) (now (out .entry)) (now (out .exit)) r) ⌝ }
+{
+    if x.len() == 0 {
+        return tokens::copy(t, out);
+    }
+    if tokens::state(x) != 0 {
+        return insert(tokens::rest(x), b, t, out);
+    }
+    if b < tokens::first_leaf(x) {
+        let k = tokens::copy(t, out);
+        return k + only(x, 0, &mut out[k..]);
+    }
+    let k = tokens::strip(tokens::first(x), out);
+    k + insert(tokens::rest(x), b, t, &mut out[k..])
+}
+
+// Writes t among the empty items of x, as at most one item.
+pub fn among(x: &[u16], t: &[u16], out: &mut [u16]) -> usize
+    requires { ⌜ ((j : Judged) × (g : Forest) × (now x ≡ encode j) × (now t ≡ flat g) × (length (now x) + length (now t) ≤ 1024)
+        × (length (flat (pack (insert g (whole-of (with-state 0 (totals j)))))) ≤ length (now out))) ⌝ }
+    ensures { λ r. ⌜ ((j : Judged) (g : Forest) → now (x .entry) ≡ encode j → now (t .entry) ≡ flat g
+        → Wrote (flat (pack (insert g (whole-of (with-state 0 (totals j)))))) (now (out .entry)) (now (out .exit)) r) ⌝ }
+{
+    let b = tokens::first_leaf(t);
+    if count(x, 0) + tokens::item_count(t) < 2 {
+        return insert(x, b, t, out);
+    }
+    let m = insert(x, b, t, &mut out[1..]);
+    out[0] = (32 * m + 8) as u16;
+    1 + m
+}
