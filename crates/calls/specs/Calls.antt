@@ -6,7 +6,7 @@ use mathlib.Core.Option.{Option, none, some}
 use mathlib.Core.List.{List, [], _∷_, _++_}
 use Prim.Native.Nat.{ℕ, _+_, _-_}
 use lib.Dec.{eqb, ltb}
-use lib.ListN.{length, replicate}
+use lib.ListN.{length}
 use Rattle.orders.specs.Lists.{elem}
 use Rattle.orders.specs.CircularOrder.{Restriction}
 use Rattle.orders.specs.Tree.{Forest}
@@ -21,7 +21,7 @@ use Rattle.calls.specs.declared.Refusal.the-variants.{RingSize, ShortTab
 use Rattle.calls.specs.declared.Answer.{Answer}
 use Rattle.calls.specs.declared.Answer.the-variants.{Done, Refused}
 use Rattle.calls.specs.Tables.{over, padded}
-use Rattle.calls.specs.Book.{group-words, groups, book-in-form?, booked}
+use Rattle.calls.specs.Book.{group-words, groups, book-in-form?, booked, emptied}
 use Rattle.calls.specs.NodeTable.{table-of, tree-in}
 use Rattle.calls.specs.Refusals.{refuse, down, bad-size, short, short-nodes, list-checks}
 
@@ -52,7 +52,7 @@ open-refusal n have nodes book =
 
 unfoldable pub opened : Option Refusal → ℕ → List ℕ → List ℕ → Ring
 opened (some r) n nodes book = record { answer = Refused r; nodes = nodes; book = book }
-opened none n nodes book = record { answer = Done 0; nodes = over (table-of (fresh n)) nodes; book = over (replicate 384 0) book }
+opened none n nodes book = record { answer = Done 0; nodes = over (table-of (fresh n)) nodes; book = emptied book }
 
 unfoldable pub open-call : ℕ → ℕ → List ℕ → List ℕ → Ring
 open-call n have nodes book = opened (open-refusal n have nodes book) n nodes book
@@ -111,7 +111,7 @@ write-call n have nodes bytes =
 -- The tree text, read: checks 1, 2 and 12; the tree, an empty book. Answers the count of the book's groups, 0.
 unfoldable pub read-outcome : Found → List ℕ → List ℕ → Ring
 read-outcome (refused p) nodes book = record { answer = Refused (TreeText p); nodes = nodes; book = book }
-read-outcome (tree t) nodes book = record { answer = Done 0; nodes = over (table-of t) nodes; book = over (replicate 384 0) book }
+read-outcome (tree t) nodes book = record { answer = Done 0; nodes = over (table-of t) nodes; book = emptied book }
 
 pub data ReadCall (n have : ℕ) (text nodes book : List ℕ) : Ring → Type 0 where
   unread : {r : Refusal} → open-refusal n have nodes book ≡ some r → ReadCall n have text nodes book (record { answer = Refused r; nodes = nodes; book = book })

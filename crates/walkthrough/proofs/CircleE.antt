@@ -13,7 +13,7 @@ use Rattle.orders.specs.Conflict.{consecutive?, possible?, leave-out, conflict-
 use Rattle.orders.specs.Aim.{run-start, aim-of}
 use Rattle.orders.specs.Circles.{bytes}
 use Rattle.marks.specs.Marks.{marked, word-of, words-of, leaves-of}
-use Rattle.calls.specs.Book.{groups, book-in-form?, booked}
+use Rattle.calls.specs.Book.{groups, book-in-form?, booked, emptied}
 use Rattle.calls.specs.NodeTable.{table-of, spelled, spelled-tree, tree-in}
 use Rattle.calls.specs.Refusals.{report, bad-leaf}
 use Rattle.calls.specs.Calls.{Ring, open-refusal, opened, open-call, joined-tree, join-refusal, joined, join-call, trial-call, order-refusal, order-call, write-refusal, write-call, aim-refusal, aim-call, conflict-refusal, conflicts-of, conflict-call}
@@ -40,5 +40,5 @@ abbrev then-d : Ring → Bool
 then-d r = then-e (join-call 5 256 (r .nodes) (r .book) 0 (1 ∷ 3 ∷ []))
 
 pub calls-right : then-d (open-call 5 256 (replicate 65793 7) (replicate 385 7)) ≡ true
-unfolding in-form? reduce fresh side join marked word-of words-of leaves-of groups book-in-form? booked table-of spelled spelled-tree tree-in bad-leaf open-refusal opened open-call joined-tree join-refusal joined join-call trial-call consecutive? possible? leave-out conflict-list conflict-refusal conflicts-of conflict-call order-refusal order-call aim-refusal aim-call run-start aim-of digits-in digits tree-text write-refusal write-call
+unfolding in-form? reduce fresh side join marked word-of words-of leaves-of groups book-in-form? booked emptied table-of spelled spelled-tree tree-in bad-leaf open-refusal opened open-call joined-tree join-refusal joined join-call trial-call consecutive? possible? leave-out conflict-list conflict-refusal conflicts-of conflict-call order-refusal order-call aim-refusal aim-call run-start aim-of digits-in digits tree-text write-refusal write-call
 calls-right = refl

@@ -1,0 +1,66 @@
+// The book: a table of 384 mark words, four for each of up to 96 groups; and the list of a group that is to join it.
+ghost use mathlib.Core.Path.{_≡_};
+ghost use Prim.Native.Nat.{_≤_, _<_};
+ghost use lib.ListN.{length};
+ghost use Rattle.orders.specs.Lists.{elem};
+ghost use Rattle.calls.specs.Book.{group-in-form?, book-in-form?, booked, emptied};
+ghost use Rattle.book.specs.Groups.{groups-in-form?};
+
+// Whether the group of these four words has a mark, and marks of leaves up to n only.
+fn group_in_form(words: &[u64], n: usize) -> bool
+    ensures { λ r. ⌜ r ≡ group-in-form? n (now (words .entry)) ⌝ }
+{
+    if marks::is_empty(words) {
+        return false;
+    }
+    marks::within(words, n)
+}
+
+// Whether the groups from place k up to the count are in form.
+fn groups_in_form(book: &[u64], n: usize, k: usize, count: usize) -> bool
+    requires { ⌜ (count ≤ 96) × (384 ≤ length (now book)) ⌝ }
+    ensures { λ r. ⌜ r ≡ groups-in-form? n (now (book .entry)) k count ⌝ }
+{
+    if k >= count {
+        return true;
+    }
+    let at = 4 * k;
+    let end = at + 4;
+    if !group_in_form(&book[at..end], n) {
+        return false;
+    }
+    groups_in_form(book, n, k + 1, count)
+}
+
+// Whether the book with this count is in form for n leaves.
+pub fn in_form(book: &[u64], n: usize, count: usize) -> bool
+    requires { ⌜ 384 ≤ length (now book) ⌝ }
+    ensures { λ r. ⌜ r ≡ book-in-form? n (now (book .entry)) count ⌝ }
+{
+    if count > 96 {
+        return false;
+    }
+    if !groups_in_form(book, n, 0, count) {
+        return false;
+    }
+    let at = 4 * count;
+    marks::is_empty(&book[at..384])
+}
+
+// Writes the group of the list to place k of the book.
+pub fn put(book: &mut [u64], k: usize, list: &[u16])
+    requires { ⌜ (k < 96) × (384 ≤ length (now book)) ⌝ }
+    ensures { λ r. ⌜ now (book .exit) ≡ booked (now (book .entry)) k (elem (now (list .entry))) ⌝ }
+{
+    let from = 4 * k;
+    let to = from + 4;
+    marks::mark_list(list, &mut book[from..to]);
+}
+
+// Empties the book: its 384 words become zero.
+pub fn clear(book: &mut [u64])
+    requires { ⌜ 384 ≤ length (now book) ⌝ }
+    ensures { λ r. ⌜ now (book .exit) ≡ emptied (now (book .entry)) ⌝ }
+{
+    marks::clear(&mut book[0..384]);
+}
