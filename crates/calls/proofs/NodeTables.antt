@@ -44,10 +44,10 @@ entries-length r (node k i f) = ap suc (entries-length (suc r + nodes i) f)
 pub padded-length : (k : ℕ) (xs : List ℕ) → length xs ≤ k → length (padded k xs) ≡ k
 padded-length k xs h = omega (arith, length-append xs (replicate (k - length xs) 0), length-replicate {A = ℕ} (k - length xs) 0)
 
-abbrev row : Kind → List ℕ → List ℕ
+abbrev pub row : Kind → List ℕ → List ℕ
 row k es = kind-number k ∷ length es ∷ padded 255 es
 
-row-length : (k : Kind) (r : ℕ) (i : Forest) → length (items i) ≤ 255 → length (row k (entries r i)) ≡ 257
+pub row-length : (k : Kind) (r : ℕ) (i : Forest) → length (items i) ≤ 255 → length (row k (entries r i)) ≡ 257
 row-length k r i h =
     let e = entries-length r i in
     omega (arith, padded-length 255 (entries r i) (omega arith))
@@ -66,11 +66,11 @@ rows-length r (node k i f) h =
     )
 
 -- A node's own row, the rows inside it, and the rows after it.
-first-row : (table : List ℕ) (r : ℕ) (k : Kind) (i f : Forest) (more : List ℕ) → drop (257 * r) table ≡ rows r (node k i f) ++ more
+pub first-row : (table : List ℕ) (r : ℕ) (k : Kind) (i f : Forest) (more : List ℕ) → drop (257 * r) table ≡ rows r (node k i f) ++ more
     → drop (257 * r) table ≡ row k (entries (suc r) i) ++ (rows (suc r) i ++ (rows (suc r + nodes i) f ++ more))
 first-row table r k i f more at = at ∙ simp append-assoc
 
-rows-after : (table : List ℕ) (r : ℕ) (f : Forest) (more : List ℕ) → Narrow f → drop (257 * r) table ≡ rows r f ++ more → drop (257 * (r + nodes f)) table ≡ more
+pub rows-after : (table : List ℕ) (r : ℕ) (f : Forest) (more : List ℕ) → Narrow f → drop (257 * r) table ≡ rows r f ++ more → drop (257 * (r + nodes f)) table ≡ more
 rows-after table r f more w at =
     let e : 257 * (r + nodes f) ≡ 257 * r + 257 * nodes f = omega arith in
     ap (λ j. drop j table) e ∙ sym (drop-drop (257 * nodes f) (257 * r) table) ∙ ap (drop (257 * nodes f)) at ∙ drop-at (rows r f) more (257 * nodes f) (rows-length r f w)
@@ -86,21 +86,21 @@ module _ (table : List ℕ) (r : ℕ) (k : Kind) (es more : List ℕ) (at : drop
       let e : 257 * r ≡ 257 * r + 0 = omega arith in
       ap (λ j. getD table j 0) e ∙ sym (getD-drop (257 * r) table 0 0) ∙ ap (λ l. getD l 0 0) at
 
-  at-count : getD table (257 * r + 1) 0 ≡ length es
+  pub at-count : getD table (257 * r + 1) 0 ≡ length es
   at-count = sym (getD-drop (257 * r) table 1 0) ∙ ap (λ l. getD l 1 0) at
 
-  at-places : take (length es) (drop (257 * r + 2) table) ≡ es
+  pub at-places : take (length es) (drop (257 * r + 2) table) ≡ es
   at-places =
       ap (take (length es)) (sym (drop-drop 2 (257 * r) table) ∙ ap (drop 2) at ∙ append-assoc es (replicate (255 - length es) 0) more)
       ∙ take-append-seam es (replicate (255 - length es) 0 ++ more)
 
-  at-next : length (row k es) ≡ 257 → drop (257 * suc r) table ≡ more
+  pub at-next : length (row k es) ≡ 257 → drop (257 * suc r) table ≡ more
   at-next h =
       let e : 257 * suc r ≡ 257 * r + 257 = omega arith in
       ap (λ j. drop j table) e ∙ sym (drop-drop 257 (257 * r) table) ∙ ap (drop 257) at ∙ drop-at (row k es) more 257 h
 
   -- What is spelled there is the node, if its items are.
-  spelled-node : (d : ℕ) (i : Forest) → spelled-items (spelled d table) es ≡ i → spelled (suc d) table r ≡ node k i nil
+  pub spelled-node : (d : ℕ) (i : Forest) → spelled-items (spelled d table) es ≡ i → spelled (suc d) table r ≡ node k i nil
   unfolding spelled
   spelled-node d i h = rw (at-kind, at-count, at-places, kind-back, h)
 
@@ -116,11 +116,11 @@ leaf-entry : (node-at : ℕ → Forest) (b : ℕ) (es : List ℕ) (g : Forest) �
 leaf-entry node-at b es g l q = rw (le-leb b 256 l, q)
 
 -- All leaves are at most 256.
-abbrev Leaves : Forest → Type 0
+abbrev pub Leaves : Forest → Type 0
 Leaves f = All (λ b. b ≤ 256) (frontier f)
 
 -- Where the rows of a sequence stand in a table from record r on, its entries spell the sequence.
-spelled-entries : (table : List ℕ) (d r : ℕ) (f : Forest) (more : List ℕ) → 1 ≤ r → Leaves f → Narrow f → nodes f ≤ d
+pub spelled-entries : (table : List ℕ) (d r : ℕ) (f : Forest) (more : List ℕ) → 1 ≤ r → Leaves f → Narrow f → nodes f ≤ d
     → drop (257 * r) table ≡ rows r f ++ more → spelled-items (spelled d table) (entries r f) ≡ f
 spelled-entries table d r nil more o b w l at = refl
 spelled-entries table d r (leaf x f) more o b w l at =
@@ -146,7 +146,7 @@ small-spelled (suc (suc (suc n))) t h l = absurd (omega arith)
 pub form-narrow : (n : ℕ) (t : Forest) → InForm n t → n ≤ 256 → Narrow t
 form-narrow n t h l = narrow t (form-forked n t h) (omega (arith, form-length n t h))
 
-form-leaves : (n : ℕ) (t : Forest) → InForm n t → n ≤ 256 → Leaves t
+pub form-leaves : (n : ℕ) (t : Forest) → InForm n t → n ≤ 256 → Leaves t
 form-leaves n t h l = all-map (λ b. b ≤ n) (λ b. b ≤ 256) (λ b m. omega arith) (frontier t) (leaves-most n t h)
 
 pub form-few : (n : ℕ) (t : Forest) → InForm n t → n ≤ 256 → nodes t ≤ 255
@@ -161,7 +161,7 @@ root-spelled table k i more b w l at =
     let next = at-next table 0 k es (rows 1 i ++ more) here (row-length k 1 i (w .0 .0)) in
     spelled-node table 0 k es (rows 1 i ++ more) here 255 i (spelled-entries table 255 1 i more (omega arith) b (w .0 .1) l next)
 
-table-rows : (t : Forest) (rest : List ℕ) → table-of t ++ rest ≡ rows 0 t ++ (replicate (65792 - length (rows 0 t)) 0 ++ rest)
+pub table-rows : (t : Forest) (rest : List ℕ) → table-of t ++ rest ≡ rows 0 t ++ (replicate (65792 - length (rows 0 t)) 0 ++ rest)
 unfolding table-of
 table-rows t rest = append-assoc (rows 0 t) (replicate (65792 - length (rows 0 t)) 0) rest
 

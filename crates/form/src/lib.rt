@@ -1,5 +1,7 @@
 // Whether tokens are those of a tree in form for n leaves: one item at most, in the published form, whose leaves are 2 to n.
 ghost use mathlib.Core.Path.{_≡_};
+ghost use mathlib.Core.Bool.{true};
+ghost use mathlib.Core.Logic.{_↔_};
 ghost use Prim.Native.Nat.{_≤_, _<_};
 ghost use lib.ListN.{length};
 ghost use Rattle.orders.specs.Lists.{rearranged?};
@@ -9,6 +11,7 @@ ghost use Rattle.orders.specs.Form.{rises?, canonical?, in-form?};
 ghost use Rattle.marks.specs.Marks.{words-of};
 ghost use Rattle.tokens.specs.Tokens.{Judged, tree, encode, Tokens};
 ghost use Rattle.form.specs.Tests.{first-sorted?, new-leaf?, Marked};
+ghost use Rattle.form.specs.Trees.{Plain, TreeFor};
 
 // Whether the first leaves of the items rise, all above m.
 fn rises(toks: &[u16], m: u16) -> bool
@@ -127,4 +130,41 @@ pub fn in_form(toks: &[u16], n: usize) -> bool
         return false;
     }
     all_leaves(toks, n)
+}
+
+// Whether the numbers are the tokens of a sequence of items, with no states.
+pub fn is_plain(toks: &[u16]) -> bool
+    ensures { λ r. ⌜ (r ≡ true) ↔ Plain (now (toks .entry)) ⌝ }
+{
+    if toks.len() == 0 {
+        return true;
+    }
+    let t = toks[0];
+    if t % 8 != 0 {
+        return false;
+    }
+    if t / 8 % 2 == 0 {
+        return is_plain(&toks[1..]);
+    }
+    let m = (t / 32) as usize + 1;
+    if m > toks.len() {
+        return false;
+    }
+    if !is_plain(&toks[1..m]) {
+        return false;
+    }
+    is_plain(&toks[m..])
+}
+
+// Whether the numbers are the tokens of a tree in form for n leaves, n at most 256.
+pub fn is_tree(toks: &[u16], n: usize) -> bool
+    ensures { λ r. ⌜ (r ≡ true) ↔ ((n ≤ 256) × TreeFor n (now (toks .entry))) ⌝ }
+{
+    if n > 256 {
+        return false;
+    }
+    if !is_plain(toks) {
+        return false;
+    }
+    in_form(toks, n)
 }

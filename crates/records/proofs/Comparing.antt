@@ -1,0 +1,73 @@
+-- Comparing with rows and zeros.
+use mathlib.Core.Path.{_≡_, refl, sym, ap, _∙_}
+use mathlib.Core.Bool.{Bool, true, false, _&&_}
+use mathlib.Core.List.{List, [], _∷_, _++_, append-nil}
+use Prim.Native.Nat.{ℕ, suc, _+_, _-_, _≤_, _<_}
+use native.Mathlib.Omega.{arith}
+use native.Mathlib.Numerals.{add-one}
+use borrow.Author.Tests.{eq-eqb, ne-eqb}
+use lib.Dec.{eqb}
+use lib.ListN.{length, take, drop, getD, replicate, length-replicate, length-drop, drop-of-length-le}
+use lib.Seq.{drop-cons, drop-length, length-take-le}
+use Rattle.orders.specs.Lists.{same}
+use Rattle.calls.specs.Tables.{padded}
+use Rattle.calls.proofs.NodeTables.{padded-length}
+use Rattle.tokens.specs.Tokens.{Wrote}
+use Rattle.records.specs.Rows.{starts}
+
+and-assoc : (a b c : Bool) → (a && (b && c)) ≡ ((a && b) && c)
+and-assoc true b c = refl
+and-assoc false b c = refl
+
+-- A list begins with xs and then ys.
+pub starts-append : (xs ys l : List ℕ) → starts (xs ++ ys) l ≡ (starts xs l && starts ys (drop (length xs) l))
+starts-append [] ys l = refl
+starts-append (x ∷ xs) ys [] = refl
+starts-append (x ∷ xs) ys (y ∷ l) = rw (starts-append xs ys l) (and-assoc (eqb y x) (starts xs l) (starts ys (drop (length xs) l)))
+
+pub starts-not : (xs ys l : List ℕ) → starts xs l ≡ false → starts (xs ++ ys) l ≡ false
+starts-not xs ys l e = starts-append xs ys l ∙ rw e
+
+pub starts-then : (xs ys l : List ℕ) → starts xs l ≡ true → starts (xs ++ ys) l ≡ starts ys (drop (length xs) l)
+starts-then xs ys l e = starts-append xs ys l ∙ rw e
+
+-- The first part of a slice, compared with as many numbers.
+pub starts-part : (xs l : List ℕ) {m : ℕ} → length xs ≡ m → same (take (m - 0) (drop 0 l)) xs ≡ starts xs l
+starts-part xs l {m} e =
+    let n : m - 0 ≡ length xs = omega arith in
+    rw n
+
+-- A list of m numbers that begins with xs, and is zero after it.
+pub starts-padded : (m : ℕ) (xs l : List ℕ) → length xs ≤ m
+    → same (take m l) (padded m xs) ≡ (starts xs l && starts (replicate (m - length xs) 0) (drop (length xs) l))
+starts-padded m xs l h =
+    ap (λ (k : ℕ). same (take k l) (padded m xs)) (sym (padded-length m xs h)) ∙ starts-append xs (replicate (m - length xs) 0) l
+
+pub zero-part : (m a : ℕ) (l : List ℕ) → a ≤ m → m ≤ length l
+    → same (take (m - a) (drop a l)) (replicate (length (take (m - a) (drop a l))) 0) ≡ starts (replicate (m - a) 0) (drop a l)
+zero-part m a l h g =
+    rw (length-take-le (m - a) (drop a l) (omega (arith, length-drop a l)), length-replicate {A = ℕ} (m - a) 0)
+
+-- Zeros from index i on.
+zero-here : (l : List ℕ) (i : ℕ) → i < length l
+    → same (drop i l) (replicate (length l - i) 0) ≡ (eqb (getD l i 0) 0 && same (drop (i + 1) l) (replicate (length l - (i + 1)) 0))
+zero-here l i h =
+    let n : length l - i ≡ suc (length l - suc i) = omega arith in
+    rw (add-one, n, drop-cons l i 0 h)
+
+pub zero-not : (l : List ℕ) (i : ℕ) → i < length l → (getD l i 0 ≡ 0 → ⊥) → same (drop i l) (replicate (length l - i) 0) ≡ false
+zero-not l i h d = zero-here l i h ∙ rw (ne-eqb (getD l i 0) 0 d)
+
+pub zero-more : (l : List ℕ) (i : ℕ) → i < length l → getD l i 0 ≡ 0
+    → same (drop i l) (replicate (length l - i) 0) ≡ same (drop (i + 1) l) (replicate (length l - (i + 1)) 0)
+zero-more l i h e = zero-here l i h ∙ rw (eq-eqb (getD l i 0) 0 e)
+
+pub zero-end : (l : List ℕ) (i : ℕ) → i ≡ length l → same (drop i l) (replicate (length l - i) 0) ≡ true
+zero-end l i e =
+    let n : length l - length l ≡ 0 = omega arith in
+    rw (e, n, drop-length)
+
+-- All places written.
+pub wrote-whole : {xs old new : List ℕ} {k : ℕ} → Wrote xs old new k → length xs ≡ length old → new ≡ xs
+wrote-whole {xs} {old} w e =
+    w .text ∙ ap (λ (l : List ℕ). xs ++ l) (drop-of-length-le old {i = length xs} (omega arith)) ∙ append-nil xs

@@ -1,0 +1,9 @@
+-- What the proofs of several functions use.
+pub mod Rows
+pub mod Writing
+pub mod Comparing
+pub mod Forms
+pub mod Standing
+pub mod Walking
+pub mod Roots
+pub mod Loading

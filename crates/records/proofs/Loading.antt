@@ -1,0 +1,42 @@
+-- The checks that decide what tree a table holds.
+use mathlib.Core.Path.{_≡_, ap, _∙_, subst}
+use mathlib.Core.Bool.{true, false}
+use mathlib.Core.Option.{none, some}
+use mathlib.Core.List.{List, _++_}
+use Prim.Native.Nat.{ℕ, _≤_}
+use native.Mathlib.Omega.{arith}
+use lib.ListN.{length, take, drop, length-append}
+use Rattle.orders.specs.Lists.{same}
+use Rattle.orders.specs.Tree.{Forest}
+use Rattle.orders.specs.Form.{in-form?}
+use Rattle.calls.specs.NodeTable.{table-of, Holds, spelled-tree, tree-in}
+use Rattle.tokens.specs.Tokens.{plain, encode, Wrote}
+use Rattle.records.specs.declared.Walked.{Walked}
+use Rattle.records.specs.declared.Walked.the-variants.{Found, Bad}
+use Rattle.records.specs.Walks.{Spells}
+
+-- What a walk answers.
+pub spells-found : (n : ℕ) (table old new : List ℕ) {r : Walked} {k : ℕ} → r ≡ Found k → Spells n table old new r
+    → Wrote (encode (plain (spelled-tree n table))) old new k
+spells-found n table old new e s = subst (Spells n table old new) e s
+
+pub spells-bad : (n : ℕ) (table old new : List ℕ) {r : Walked} → r ≡ Bad → Spells n table old new r → (t : Forest) → Holds n table t → ⊥
+spells-bad n table old new e s = subst (Spells n table old new) e s
+
+pub wrote-most : {xs old new : List ℕ} {k : ℕ} → Wrote xs old new k → k ≤ length new
+wrote-most {xs} {old} w = omega (arith, w .many, ap length (w .text), length-append xs (drop (length xs) old))
+
+-- What the table holds, by the two checks of what it spells.
+pub not-in-form : (n : ℕ) (table : List ℕ) → in-form? n (spelled-tree n table) ≡ false → tree-in n table ≡ none
+unfolding tree-in
+not-in-form n table h = rw h
+
+pub not-the-table : (n : ℕ) (table : List ℕ) → in-form? n (spelled-tree n table) ≡ true
+    → same (take 65792 table) (table-of (spelled-tree n table)) ≡ false → tree-in n table ≡ none
+unfolding tree-in
+not-the-table n table h g = rw (h, g)
+
+pub held-there : (n : ℕ) (table : List ℕ) → in-form? n (spelled-tree n table) ≡ true
+    → same (take 65792 table) (table-of (spelled-tree n table)) ≡ true → tree-in n table ≡ some (spelled-tree n table)
+unfolding tree-in
+held-there n table h g = rw (h, g)

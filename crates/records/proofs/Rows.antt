@@ -1,0 +1,132 @@
+-- The places and rows of a sequence, item by item.
+use mathlib.Core.Path.{_≡_, refl, sym, ap, _∙_}
+use mathlib.Core.List.{List, [], _∷_, _++_, append-assoc, append-nil}
+use Prim.Native.Nat.{ℕ, zero, suc, _+_, _-_, _*_, _≤_, _<_}
+use native.Mathlib.Omega.{arith}
+use native.Mathlib.Numerals.{add-one}
+use lib.ListN.{length, take, drop, set, replicate, length-append}
+use Rattle.orders.specs.Tree.{P, C, Forest, nil, leaf, node, items, append}
+use Rattle.orders.specs.Form.{Every, nodes}
+use Rattle.calls.specs.Tables.{padded}
+use Rattle.calls.specs.NodeTable.{kind-number, entries, rows}
+use Rattle.calls.proofs.NodeTables.{Narrow, entries-length, padded-length}
+use Rattle.tokens.specs.Tokens.{Judged, j-nil, j-leaf, j-node, tree, encode, Wrote}
+use Rattle.tokens.specs.Views.{shape-of, leaf-of, first-of, items-of, rest-of}
+use Rattle.tokens.proofs.Sequences.{encode-append, tree-append}
+use Rattle.records.specs.Rows.{row, entry-of, opened}
+
+-- The place of the first item, and what comes after it.
+pub entry-leaf : (r : ℕ) (j : Judged) → shape-of j ≡ 1 → entry-of r j ≡ leaf-of j
+unfolding shape-of leaf-of entry-of
+entry-leaf r j-nil h = refl
+entry-leaf r (j-leaf s b j) h = refl
+entry-leaf r (j-node s P i j) h = absurd (omega arith)
+entry-leaf r (j-node s C i j) h = absurd (omega arith)
+
+pub entry-node : (r : ℕ) (j : Judged) → 0 < length (encode j) → (shape-of j ≡ 1 → ⊥) → entry-of r j ≡ 256 + r
+unfolding encode shape-of entry-of
+entry-node r j-nil ne h = absurd (omega arith)
+entry-node r (j-leaf s b j) ne h = absurd (h refl)
+entry-node r (j-node s k i j) ne h = refl
+
+pub entries-more : (r : ℕ) (j : Judged) → 0 < length (encode j)
+    → entries r (tree j) ≡ entry-of r j ∷ entries (r + nodes (tree (first-of j))) (tree (rest-of j))
+unfolding encode entry-of first-of rest-of
+entries-more r j-nil ne = absurd (omega arith)
+entries-more r (j-leaf s b j) ne =
+    let e : r + 0 ≡ r = omega arith in
+    rw e
+entries-more r (j-node s k i j) ne =
+    let e : r + suc (nodes (tree i) + 0) ≡ suc r + nodes (tree i) = omega arith in
+    rw e
+
+-- The tokens after the first one.
+pub encode-opened : (j : Judged) → drop 1 (encode j) ≡ encode (opened j)
+unfolding encode items-of rest-of
+encode-opened j-nil = refl
+encode-opened (j-leaf s b j) = refl
+encode-opened (j-node s k i j) = sym (encode-append i j)
+
+nodes-append : (f g : Forest) → nodes (append f g) ≡ nodes f + nodes g
+nodes-append nil g = omega arith
+nodes-append (leaf b f) g = nodes-append f g
+nodes-append (node k i f) g = omega (arith, nodes-append f g)
+
+narrow-append : (f g : Forest) → Narrow f → Narrow g → Narrow (append f g)
+narrow-append nil g h w = w
+narrow-append (leaf b f) g h w = narrow-append f g h w
+narrow-append (node k i f) g h w = (h .0, narrow-append f g (h .1) w)
+
+rows-append : (r : ℕ) (f g : Forest) → rows r (append f g) ≡ rows r f ++ rows (r + nodes f) g
+rows-append r nil g =
+    let e : r + 0 ≡ r = omega arith in
+    rw e
+rows-append r (leaf b f) g = rows-append r f g
+rows-append r (node k i f) g =
+    let row-here : List ℕ = row (kind-number k) (entries (suc r) i) in
+    let e : suc r + nodes i + nodes f ≡ r + suc (nodes i + nodes f) = omega arith in
+    let back : rows (suc r + nodes i) (append f g) ≡ rows (suc r + nodes i) f ++ rows (r + suc (nodes i + nodes f)) g =
+      rows-append (suc r + nodes i) f g ∙ ap (λ (m : ℕ). rows (suc r + nodes i) f ++ rows m g) e in
+    ap (λ (l : List ℕ). row-here ++ (rows (suc r) i ++ l)) back ∙ simp append-assoc
+
+-- A leaf first: the rows are those of what follows.
+pub rows-leaf : (r : ℕ) (j : Judged) → shape-of j ≡ 1 → rows r (tree j) ≡ rows r (tree (opened j))
+unfolding shape-of items-of rest-of
+rows-leaf r j-nil h = refl
+rows-leaf r (j-leaf s b j) h = refl
+rows-leaf r (j-node s P i j) h = absurd (omega arith)
+rows-leaf r (j-node s C i j) h = absurd (omega arith)
+
+pub nodes-leaf : (j : Judged) → shape-of j ≡ 1 → nodes (tree j) ≡ nodes (tree (opened j))
+unfolding shape-of items-of rest-of
+nodes-leaf j-nil h = refl
+nodes-leaf (j-leaf s b j) h = refl
+nodes-leaf (j-node s P i j) h = absurd (omega arith)
+nodes-leaf (j-node s C i j) h = absurd (omega arith)
+
+-- A node first: its row, then the rows of what follows its token.
+rows-open : (r : ℕ) (i j : Judged) → rows (suc r) (tree i) ++ rows (suc r + nodes (tree i)) (tree j) ≡ rows (r + 1) (append (tree i) (tree j))
+rows-open r i j = rw add-one (sym (rows-append (suc r) (tree i) (tree j)))
+
+pub rows-node : (r : ℕ) (j : Judged) → 0 < length (encode j) → (shape-of j ≡ 1 → ⊥)
+    → rows r (tree j) ≡ row (shape-of j - 1) (entries (r + 1) (tree (items-of j))) ++ rows (r + 1) (tree (opened j))
+unfolding encode shape-of items-of rest-of
+rows-node r j-nil ne h = absurd (omega arith)
+rows-node r (j-leaf s b j) ne h = absurd (h refl)
+rows-node r (j-node s P i j) ne h = rw (rows-open r i j, tree-append, add-one)
+rows-node r (j-node s C i j) ne h = rw (rows-open r i j, tree-append, add-one)
+
+pub nodes-node : (j : Judged) → 0 < length (encode j) → (shape-of j ≡ 1 → ⊥) → nodes (tree j) ≡ suc (nodes (tree (opened j)))
+unfolding encode shape-of items-of rest-of
+nodes-node j-nil ne h = absurd (omega arith)
+nodes-node (j-leaf s b j) ne h = absurd (h refl)
+nodes-node (j-node s k i j) ne h = rw tree-append (omega (arith, nodes-append (tree i) (tree j)))
+
+pub nodes-items : (j : Judged) → nodes (tree (items-of j)) ≤ nodes (tree (opened j))
+nodes-items j = rw tree-append (omega (arith, nodes-append (tree (items-of j)) (tree (rest-of j))))
+
+-- The bounds of what follows the first token, and of the node's own items.
+pub narrow-open : (j : Judged) → Narrow (tree j) → Narrow (tree (opened j))
+unfolding items-of rest-of
+narrow-open j-nil h = h
+narrow-open (j-leaf s b j) h = h
+narrow-open (j-node s k i j) h = rw tree-append (narrow-append (tree i) (tree j) (h .0 .1) (h .1))
+
+pub narrow-items : (j : Judged) → Narrow (tree j) → length (items (tree (items-of j))) ≤ 255
+unfolding items-of
+narrow-items j-nil h = omega arith
+narrow-items (j-leaf s b j) h = omega arith
+narrow-items (j-node s k i j) h = h .0 .0
+
+pub shape-some : (j : Judged) → 0 < length (encode j) → 1 ≤ shape-of j
+unfolding encode shape-of
+shape-some j-nil ne = absurd (omega arith)
+shape-some (j-leaf s b j) ne = omega arith
+shape-some (j-node s P i j) ne = omega arith
+shape-some (j-node s C i j) ne = omega arith
+
+-- A row has 257 numbers.
+pub row-length : (k r : ℕ) (i : Judged) → length (items (tree i)) ≤ 255 → length (row k (entries r (tree i))) ≡ 257
+row-length k r i h =
+    let e = entries-length r (tree i) in
+    omega (arith, padded-length 255 (entries r (tree i)) (omega arith))

@@ -1,0 +1,71 @@
+use mathlib.Core.Path.{sym, ap, _∙_}
+use Prim.Native.Nat.{ℕ, _-_, _≤_}
+use native.Mathlib.Omega.{arith}
+use lib.ListN.{length}
+use Rattle.calls.specs.NodeTable.{rows}
+use Rattle.tokens.specs.Tokens.{tree, plain}
+use Rattle.tokens.proofs.Sequences.{tree-plain}
+use Rattle.tokens.proofs.Writes.{wrote-then}
+use Rattle.records.proofs.Forms.{formed-rows, formed-few, formed-rowed, wrote-table}
+use borrow.Author.Needs.{needs}
+use Rattle.records.proofs.store.Statement.{statement}
+use Rattle.records.proofs.store.Tie as tie
+use Rattle.records.proofs.store.Reads as reads
+use Rattle.records.proofs.store.Lts as lts
+use Rattle.records.proofs.write_rows.Reads as write-rows-reads
+use Rattle.records.proofs.zeros.Reads as zeros-reads
+
+write-rows-requires : tie.Need-write-rows-requires
+write-rows-requires c κs = formed-rowed (c .before .before .before .pre .0) _ (c .before .before .before .pre .1)
+
+few : (c : tie.After-slice-known2) → c .before .before .write-rows .result ≤ 65792
+few c =
+    let f = c .before .before .before .before .before .before .pre .0 in
+    let t = f .shown in
+    omega (
+      arith,
+      c .before .before .write-rows .ensures (plain t) (f .is) .many ∙ ap (λ u. length (rows 0 u)) (tree-plain t),
+      formed-rows f t (f .is),
+      formed-few f t (f .is),
+    )
+
+sub-zeros : tie.Need-sub-zeros
+sub-zeros c = few c
+
+mul-zeros : tie.Need-mul-zeros
+mul-zeros c = omega (arith, few c)
+
+sub-zeros-2 : tie.Need-sub-zeros-2
+sub-zeros-2 c = omega (arith, few c, c .before .before .write-rows .kept .1 .1 .0)
+
+part-zeros-start : tie.Need-part-zeros-start
+part-zeros-start c = omega (arith, few c, c .before .before .write-rows .kept .1 .1 .0)
+
+part-zeros-end : tie.Need-part-zeros-end
+part-zeros-end c = search needs
+
+zeros-requires : tie.Need-zeros-requires
+zeros-requires c κs = search needs
+
+same-length : tie.Need-same-length
+same-length c = search needs
+
+returns : tie.Need-returns
+returns c =
+    λ t e.
+        let w = c .before .before .before .before .before .before .write-rows .ensures (plain t) e in
+        wrote-table t (w .many) (wrote-then w (c .before .before .zeros .ensures))
+
+pub store-spec : {M : Type 1} → statement M
+store-spec =
+    tie.close
+    (tie.spec
+    write-rows-requires
+    sub-zeros
+    mul-zeros
+    sub-zeros-2
+    part-zeros-start
+    part-zeros-end
+    zeros-requires
+    same-length
+    returns)

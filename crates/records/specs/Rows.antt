@@ -1,0 +1,53 @@
+-- Tokens and the rows of the node table, side by side.
+use mathlib.Core.Path.{_≡_}
+use mathlib.Core.Bool.{Bool}
+use mathlib.Core.List.{List, [], _∷_}
+use Prim.Native.Nat.{ℕ, suc, _+_, _*_, _≤_}
+use lib.ListN.{length, take}
+use Rattle.orders.specs.Lists.{same}
+use Rattle.orders.specs.Tree.{Forest, items}
+use Rattle.orders.specs.Form.{Every, nodes, InForm}
+use Rattle.calls.specs.Tables.{padded}
+use Rattle.tokens.specs.Tokens.{Judged, j-nil, j-leaf, j-node, tree, plain, j-append, encode}
+use Rattle.tokens.specs.Views.{items-of, rest-of}
+
+-- The row of a node: the number of its kind, how many items it has, their places, and zeros.
+abbrev pub row : ℕ → List ℕ → List ℕ
+row k es = k ∷ length es ∷ padded 255 es
+
+-- The place of the first item, where its own record, or the next one, is r.
+unfoldable pub entry-of : ℕ → Judged → ℕ
+entry-of r j-nil = 0
+entry-of r (j-leaf s b j) = b
+entry-of r (j-node s k i j) = 256 + r
+
+-- The first item's own items, then the items after it: what the tokens after the first one tell.
+abbrev pub opened : Judged → Judged
+opened j = j-append (items-of j) (rest-of j)
+
+-- The list begins with xs.
+abbrev pub starts : List ℕ → List ℕ → Bool
+starts xs l = same (take (length xs) l) xs
+
+-- Items whose places go into `room` numbers, their nodes in the records from r on.
+pub record Placed (toks : List ℕ) (r room : ℕ) : Type 0 where
+  pub seq : Judged
+  pub is : toks ≡ encode seq
+  pub last : r + nodes (tree seq) ≤ 256
+  pub few : length (items (tree seq)) ≤ room
+
+-- Items whose rows go into `room` numbers, their nodes in the records from r on, at most 255 items in each.
+pub record Rowed (toks : List ℕ) (r room : ℕ) : Type 0 where
+  pub seq : Judged
+  pub is : toks ≡ encode seq
+  pub last : r + nodes (tree seq) ≤ 256
+  pub narrow : Every (λ k i. length (items i) ≤ 255) (tree seq)
+  pub few : 257 * nodes (tree seq) ≤ room
+
+-- The tokens of a tree in form for at most 256 leaves.
+pub record Formed (toks : List ℕ) : Type 0 where
+  pub size : ℕ
+  pub shown : Forest
+  pub is : toks ≡ encode (plain shown)
+  pub in-form : InForm size shown
+  pub few : size ≤ 256

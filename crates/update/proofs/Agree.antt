@@ -1,0 +1,89 @@
+-- The update depends only on the marks of the tree's leaves.
+use mathlib.Core.Path.{_≡_, refl, sym, ap, _∙_}
+use mathlib.Core.Bool.{Bool, true, false, cond, not, _&&_}
+use mathlib.Core.Option.{Option}
+use mathlib.Core.List.{List, [], _∷_, _++_}
+use Prim.Native.Nat.{ℕ, zero, suc, _+_, _*_, _≤_, _<_}
+use native.Mathlib.Omega.{arith}
+use borrow.Author.Tests.{le-leb}
+use lib.Dec.{leb}
+use lib.ListN.{length, getD}
+use Rattle.orders.specs.Lists.{All, In, some-of}
+use Rattle.orders.specs.CircularOrder.{Restriction, others}
+use Rattle.orders.specs.Tree.{Forest, nil, leaf, node, frontier, leaf-item}
+use Rattle.orders.specs.Form.{InForm}
+use Rattle.orders.specs.Reduce.{Class, complement, class, class-by, Part, settled, node-part, parts, reduced-first, reduce}
+use Rattle.orders.specs.Join.{side, join}
+use Rattle.orders.proofs.ListLaws.{all-left, all-right, all-map}
+use Rattle.orders.proofs.Perm.{perm-all}
+use Rattle.orders.proofs.Members.{in-all}
+use Rattle.orders.proofs.Ranges.{in-range}
+use Rattle.marks.specs.Marks.{marked, words-of, outside}
+use Rattle.marks.proofs.Words.{marked-words}
+
+module _ (S T : Restriction) where
+  abbrev pub Agree : List ℕ → Type 0
+  Agree = All (λ b. S b ≡ T b)
+
+  some-same : (l : List ℕ) → Agree l → some-of S l ≡ some-of T l
+  some-same [] h = refl
+  some-same (b ∷ l) h = rw (h .0, some-same l (h .1))
+
+  none-same : (l : List ℕ) → Agree l → some-of (complement S) l ≡ some-of (complement T) l
+  none-same [] h = refl
+  none-same (b ∷ l) h = rw (h .0, none-same l (h .1))
+
+  class-same : (l : List ℕ) → Agree l → class S l ≡ class T l
+  class-same l h = rw (some-same l h, none-same l h)
+
+  parts-same : (f : Forest) → Agree (frontier f) → parts S f ≡ parts T f
+  parts-same nil h = refl
+  parts-same (leaf b f) h =
+      ap (λ (c : Class). settled c (leaf-item b) ∷ parts S f) (class-same (b ∷ []) (h .0, tt))
+      ∙ ap (λ (ps : List Part). settled (class T (b ∷ [])) (leaf-item b) ∷ ps) (parts-same f (h .1))
+  parts-same (node k i f) h =
+      let l = all-left (λ b. S b ≡ T b) (frontier i) (frontier f) h in
+      let r = all-right (λ b. S b ≡ T b) (frontier i) (frontier f) h in
+      ap (λ (c : Class). node-part c k i (parts S i) ∷ parts S f) (class-same (frontier i) l)
+      ∙ ap (λ (ps : List Part). node-part (class T (frontier i)) k i ps ∷ parts S f) (parts-same i l)
+      ∙ ap (λ (ps : List Part). node-part (class T (frontier i)) k i (parts T i) ∷ ps) (parts-same f r)
+
+  pub reduce-same : (t : Forest) → Agree (frontier t) → reduce S t ≡ reduce T t
+  unfolding reduce
+  reduce-same t h = ap reduced-first (parts-same t h)
+
+-- The leaves of a tree in form for n leaves are from 2 to n.
+others-range : (n b : ℕ) → In b (others n) → (1 ≤ b) × (b ≤ n)
+others-range zero b i = absurd i
+others-range (suc n) b i = let r = in-range 2 n b i in (omega arith, omega arith)
+
+pub leaves-range : (n : ℕ) (t : Forest) → InForm n t → All (λ b. (1 ≤ b) × (b ≤ n)) (frontier t)
+leaves-range n t h =
+    perm-all (λ b. (1 ≤ b) × (b ≤ n)) (h .all-leaves) (in-all (λ b. (1 ≤ b) × (b ≤ n)) (others n) (others-range n))
+
+-- A group that leaf 1 is in joins by the other leaves up to n, marked in four words; any other by its own.
+outside-is : (n : ℕ) (G : Restriction) (b : ℕ) → n ≤ 256 → (1 ≤ b) × (b ≤ n) → marked (words-of 4 (outside n G)) b ≡ complement G b
+outside-is n G b h r = marked-words 4 (outside n G) b (r .0) (omega (arith, r .1)) ∙ rw (le-leb b n (r .1))
+
+-- The words ws hold the group; vs are a copy, and us is what the complement makes of it.
+pub join-outside : (n : ℕ) (ws vs us : List ℕ) (t : Forest) → InForm n t → n ≤ 256 → true ≡ marked ws 1 → length ws ≡ 4 → vs ≡ ws
+    → us ≡ words-of (length vs) (outside n (marked vs)) → join (marked ws) t ≡ reduce (marked us) t
+unfolding join side
+join-outside n ws vs us t f h e k v u =
+    let G = marked ws in
+    let w : us ≡ words-of 4 (outside n G) = u ∙ rw (v, k) in
+    rw (← e, w)
+    (sym (reduce-same (marked (words-of 4 (outside n G))) (complement G) t (all-map (λ b. (1 ≤ b) × (b ≤ n)) (λ b. marked (words-of 4 (outside n G)) b ≡ complement G b) (λ b r. outside-is n G b h r) (frontier t) (leaves-range n t f))))
+
+pub join-inside : (ws : List ℕ) (t : Forest) → false ≡ marked ws 1 → join (marked ws) t ≡ reduce (marked ws) t
+unfolding join side
+join-inside ws t e = rw (← e)
+
+-- Four words, one by one.
+pub four-words : (l : List ℕ) → length l ≡ 4 → getD l 0 0 ∷ (getD l 1 0 ∷ (getD l 2 0 ∷ (getD l 3 0 ∷ []))) ≡ l
+four-words [] h = absurd (omega arith)
+four-words (a ∷ []) h = absurd (omega arith)
+four-words (a ∷ (b ∷ [])) h = absurd (omega arith)
+four-words (a ∷ (b ∷ (c ∷ []))) h = absurd (omega arith)
+four-words (a ∷ (b ∷ (c ∷ (d ∷ [])))) h = refl
+four-words (a ∷ (b ∷ (c ∷ (d ∷ (e ∷ l))))) h = absurd (omega arith)

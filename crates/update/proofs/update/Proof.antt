@@ -1,0 +1,122 @@
+use mathlib.Core.Path.{_≡_, refl, sym, ap, _∙_}
+use Prim.Native.Nat.{_-_, _≤_}
+use lib.ListN.{length, take, drop}
+use native.Mathlib.Omega.{arith}
+use Rattle.orders.specs.Tree.{Forest}
+use Rattle.marks.specs.Marks.{marked}
+use Rattle.tokens.specs.Tokens.{plain, encode}
+use Rattle.tokens.proofs.Writes.{wrote-none}
+use Rattle.judge.specs.Judge.{judge}
+use Rattle.judge.specs.Automaton.{p0}
+use Rattle.judge.specs.Total.{first-reduced, totals}
+use Rattle.judge.proofs.Pass.{zero-start}
+use Rattle.parts.specs.Writers.{flat}
+use Rattle.parts.proofs.Laws.{flat-nil, flat-tree}
+use Rattle.update.specs.Update.{impossible, written}
+use Rattle.update.proofs.Laws.{read-part}
+use Rattle.update.proofs.Updates.{reduce-none, reduce-no, reduce-yes, reduced-short, the-form, tokens-short, judged-part, wrote-as}
+use borrow.Author.Needs.{needs}
+use Rattle.update.proofs.update.Statement.{statement}
+use Rattle.update.proofs.update.Tie as tie
+use Rattle.update.proofs.update.Reads as reads
+use Rattle.update.proofs.update.Lts as lts
+use Rattle.judge.proofs.judge.Reads as judge-reads
+use Rattle.tokens.proofs.copy.Reads as copy-reads
+use Rattle.tokens.proofs.state.Reads as state-reads
+use Rattle.update.proofs.reduced.Reads as reduced-reads
+
+returns : tie.Need-returns
+returns c = λ t e. rw (reduce-none (marked (c .before .before .before .before .args .marks .now)) t e (c .if1 .taken) .1) (written (wrote-as (sym flat-nil) (wrote-none _)))
+
+slice-aggregate-judge : tie.Need-slice-aggregate-judge
+slice-aggregate-judge c = search needs
+
+judge-requires : tie.Need-judge-requires
+judge-requires c κs = ((_, flat-tree (c .before .before .before .before .before .pre .1 .0) (c .before .before .before .before .before .pre .1 .1)), omega (arith, tokens-short (c .before .before .before .before .before .pre .0) (c .before .before .before .before .before .args .toks .now) (c .before .before .before .before .before .pre .1)))
+
+-- The judged tree.
+text : (c : tie.After-judged2) (t : Forest) → c .before .before .before .before .before .before .before .args .toks .now ≡ flat t
+    → take (length (c .before .before .before .before .before .before .before .args .toks .now) - 0) (drop 0 (c .before .judge .last .1 .1 .1 .0)) ≡ encode (judge (marked (c .before .before .before .before .before .before .before .args .marks .now)) t)
+text c t e = judged-part (marked (c .before .before .before .before .before .before .before .args .marks .now)) t (c .before .judge .ensures (plain t) p0 (flat-tree t e) zero-start .1)
+
+sub-state : tie.Need-sub-state
+sub-state c = search needs
+
+part-state-start : tie.Need-part-state-start
+part-state-start c = search needs
+
+part-state-end : tie.Need-part-state-end
+part-state-end c = omega (arith, tokens-short (c .before .before .before .before .before .before .before .before .pre .0) (c .before .before .before .before .before .before .before .before .args .toks .now) (c .before .before .before .before .before .before .before .before .pre .1), c .before .before .judge .kept .1 .1 .1 .0)
+
+state-requires : tie.Need-state-requires
+state-requires c κs = let x = text (c .before .before) (c .before .before .before .before .before .before .before .before .before .pre .1 .0) (c .before .before .before .before .before .before .before .before .before .pre .1 .1) in ((_, x), omega (arith, tokens-short (c .before .before .before .before .before .before .before .before .before .pre .0) (c .before .before .before .before .before .before .before .before .before .args .toks .now) (c .before .before .before .before .before .before .before .before .before .pre .1), c .before .before .before .judge .kept .1 .1 .1 .0, c .state-arg .given))
+
+returns-2 : tie.Need-returns-2
+returns-2 c = λ t e. rw (reduce-no (c .before .before .before .before .before .before .before .before .before .before .before .pre .0) (marked (c .before .before .before .before .before .before .before .before .before .before .before .args .marks .now)) t (the-form (c .before .before .before .before .before .before .before .before .before .before .before .pre .0) (c .before .before .before .before .before .before .before .before .before .before .before .args .toks .now) (c .before .before .before .before .before .before .before .before .before .before .before .pre .1) t e) (sym (c .before .state .ensures _ (text (c .before .before .before .before) t e)) ∙ c .if2 .taken)) (impossible refl)
+
+-- The tree that is written has few tokens.
+short : (c : tie.Else2) → length (flat (first-reduced (totals (judge (marked (c .before .before .before .before .before .before .before .before .before .before .before .args .marks .now)) (c .before .before .before .before .before .before .before .before .before .before .before .pre .1 .0))))) ≤ 510
+short c =
+    reduced-short (c .before .before .before .before .before .before .before .before .before .before .before .pre .0) (marked (c .before .before .before .before .before .before .before .before .before .before .before .args .marks .now)) (c .before .before .before .before .before .before .before .before .before .before .before .pre .1 .0) (c .before .before .before .before .before .before .before .before .before .before .before .pre .1 .2) (c .before .before .before .before .before .before .before .before .before .before .before .pre .1 .3)
+    (λ h. c .if2 .left (c .before .state .ensures _ (text (c .before .before .before .before) (c .before .before .before .before .before .before .before .before .before .before .before .pre .1 .0) (c .before .before .before .before .before .before .before .before .before .before .before .pre .1 .1)) ∙ h))
+
+sub-reduced : tie.Need-sub-reduced
+sub-reduced c = search needs
+
+part-reduced-start : tie.Need-part-reduced-start
+part-reduced-start c = search needs
+
+part-reduced-end : tie.Need-part-reduced-end
+part-reduced-end c = omega (arith, tokens-short (c .before .before .before .before .before .before .before .before .before .before .before .before .pre .0) (c .before .before .before .before .before .before .before .before .before .before .before .before .args .toks .now) (c .before .before .before .before .before .before .before .before .before .before .before .before .pre .1), c .before .before .before .before .before .before .judge .kept .1 .1 .1 .0)
+
+slice-aggregate-reduced : tie.Need-slice-aggregate-reduced
+slice-aggregate-reduced c = search needs
+
+slice-aggregate-reduced-2 : tie.Need-slice-aggregate-reduced-2
+slice-aggregate-reduced-2 c = search needs
+
+reduced-requires : tie.Need-reduced-requires
+reduced-requires c κs = let x = text (c .before .before .before .before .before .before .before .before) (c .before .before .before .before .before .before .before .before .before .before .before .before .before .before .before .pre .1 .0) (c .before .before .before .before .before .before .before .before .before .before .before .before .before .before .before .pre .1 .1) in let s = short (c .before .before .before .before) in ((_, x, omega (arith, s), omega (arith, s)), omega (arith, tokens-short (c .before .before .before .before .before .before .before .before .before .before .before .before .before .before .before .pre .0) (c .before .before .before .before .before .before .before .before .before .before .before .before .before .before .before .args .toks .now) (c .before .before .before .before .before .before .before .before .before .before .before .before .before .before .before .pre .1), c .before .before .before .before .before .before .before .before .before .judge .kept .1 .1 .1 .0, c .before .before .reduced-arg .given), omega arith, omega arith)
+
+sub-copy : tie.Need-sub-copy
+sub-copy c = search needs
+
+part-copy-start : tie.Need-part-copy-start
+part-copy-start c = search needs
+
+part-copy-end : tie.Need-part-copy-end
+part-copy-end c = omega (arith, short (c .before .before .before .before .before .before .before .before), c .before .before .before .reduced .ensures _ (text (c .before .before .before .before .before .before .before .before .before .before .before .before) (c .before .before .before .before .before .before .before .before .before .before .before .before .before .before .before .before .before .before .before .pre .1 .0) (c .before .before .before .before .before .before .before .before .before .before .before .before .before .before .before .before .before .before .before .pre .1 .1)) .many, c .before .before .before .reduced .kept .1 .0)
+
+copy-requires : tie.Need-copy-requires
+copy-requires c κs = omega (arith, ap length (read-part (c .before .before .before .before .before .reduced .ensures _ (text (c .before .before .before .before .before .before .before .before .before .before .before .before .before .before) (c .before .before .before .before .before .before .before .before .before .before .before .before .before .before .before .before .before .before .before .before .before .pre .1 .0) (c .before .before .before .before .before .before .before .before .before .before .before .before .before .before .before .before .before .before .before .before .before .pre .1 .1)))), short (c .before .before .before .before .before .before .before .before .before .before), c .before .before .before .before .before .before .before .before .before .before .before .before .before .before .before .before .before .before .before .before .before .pre .2)
+
+same-length : tie.Need-same-length
+same-length c = search needs
+
+returns-3 : tie.Need-returns-3
+returns-3 c = λ t e. rw (reduce-yes (c .before .before .before .before .before .before .before .before .before .before .before .before .before .before .before .before .before .before .before .before .before .before .before .before .pre .0) (marked (c .before .before .before .before .before .before .before .before .before .before .before .before .before .before .before .before .before .before .before .before .before .before .before .before .args .marks .now)) t (the-form (c .before .before .before .before .before .before .before .before .before .before .before .before .before .before .before .before .before .before .before .before .before .before .before .before .pre .0) (c .before .before .before .before .before .before .before .before .before .before .before .before .before .before .before .before .before .before .before .before .before .before .before .before .args .toks .now) (c .before .before .before .before .before .before .before .before .before .before .before .before .before .before .before .before .before .before .before .before .before .before .before .before .pre .1) t e) (λ h. c .before .before .before .before .before .before .before .before .before .before .before .before .before .if2 .left (c .before .before .before .before .before .before .before .before .before .before .before .before .before .before .state .ensures _ (text (c .before .before .before .before .before .before .before .before .before .before .before .before .before .before .before .before .before) t e) ∙ h))) (written (wrote-as (read-part (c .before .before .before .before .before .before .before .before .reduced .ensures _ (text (c .before .before .before .before .before .before .before .before .before .before .before .before .before .before .before .before .before) t e))) (c .before .before .copy .ensures)))
+
+pub update-spec : {M : Type 1} → statement M
+update-spec =
+    tie.close
+    (tie.spec
+    returns
+    slice-aggregate-judge
+    judge-requires
+    sub-state
+    part-state-start
+    part-state-end
+    state-requires
+    returns-2
+    sub-reduced
+    part-reduced-start
+    part-reduced-end
+    slice-aggregate-reduced
+    slice-aggregate-reduced-2
+    reduced-requires
+    sub-copy
+    part-copy-start
+    part-copy-end
+    copy-requires
+    same-length
+    returns-3)

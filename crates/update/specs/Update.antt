@@ -1,0 +1,26 @@
+-- What the update reads, writes and answers.
+use mathlib.Core.Path.{_≡_}
+use mathlib.Core.Option.{Option, none, some}
+use mathlib.Core.List.{List}
+use Prim.Native.Nat.{ℕ, _≤_}
+use lib.ListN.{length, take}
+use Rattle.orders.specs.Tree.{Forest}
+use Rattle.orders.specs.Form.{InForm}
+use Rattle.tokens.specs.Tokens.{Wrote}
+use Rattle.parts.specs.Writers.{flat}
+use Rattle.update.specs.declared.Updated.{Updated}
+use Rattle.update.specs.declared.Updated.the-variants.{Impossible, Tokens}
+
+-- new begins with xs, and r says how many.
+pub record Begins (xs new : List ℕ) (r : ℕ) : Type 0 where
+  pub many : r ≡ length xs
+  pub text : take r new ≡ xs
+
+-- The tokens are those of a tree in form for n leaves, at most 256.
+abbrev pub Published : ℕ → List ℕ → Type 0
+Published n toks = (t : Forest) × (toks ≡ flat t) × InForm n t × (n ≤ 256)
+
+-- The answer: there is no tree, and out stays as it was; or the tree is written to its start, and the answer says how many tokens.
+pub data Answers : Option Forest → List ℕ → List ℕ → Updated → Type 0 where
+  impossible : {old new : List ℕ} → new ≡ old → Answers none old new Impossible
+  written : {t : Forest} {old new : List ℕ} {k : ℕ} → Wrote (flat t) old new k → Answers (some t) old new (Tokens k)
