@@ -1,6 +1,6 @@
 -- Comparing with rows and zeros.
 use mathlib.Core.Path.{_≡_, refl, sym, ap, _∙_}
-use mathlib.Core.Bool.{Bool, true, false, _&&_}
+use mathlib.Core.Bool.{true, false, _&&_, and-assoc}
 use mathlib.Core.List.{List, [], _∷_, _++_, append-nil}
 use Prim.Native.Nat.{ℕ, suc, _+_, _-_, _≤_, _<_}
 use native.Mathlib.Omega.{arith}
@@ -15,15 +15,11 @@ use Rattle.calls.proofs.NodeTables.{padded-length}
 use Rattle.tokens.specs.Tokens.{Wrote}
 use Rattle.records.specs.Rows.{starts}
 
-and-assoc : (a b c : Bool) → (a && (b && c)) ≡ ((a && b) && c)
-and-assoc true b c = refl
-and-assoc false b c = refl
-
 -- A list begins with xs and then ys.
 pub starts-append : (xs ys l : List ℕ) → starts (xs ++ ys) l ≡ (starts xs l && starts ys (drop (length xs) l))
 starts-append [] ys l = refl
 starts-append (x ∷ xs) ys [] = refl
-starts-append (x ∷ xs) ys (y ∷ l) = rw (starts-append xs ys l) (and-assoc (eqb y x) (starts xs l) (starts ys (drop (length xs) l)))
+starts-append (x ∷ xs) ys (y ∷ l) = rw (starts-append xs ys l) (sym (and-assoc (eqb y x) (starts xs l) (starts ys (drop (length xs) l))))
 
 pub starts-not : (xs ys l : List ℕ) → starts xs l ≡ false → starts (xs ++ ys) l ≡ false
 starts-not xs ys l e = starts-append xs ys l ∙ rw e

@@ -1,7 +1,7 @@
 -- The walk from the first record: the whole tree.
 use mathlib.Core.Path.{_≡_, refl, sym, ap, _∙_, subst}
-use mathlib.Core.List.{List, [], _∷_, _++_, append-assoc}
-use Prim.Native.Nat.{ℕ, zero, suc, _+_, _-_, _*_, _≤_, _<_}
+use mathlib.Core.List.{List, _++_, append-assoc}
+use Prim.Native.Nat.{ℕ, zero, suc, _-_, _≤_, _<_}
 use native.Mathlib.Omega.{arith}
 use borrow.Author.Tests.{lt-leb}
 use borrow.Rule.Slice.PartMut.{postOf}
@@ -12,9 +12,9 @@ use Rattle.orders.specs.Form.{nodes, InForm}
 use Rattle.orders.specs.Join.{fresh}
 use Rattle.orders.proofs.Forms.{form-more}
 use Rattle.orders.proofs.TextTree.{form-length}
-use Rattle.calls.specs.NodeTable.{rows, table-of, Holds, spelled, spelled-tree}
+use Rattle.calls.specs.NodeTable.{rows, Holds, spelled, spelled-tree}
 use Rattle.calls.proofs.NodeTables.{form-narrow, form-leaves, form-few, table-rows}
-use Rattle.tokens.specs.Tokens.{tree, plain, encode, Wrote}
+use Rattle.tokens.specs.Tokens.{plain, encode, Wrote}
 use Rattle.tokens.proofs.Counts.{leaves-and-nodes}
 use Rattle.tokens.proofs.Sequences.{tree-plain}
 use Rattle.tokens.proofs.FreshTree.{fresh-none, fresh-few}
@@ -78,7 +78,7 @@ wrote-part {xs} {part} {k} m old h l w =
     let fits : length xs ≤ length (take m old) = omega (arith, w .many) in
     let text : part ≡ xs ++ drop (length xs) (take m old) = w .text ∙ rw n in
     let back : drop (length xs) (take m old) ++ drop m old ≡ drop (length xs) old =
-      sym (drop-append-le (length xs) (take m old) (drop m old) fits) ∙ ap (drop (length xs)) (take-append-drop m old) in
+    sym (drop-append-le (length xs) (take m old) (drop m old) fits) ∙ ap (drop (length xs)) (take-append-drop m old) in
     record {
       many = w .many;
       text = ap (λ (x : List ℕ). x ++ drop m old) text ∙ append-assoc xs (drop (length xs) (take m old)) (drop m old) ∙ ap (λ (x : List ℕ). xs ++ x) back;

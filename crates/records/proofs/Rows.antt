@@ -1,16 +1,16 @@
 -- The places and rows of a sequence, item by item.
 use mathlib.Core.Path.{_≡_, refl, sym, ap, _∙_}
-use mathlib.Core.List.{List, [], _∷_, _++_, append-assoc, append-nil}
-use Prim.Native.Nat.{ℕ, zero, suc, _+_, _-_, _*_, _≤_, _<_}
+use mathlib.Core.List.{List, _∷_, _++_, append-assoc}
+use Prim.Native.Nat.{ℕ, suc, _+_, _-_, _≤_, _<_}
 use native.Mathlib.Omega.{arith}
 use native.Mathlib.Numerals.{add-one}
-use lib.ListN.{length, take, drop, set, replicate, length-append}
+use lib.ListN.{length, drop}
 use Rattle.orders.specs.Tree.{P, C, Forest, nil, leaf, node, items, append}
-use Rattle.orders.specs.Form.{Every, nodes}
-use Rattle.calls.specs.Tables.{padded}
+use Rattle.orders.specs.Form.{nodes}
+use Rattle.orders.proofs.Laws.{every-append}
 use Rattle.calls.specs.NodeTable.{kind-number, entries, rows}
 use Rattle.calls.proofs.NodeTables.{Narrow, entries-length, padded-length}
-use Rattle.tokens.specs.Tokens.{Judged, j-nil, j-leaf, j-node, tree, encode, Wrote}
+use Rattle.tokens.specs.Tokens.{Judged, j-nil, j-leaf, j-node, tree, encode}
 use Rattle.tokens.specs.Views.{shape-of, leaf-of, first-of, items-of, rest-of}
 use Rattle.tokens.proofs.Sequences.{encode-append, tree-append}
 use Rattle.records.specs.Rows.{row, entry-of, opened}
@@ -52,11 +52,6 @@ nodes-append nil g = omega arith
 nodes-append (leaf b f) g = nodes-append f g
 nodes-append (node k i f) g = omega (arith, nodes-append f g)
 
-narrow-append : (f g : Forest) → Narrow f → Narrow g → Narrow (append f g)
-narrow-append nil g h w = w
-narrow-append (leaf b f) g h w = narrow-append f g h w
-narrow-append (node k i f) g h w = (h .0, narrow-append f g (h .1) w)
-
 rows-append : (r : ℕ) (f g : Forest) → rows r (append f g) ≡ rows r f ++ rows (r + nodes f) g
 rows-append r nil g =
     let e : r + 0 ≡ r = omega arith in
@@ -66,7 +61,7 @@ rows-append r (node k i f) g =
     let row-here : List ℕ = row (kind-number k) (entries (suc r) i) in
     let e : suc r + nodes i + nodes f ≡ r + suc (nodes i + nodes f) = omega arith in
     let back : rows (suc r + nodes i) (append f g) ≡ rows (suc r + nodes i) f ++ rows (r + suc (nodes i + nodes f)) g =
-      rows-append (suc r + nodes i) f g ∙ ap (λ (m : ℕ). rows (suc r + nodes i) f ++ rows m g) e in
+    rows-append (suc r + nodes i) f g ∙ ap (λ (m : ℕ). rows (suc r + nodes i) f ++ rows m g) e in
     ap (λ (l : List ℕ). row-here ++ (rows (suc r) i ++ l)) back ∙ simp append-assoc
 
 -- A leaf first: the rows are those of what follows.
@@ -110,7 +105,7 @@ pub narrow-open : (j : Judged) → Narrow (tree j) → Narrow (tree (opened j))
 unfolding items-of rest-of
 narrow-open j-nil h = h
 narrow-open (j-leaf s b j) h = h
-narrow-open (j-node s k i j) h = rw tree-append (narrow-append (tree i) (tree j) (h .0 .1) (h .1))
+narrow-open (j-node s k i j) h = rw tree-append (every-append (λ k f. length (items f) ≤ 255) (tree i) (tree j) (h .0 .1) (h .1))
 
 pub narrow-items : (j : Judged) → Narrow (tree j) → length (items (tree (items-of j))) ≤ 255
 unfolding items-of

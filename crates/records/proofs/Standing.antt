@@ -1,14 +1,14 @@
 -- Sequences whose rows stand in a table: their parts stand there too, and are what the records spell.
-use mathlib.Core.Path.{_≡_, refl, sym, ap, _∙_, subst}
+use mathlib.Core.Path.{_≡_, sym, ap, _∙_, subst}
 use mathlib.Core.List.{List, [], _∷_, _++_, append-assoc, append-nil, head-eq-of-cons-eq, tail-eq-of-cons-eq}
 use Prim.Native.Nat.{ℕ, zero, suc, _+_, _-_, _*_, _≤_, _<_}
 use native.Mathlib.Omega.{arith}
 use lib.ListN.{length, take, drop, getD, length-append, length-take}
-use Rattle.orders.specs.Tree.{Kind, Forest, nil, leaf, node, items, frontier, append}
+use Rattle.orders.specs.Tree.{Kind, Forest, nil, leaf, node, items, frontier}
 use Rattle.orders.specs.Form.{nodes}
 use Rattle.orders.proofs.ListLaws.{all-left, all-right}
-use Rattle.calls.specs.NodeTable.{kind-number, entries, rows, kind-of, spelled-items, spelled}
-use Rattle.calls.proofs.NodeTables.{Leaves, row, first-row, rows-after, entries-length, row-length, at-count, at-places, at-next, spelled-node, spelled-entries}
+use Rattle.calls.specs.NodeTable.{entries, rows, spelled}
+use Rattle.calls.proofs.NodeTables.{row, first-row, rows-after, entries-length, row-length, at-count, at-places, at-next, spelled-node, spelled-entries}
 use Rattle.tokens.specs.Tokens.{plain, encode}
 use Rattle.tokens.proofs.Laws.{whole}
 use Rattle.records.specs.Walks.{Stands, NodeStands, PlacesStand}
@@ -16,15 +16,18 @@ use Rattle.records.specs.Walks.{Stands, NodeStands, PlacesStand}
 -- A leaf first.
 leaf-rest : {table : List ℕ} {r b d room : ℕ} {f : Forest} → Stands table r (leaf b f) d room → (1 ≤ room) × Stands table r f d (room - 1)
 unfolding encode
-leaf-rest s = (omega (arith, s .fits), record {
-  more = s .more;
-  at = s .at;
-  leaves = s .leaves .1;
-  narrow = s .narrow;
-  deep = s .deep;
-  last = s .last;
-  fits = omega (arith, s .fits);
-})
+leaf-rest s = (
+  omega (arith, s .fits),
+  record {
+    more = s .more;
+    at = s .at;
+    leaves = s .leaves .1;
+    narrow = s .narrow;
+    deep = s .deep;
+    last = s .last;
+    fits = omega (arith, s .fits);
+  },
+)
 
 -- A node first: its size, and that of what follows.
 node-size : (k : Kind) (i f : Forest) → length (encode (plain (node k i f))) ≡ length (encode (plain (node k i nil))) + length (encode (plain f))

@@ -58,7 +58,7 @@ walks-nil old = record { most = omega arith; wrote = λ l. wrote-none old; not-t
 -- A leaf, then the other items in the part after it.
 pub walks-leaf : (After : ℕ → Type 0) {There : Type 0} {g : Forest} {part : List ℕ} {m : ℕ} (v : ℕ) (old : List ℕ) → 0 < length old
     → Walks g (After (length (take (length (set old 0 (16 * v)) - 1) (drop 1 (set old 0 (16 * v))))))
-      (take (length (set old 0 (16 * v)) - 1) (drop 1 (set old 0 (16 * v)))) part m
+    (take (length (set old 0 (16 * v)) - 1) (drop 1 (set old 0 (16 * v)))) part m
     → (There → After (length old - 1))
     → Walks (leaf v g) There old (putMid 1 (length (set old 0 (16 * v)) - 1) (set old 0 (16 * v)) part) (1 + m)
 unfolding encode leaf-token
@@ -69,7 +69,7 @@ walks-leaf After {g = g} {part} {m} v old ne w f =
     record {
       most = omega (arith, w .most);
       wrote = λ l. subst (λ (x : ℕ). Wrote (x ∷ encode (plain g)) old (putMid 1 (length mid - 1) mid part) (1 + m)) t
-        (wrote-then (wrote-one (16 * v) old ne) (w .wrote (omega arith)));
+          (wrote-then (wrote-one (16 * v) old ne) (w .wrote (omega arith)));
       not-there = λ l h. w .not-there (omega arith) (subst After n (f h));
     }
 

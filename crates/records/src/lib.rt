@@ -1,8 +1,7 @@
 // The node table of a tree, written from its tokens, compared with them, and read into tokens. A record is a row of 257 numbers: the number
 // of its kind, how many items it has, and 255 places for them; a leaf stands as its number, the node in record r as 256 + r.
 ghost use mathlib.Core.Path.{_≡_};
-ghost use mathlib.Core.List.{[], _∷_};
-ghost use Prim.Native.Nat.{_+_, _<_, _≤_};
+ghost use Prim.Native.Nat.{_<_, _≤_};
 ghost use lib.ListN.{length, take, replicate};
 ghost use Rattle.orders.specs.Lists.{same};
 ghost use Rattle.orders.specs.Tree.{Forest};

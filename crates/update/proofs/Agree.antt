@@ -1,18 +1,16 @@
 -- The update depends only on the marks of the tree's leaves.
 use mathlib.Core.Path.{_≡_, refl, sym, ap, _∙_}
-use mathlib.Core.Bool.{Bool, true, false, cond, not, _&&_}
-use mathlib.Core.Option.{Option}
-use mathlib.Core.List.{List, [], _∷_, _++_}
-use Prim.Native.Nat.{ℕ, zero, suc, _+_, _*_, _≤_, _<_}
+use mathlib.Core.Bool.{true, false}
+use mathlib.Core.List.{List, [], _∷_}
+use Prim.Native.Nat.{ℕ, zero, suc, _≤_}
 use native.Mathlib.Omega.{arith}
 use borrow.Author.Tests.{le-leb}
-use lib.Dec.{leb}
 use lib.ListN.{length, getD}
 use Rattle.orders.specs.Lists.{All, In, some-of}
 use Rattle.orders.specs.CircularOrder.{Restriction, others}
 use Rattle.orders.specs.Tree.{Forest, nil, leaf, node, frontier, leaf-item}
 use Rattle.orders.specs.Form.{InForm}
-use Rattle.orders.specs.Reduce.{Class, complement, class, class-by, Part, settled, node-part, parts, reduced-first, reduce}
+use Rattle.orders.specs.Reduce.{Class, complement, class, Part, settled, node-part, parts, reduced-first, reduce}
 use Rattle.orders.specs.Join.{side, join}
 use Rattle.orders.proofs.ListLaws.{all-left, all-right, all-map}
 use Rattle.orders.proofs.Perm.{perm-all}

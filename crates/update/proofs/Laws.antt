@@ -1,6 +1,6 @@
 -- The reduced forms, by what code sees of a judged sequence.
 use mathlib.Core.Path.{_≡_, refl, sym, ap, _∙_}
-use mathlib.Core.Bool.{Bool, true, false, cond}
+use mathlib.Core.Bool.{Bool, true, false}
 use mathlib.Core.List.{List, [], _∷_, _++_, append-assoc}
 use Prim.Native.Nat.{ℕ, _+_, _-_, _≤_, _<_}
 use native.Mathlib.Omega.{arith}
@@ -12,13 +12,12 @@ use lib.Seq.{take-append-seam}
 use Rattle.orders.specs.Tree.{P, C, Forest, nil, node, items, append}
 use Rattle.orders.specs.Reduce.{one, insert, pack}
 use Rattle.orders.proofs.ListLaws.{cond-cases}
-use Rattle.tokens.specs.Tokens.{State, E, F, L, R, X, number, Judged, j-nil, j-leaf, j-node, tree, plain, encode, Wrote}
+use Rattle.tokens.specs.Tokens.{E, F, L, R, X, number, Judged, j-nil, j-leaf, j-node, tree, plain, encode, Wrote}
 use Rattle.tokens.specs.Views.{shape-of, state-of, first-of, items-of, rest-of}
 use Rattle.tokens.proofs.Laws.{at-end}
 use Rattle.tokens.proofs.Sequences.{plain-length}
 use Rattle.tokens.proofs.Writes.{read-back}
-use Rattle.judge.specs.Judge.{all-empty}
-use Rattle.judge.specs.Total.{Total, states-of, whole-of, partial-of, first-reduced, mirrored-lines, c-node-of, middle-of, gather-of, reduced-of, total-by, totals}
+use Rattle.judge.specs.Total.{Total, whole-of, partial-of, first-reduced, mirrored-lines, c-node-of, middle-of, gather-of, reduced-of, total-by, totals}
 use Rattle.parts.specs.Writers.{flat, with-state, all-with-state, from-partial, in-line, first-in-line, all-in-line, gathered}
 use Rattle.parts.proofs.Laws.{flat-nil, flat-append, flat-p, AtFirst, at-first, starts, totals-none, whole-totals, all-empty-is, c-node-length, insert-length}
 use Rattle.update.specs.Update.{Begins}

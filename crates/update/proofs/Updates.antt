@@ -1,13 +1,12 @@
 -- The update of a tree in form: its tokens are few, and the judged tree says what is written.
 use mathlib.Core.Path.{_≡_, refl, sym, ap, _∙_}
-use mathlib.Core.Bool.{true, false}
-use mathlib.Core.Option.{Option, none, some}
-use mathlib.Core.List.{List, [], _∷_}
-use Prim.Native.Nat.{ℕ, zero, suc, _+_, _-_, _≤_, _<_}
+use mathlib.Core.Option.{none, some}
+use mathlib.Core.List.{List}
+use Prim.Native.Nat.{ℕ, zero, suc, _+_, _-_, _≤_}
 use native.Mathlib.Omega.{arith}
 use lib.ListN.{length, take, drop}
 use Rattle.orders.specs.CircularOrder.{Restriction, others}
-use Rattle.orders.specs.Tree.{Forest, nil, items, frontier}
+use Rattle.orders.specs.Tree.{Forest, nil, frontier}
 use Rattle.orders.specs.Form.{InForm, nodes}
 use Rattle.orders.specs.Reduce.{reduce}
 use Rattle.orders.proofs.Perm.{perm-length, perm-trans}

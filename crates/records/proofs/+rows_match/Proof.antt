@@ -1,13 +1,12 @@
 use borrow.Author.Tests.{not-true, not-false}
 use mathlib.Core.Path.{_≡_, sym, ap, _∙_}
-use mathlib.Core.Bool.{Bool, true, false}
 use native.Mathlib.Omega.{arith}
 use lib.ListN.{length, drop, length-drop}
 use borrow.Author.Needs.{needs}
 use Rattle.orders.specs.Form.{nodes}
 use Rattle.calls.specs.NodeTable.{entries, rows}
 use Rattle.tokens.specs.Tokens.{Judged, tree, encode}
-use Rattle.tokens.specs.Views.{shape-of, items-of}
+use Rattle.tokens.specs.Views.{items-of}
 use Rattle.tokens.proofs.Laws.{at-end, whole}
 use Rattle.tokens.proofs.Sequences.{encode-injective}
 use Rattle.records.specs.Rows.{row, opened, starts}
@@ -53,14 +52,16 @@ rows-match-opened-requires t c κs = let p = c .before .before .before .before .
 rows-match-rows-match-requires : (t : ℕ) → rows-match-lts.Need-rows-match-requires (rows-match-calls t) (rows-match-at t) rows-match.Post
 rows-match-rows-match-requires t c κs =
     let p = c .before .before .before .before .before .before .pre .1 in
-    let n = nodes-leaf (p .seq) (sym (c .before .before .shape .ensures (p .seq) (p .is)) ∙ c .before .if2 .taken) in
-    (omega arith, record {
-      seq = opened (p .seq);
-      is = c .opened .ensures .1 (p .seq) (p .is);
-      last = omega (arith, p .last);
-      narrow = narrow-open (p .seq) (p .narrow);
-      few = omega (arith, p .few);
-    })
+    let n = nodes-leaf (p .seq) (sym (c .before .before .shape .ensures (p .seq) (p .is)) ∙ c .before .if2 .taken) in (
+      omega arith,
+      record {
+        seq = opened (p .seq);
+        is = c .opened .ensures .1 (p .seq) (p .is);
+        last = omega (arith, p .last);
+        narrow = narrow-open (p .seq) (p .narrow);
+        few = omega (arith, p .few);
+      },
+    )
 
 rows-match-returns-2 : (t : ℕ) → rows-match-lts.Need-returns-2 (rows-match-calls t) (rows-match-at t) rows-match.Post
 rows-match-returns-2 t c = λ j e. rw (rows-leaf (c .before .before .before .before .before .before .before .args .r) j (sym (c .before .before .before .shape .ensures j e) ∙ c .before .before .if2 .taken)) (c .rows-match .ensures _ (c .before .opened .ensures .1 j e))
@@ -124,9 +125,9 @@ split t c j e =
 rows-match-returns-3 : (t : ℕ) → rows-match-lts.Need-returns-3 (rows-match-calls t) (rows-match-at t) rows-match.Post
 rows-match-returns-3 t c =
     λ j e.
-        let here = row (c .before .before .before .before .before .shape .result - 1) (entries (c .before .before .before .before .before .before .before .before .before .args .r + 1) (tree (items-of j))) in
-        let d = starts-not here (rows (c .before .before .before .before .before .before .before .before .before .args .r + 1) (tree (opened j))) (c .before .before .before .before .before .before .before .before .before .args .table .now) (sym (compared t (c .before) j e) ∙ not-true _ (c .if3 .taken)) in
-        rw (split t (c .before) j e) (sym d)
+    let here = row (c .before .before .before .before .before .shape .result - 1) (entries (c .before .before .before .before .before .before .before .before .before .args .r + 1) (tree (items-of j))) in
+    let d = starts-not here (rows (c .before .before .before .before .before .before .before .before .before .args .r + 1) (tree (opened j))) (c .before .before .before .before .before .before .before .before .before .args .table .now) (sym (compared t (c .before) j e) ∙ not-true _ (c .if3 .taken)) in
+    rw (split t (c .before) j e) (sym d)
 
 rows-match-opened-requires-2 : (t : ℕ) → rows-match-lts.Need-opened-requires-2 (rows-match-calls t) (rows-match-at t) rows-match.Post
 rows-match-opened-requires-2 t c κs = let p = c .before .before .before .before .before .before .before .before .before .pre .1 in ((p .seq, p .is), omega arith)
@@ -146,25 +147,27 @@ rows-match-part-rows-match-end t c = search needs
 rows-match-rows-match-requires-2 : (t : ℕ) → rows-match-lts.Need-rows-match-requires-2 (rows-match-calls t) (rows-match-at t) rows-match.Post
 rows-match-rows-match-requires-2 t c κs =
     let p = c .before .before .before .before .before .before .before .before .before .before .before .pre .1 in
-    let l = c .before .before .before .before .before .before .before .before .before .before .before .args .table .now in
-    (omega arith, record {
-      seq = opened (p .seq);
-      is = c .before .opened2 .ensures .1 (p .seq) (p .is);
-      last = omega (arith, p .last, one-more t (c .before .before .before .before .before .before));
-      narrow = narrow-open (p .seq) (p .narrow);
-      few = omega (arith, p .few, one-more t (c .before .before .before .before .before .before), ap length (whole l 257), length-drop 257 l);
-    })
+    let l = c .before .before .before .before .before .before .before .before .before .before .before .args .table .now in (
+      omega arith,
+      record {
+        seq = opened (p .seq);
+        is = c .before .opened2 .ensures .1 (p .seq) (p .is);
+        last = omega (arith, p .last, one-more t (c .before .before .before .before .before .before));
+        narrow = narrow-open (p .seq) (p .narrow);
+        few = omega (arith, p .few, one-more t (c .before .before .before .before .before .before), ap length (whole l 257), length-drop 257 l);
+      },
+    )
 
 rows-match-returns-4 : (t : ℕ) → rows-match-lts.Need-returns-4 (rows-match-calls t) (rows-match-at t) rows-match.Post
 rows-match-returns-4 t c =
     λ j e.
-        let l = c .before .before .before .before .before .before .before .before .before .before .before .before .args .table .now in
-        let here = row (c .before .before .before .before .before .before .before .before .shape .result - 1) (entries (c .before .before .before .before .before .before .before .before .before .before .before .before .args .r + 1) (tree (items-of j))) in
-        let after = rows (c .before .before .before .before .before .before .before .before .before .before .before .before .args .r + 1) (tree (opened j)) in
-        c .rows-match2 .ensures _ (c .before .before .opened2 .ensures .1 j e)
-        ∙ ap (starts after) (whole l 257 ∙ ap (λ (n : ℕ). drop n l) (sym (long t (c .before .before .before .before) j e)))
-        ∙ sym (starts-then here after l (sym (compared t (c .before .before .before .before) j e) ∙ not-false _ (c .before .before .before .if3 .left)))
-        ∙ ap (λ x. starts x l) (sym (split t (c .before .before .before .before) j e))
+    let l = c .before .before .before .before .before .before .before .before .before .before .before .before .args .table .now in
+    let here = row (c .before .before .before .before .before .before .before .before .shape .result - 1) (entries (c .before .before .before .before .before .before .before .before .before .before .before .before .args .r + 1) (tree (items-of j))) in
+    let after = rows (c .before .before .before .before .before .before .before .before .before .before .before .before .args .r + 1) (tree (opened j)) in
+    c .rows-match2 .ensures _ (c .before .before .opened2 .ensures .1 j e)
+    ∙ ap (starts after) (whole l 257 ∙ ap (λ (n : ℕ). drop n l) (sym (long t (c .before .before .before .before) j e)))
+    ∙ sym (starts-then here after l (sym (compared t (c .before .before .before .before) j e) ∙ not-false _ (c .before .before .before .if3 .left)))
+    ∙ ap (λ x. starts x l) (sym (split t (c .before .before .before .before) j e))
 
 pub +rows-match-spec : {M : Type 1} → statement M
 +rows-match-spec = close μ-rows-match λ t. rows-match-lts.spec (rows-match-calls t)

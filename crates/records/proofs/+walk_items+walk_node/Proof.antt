@@ -1,9 +1,9 @@
-use mathlib.Core.Path.{_≡_, sym, ap, _∙_}
+use mathlib.Core.Path.{_∙_}
 use native.Mathlib.Omega.{arith}
 use lib.ListN.{length, take, drop, getD, set, length-set}
 use borrow.Author.Needs.{needs}
-use Rattle.calls.specs.NodeTable.{kind-of, spelled-items, spelled}
-use Rattle.records.specs.Walks.{NodeStands, PlacesStand}
+use Rattle.calls.specs.NodeTable.{kind-of, spelled}
+use Rattle.records.specs.Walks.{PlacesStand}
 use Rattle.records.proofs.Standing.{leaf-head, node-head, node-tail, node-record, node-count, part-is, part-few, inner-places}
 use Rattle.records.proofs.Walking.{part-length, no-places, spelled-here, spelled-leaf, spelled-branch, walks-not, walks-gone, walks-nil, walks-leaf, walks-then, walks-node}
 use Prim.Native.Nat.{ℕ, _+_, _-_, _*_, _≤_, _<_}
@@ -103,7 +103,7 @@ walk-items-returns-3 t c =
     let d = c .before .before .before .before .before .before .before .before .before .before .before .before .args .d in
     rw (spelled-leaf (spelled d table) l (omega arith) (c .before .before .before .before .before .if2 .taken))
     (walks-leaf (PlacesStand table (take (length l - 1) (drop 1 l)) d) (getD l 0 0) old (omega arith) (c .before .before .walk-items .ensures)
-      (λ p. leaf-head table l d (length old) (omega arith) (c .before .before .before .before .before .if2 .taken) p .1))
+    (λ p. leaf-head table l d (length old) (omega arith) (c .before .before .before .before .before .if2 .taken) p .1))
 
 walk-items-sub-walk-node : (t : ℕ) → walk-items-lts.Need-sub-walk-node (walk-items-calls t) (walk-items-at t) walk-items.Post
 walk-items-sub-walk-node t c = omega arith
@@ -159,7 +159,7 @@ walk-items-returns-5 t c =
     let le : c .before .before .before .before .before .before .before .walk-node .result ≤ length old = omega (arith, c .before .before .before .before .if4 .left) in
     rw (spelled-branch (spelled d table) l (omega arith) (c .before .before .before .before .before .before .before .before .before .if2 .left))
     (walks-then (PlacesStand table (take (length l - 1) (drop 1 l)) d) w le long (c .before .before .walk-items2 .ensures)
-      (λ p. node-tail table l d (length old) (omega arith) (c .before .before .before .before .before .before .before .before .before .if2 .left) (w .wrote le .many) p))
+    (λ p. node-tail table l d (length old) (omega arith) (c .before .before .before .before .before .before .before .before .before .if2 .left) (w .wrote le .many) p))
 
 abbrev walk-node-calls : ℕ → walk-node-lts.Claims
 walk-node-calls t = (walk-items-below t, walk-items.Post, header-reads.Asked, header-reads.Learnt)
@@ -263,7 +263,7 @@ walk-node-returns-5 t c =
     let count = getD table (257 * r + 1) 0 in
     rw (spelled-here d table r (omega arith), ← part-is table a count)
     (walks-node (PlacesStand table (take (a + count - a) (drop a table)) (d - 1)) (kind-of (getD table (257 * r) 0)) old (omega arith) (c .before .before .before .before .walk-items .ensures) (c .header .ensures)
-      (λ s. inner-places table r d (length old) (omega arith) s))
+    (λ s. inner-places table r d (length old) (omega arith) s))
 
 pub +walk-items+walk-node-spec : {M : Type 1} → statement M
 +walk-items+walk-node-spec = close μ-walk-items μ-walk-node (λ t. walk-items-lts.spec (walk-items-calls t)

@@ -28,15 +28,15 @@ abbrev μ-write-entries : Measures 2 write-entries-kinds.ps ℕ
 
 abbrev write-entries-at : ℕ → In 2 write-entries-kinds.ps
 write-entries-at t =
-        and 2 write-entries-kinds.ps (is 2 write-entries-kinds.ps μ-write-entries t) write-entries.Pre
+    and 2 write-entries-kinds.ps (is 2 write-entries-kinds.ps μ-write-entries t) write-entries.Pre
 
 abbrev write-entries-below : ℕ → In 2 write-entries-kinds.ps
 write-entries-below t =
-        and
-        2
-        write-entries-kinds.ps
-        (falls 2 write-entries-kinds.ps _<_ μ-write-entries t)
-        write-entries.Pre
+    and
+    2
+    write-entries-kinds.ps
+    (falls 2 write-entries-kinds.ps _<_ μ-write-entries t)
+    write-entries.Pre
 
 abbrev write-entries-calls : ℕ → write-entries-lts.Claims
 write-entries-calls t = (entry-reads.Asked, entry-reads.Learnt, first-reads.Asked, first-reads.Learnt, node-count-reads.Asked, node-count-reads.Learnt, rest-reads.Asked, rest-reads.Learnt, write-entries-below t, write-entries.Post)
@@ -60,8 +60,8 @@ write-entries-node-count-requires t c κs = let p = c .before .before .before .b
 next : (t : ℕ) (c : write-entries-lts.After-node-count (write-entries-calls t) (write-entries-at t) write-entries.Post)
     → c .before .before .before .before .before .before .args .r + c .node-count .result + nodes (tree (rest-of (c .before .before .before .before .before .before .pre .1 .seq))) ≤ 256
 next t c =
-        let p = c .before .before .before .before .before .before .pre .1 in
-        omega (arith, c .node-count .ensures .1 _ (c .before .first .ensures .1 (p .seq) (p .is)), nodes-split (p .seq), p .last)
+    let p = c .before .before .before .before .before .before .pre .1 in
+    omega (arith, c .node-count .ensures .1 _ (c .before .first .ensures .1 (p .seq) (p .is)), nodes-split (p .seq), p .last)
 
 write-entries-add-next : (t : ℕ) → write-entries-lts.Need-add-next (write-entries-calls t) (write-entries-at t) write-entries.Post
 write-entries-add-next t c = omega (arith, next t c)
@@ -80,13 +80,15 @@ write-entries-part-write-entries-end t c = search needs
 
 write-entries-write-entries-requires : (t : ℕ) → write-entries-lts.Need-write-entries-requires (write-entries-calls t) (write-entries-at t) write-entries.Post
 write-entries-write-entries-requires t c κs =
-    let p = c .before .before .before .before .before .before .before .before .pre .1 in
-    (omega arith, record {
-      seq = rest-of (p .seq);
-      is = c .before .rest .ensures .1 (p .seq) (p .is);
-      last = next t (c .before .before);
-      few = omega (arith, items-more (p .seq) (omega (arith, ap length (p .is))), p .few, c .write-entries-arg .given, length-set (c .before .before .before .before .before .before .before .before .args .out .now) 0 (c .before .before .before .before .entry .result));
-    })
+    let p = c .before .before .before .before .before .before .before .before .pre .1 in (
+      omega arith,
+      record {
+        seq = rest-of (p .seq);
+        is = c .before .rest .ensures .1 (p .seq) (p .is);
+        last = omega (arith, next t (c .before .before));
+        few = omega (arith, items-more (p .seq) (omega (arith, ap length (p .is))), p .few, c .write-entries-arg .given, length-set (c .before .before .before .before .before .before .before .before .args .out .now) 0 (c .before .before .before .before .entry .result));
+      },
+    )
 
 write-entries-same-length : (t : ℕ) → write-entries-lts.Need-same-length (write-entries-calls t) (write-entries-at t) write-entries.Post
 write-entries-same-length t c = c .before .out .given .1 ∙ simp length-set
@@ -94,9 +96,9 @@ write-entries-same-length t c = c .before .out .given .1 ∙ simp length-set
 write-entries-returns-2 : (t : ℕ) → write-entries-lts.Need-returns-2 (write-entries-calls t) (write-entries-at t) write-entries.Post
 write-entries-returns-2 t c =
     λ j e.
-        let n = c .before .before .before .before .before .node-count .ensures .1 _ (c .before .before .before .before .before .before .first .ensures .1 j e) in
-        rw (entries-more (c .before .before .before .before .before .before .before .before .before .before .before .args .r) j (omega (arith, ap length e)), ← n, ← c .before .before .before .before .before .before .before .entry .ensures j e)
-        (wrote-then (wrote-one _ _ (write-entries-slice-write-out t (c .before .before .before .before .before .before .before))) (c .before .before .write-entries .ensures _ (c .before .before .before .before .rest .ensures .1 j e)))
+    let n = c .before .before .before .before .before .node-count .ensures .1 _ (c .before .before .before .before .before .before .first .ensures .1 j e) in
+    rw (entries-more (c .before .before .before .before .before .before .before .before .before .before .before .args .r) j (omega (arith, ap length e)), ← n, ← c .before .before .before .before .before .before .before .entry .ensures j e)
+    (wrote-then (wrote-one _ _ (write-entries-slice-write-out t (c .before .before .before .before .before .before .before))) (c .before .before .write-entries .ensures _ (c .before .before .before .before .rest .ensures .1 j e)))
 
 write-entries-add-result : (t : ℕ) → write-entries-lts.Need-add-result (write-entries-calls t) (write-entries-at t) write-entries.Post
 write-entries-add-result t c = let p = c .before .before .before .before .before .before .before .before .before .before .before .pre .1 in omega (arith, write-entries-returns-2 t c (p .seq) (p .is) .many, entries-length (c .before .before .before .before .before .before .before .before .before .before .before .args .r) (tree (p .seq)), p .few)

@@ -1,11 +1,11 @@
 use mathlib.Core.Path.{_≡_, sym, ap, _∙_}
 use native.Mathlib.Omega.{arith}
-use lib.ListN.{length, length-set}
+use lib.ListN.{length}
 use borrow.Author.Needs.{needs}
 use Rattle.orders.specs.Form.{nodes}
 use Rattle.calls.proofs.NodeTables.{rows-length}
 use Rattle.tokens.specs.Tokens.{tree}
-use Rattle.tokens.specs.Views.{shape-of, items-of}
+use Rattle.tokens.specs.Views.{items-of}
 use Rattle.tokens.proofs.Laws.{at-end}
 use Rattle.tokens.proofs.Writes.{wrote-none, wrote-then}
 use Rattle.records.specs.Rows.{opened}
@@ -49,14 +49,16 @@ write-rows-opened-requires t c κs = let p = c .before .before .before .before .
 write-rows-write-rows-requires : (t : ℕ) → write-rows-lts.Need-write-rows-requires (write-rows-calls t) (write-rows-at t) write-rows.Post
 write-rows-write-rows-requires t c κs =
     let p = c .before .before .before .before .before .before .before .pre .1 in
-    let n = nodes-leaf (p .seq) (sym (c .before .before .before .shape .ensures (p .seq) (p .is)) ∙ c .before .before .if2 .taken) in
-    (omega arith, record {
-      seq = opened (p .seq);
-      is = c .before .opened .ensures .1 (p .seq) (p .is);
-      last = omega (arith, p .last);
-      narrow = narrow-open (p .seq) (p .narrow);
-      few = omega (arith, p .few);
-    })
+    let n = nodes-leaf (p .seq) (sym (c .before .before .before .shape .ensures (p .seq) (p .is)) ∙ c .before .before .if2 .taken) in (
+      omega arith,
+      record {
+        seq = opened (p .seq);
+        is = c .before .opened .ensures .1 (p .seq) (p .is);
+        last = omega (arith, p .last);
+        narrow = narrow-open (p .seq) (p .narrow);
+        few = omega (arith, p .few);
+      },
+    )
 
 write-rows-same-length : (t : ℕ) → write-rows-lts.Need-same-length (write-rows-calls t) (write-rows-at t) write-rows.Post
 write-rows-same-length t c = c .before .before .write-rows .kept .1 .1 .0
@@ -86,13 +88,15 @@ write-rows-add-write-row t c = omega (arith, c .before .before .before .before .
 write-rows-write-row-requires : (t : ℕ) → write-rows-lts.Need-write-row-requires (write-rows-calls t) (write-rows-at t) write-rows.Post
 write-rows-write-row-requires t c κs =
     let p = c .before .before .before .before .before .before .before .pre .1 in
-    let n = one-more t (c .before .before) in
-    (record {
-      seq = items-of (p .seq);
-      is = c .before .items .ensures .1 (p .seq) (p .is);
-      last = omega (arith, p .last, nodes-items (p .seq));
-      few = narrow-items (p .seq) (p .narrow);
-    }, omega (arith, p .few))
+    let n = one-more t (c .before .before) in (
+      record {
+        seq = items-of (p .seq);
+        is = c .before .items .ensures .1 (p .seq) (p .is);
+        last = omega (arith, p .last, nodes-items (p .seq));
+        few = narrow-items (p .seq) (p .narrow);
+      },
+      omega (arith, p .few),
+    )
 
 write-rows-opened-requires-2 : (t : ℕ) → write-rows-lts.Need-opened-requires-2 (write-rows-calls t) (write-rows-at t) write-rows.Post
 write-rows-opened-requires-2 t c κs = let p = c .before .before .before .before .before .before .before .before .before .before .pre .1 in ((p .seq, p .is), omega arith)
@@ -102,9 +106,10 @@ room : (t : ℕ) (c : write-rows-lts.After-opened2 (write-rows-calls t) (write-r
     → (c .before .before .before .write-row .result ≡ 257) × (257 + 257 * nodes (tree (opened (c .before .before .before .before .before .before .before .before .before .before .before .pre .1 .seq))) ≤ length (c .before .before .before .write-row .last .1 .1 .1 .0))
 room t c =
     let p = c .before .before .before .before .before .before .before .before .before .before .before .pre .1 in
-    let i = items-of (p .seq) in
-    (c .before .before .before .write-row .ensures i (c .before .before .before .before .before .items .ensures .1 (p .seq) (p .is)) .many ∙ row-length (c .before .before .before .before .before .before .before .shape .result - 1) (c .before .before .before .before .before .before .before .before .before .before .before .args .r + 1) i (narrow-items (p .seq) (p .narrow)),
-      omega (arith, one-more t (c .before .before .before .before .before .before), p .few, c .before .before .before .write-row .kept .1 .1 .1 .0))
+    let i = items-of (p .seq) in (
+      c .before .before .before .write-row .ensures i (c .before .before .before .before .before .items .ensures .1 (p .seq) (p .is)) .many ∙ row-length (c .before .before .before .before .before .before .before .shape .result - 1) (c .before .before .before .before .before .before .before .before .before .before .before .args .r + 1) i (narrow-items (p .seq) (p .narrow)),
+      omega (arith, one-more t (c .before .before .before .before .before .before), p .few, c .before .before .before .write-row .kept .1 .1 .1 .0),
+    )
 
 write-rows-add-write-rows : (t : ℕ) → write-rows-lts.Need-add-write-rows (write-rows-calls t) (write-rows-at t) write-rows.Post
 write-rows-add-write-rows t c = omega (arith, c .before .before .before .before .before .before .before .before .before .before .before .pre .1 .last)
@@ -124,14 +129,16 @@ write-rows-part-write-rows-end t c = search needs
 write-rows-write-rows-requires-2 : (t : ℕ) → write-rows-lts.Need-write-rows-requires-2 (write-rows-calls t) (write-rows-at t) write-rows.Post
 write-rows-write-rows-requires-2 t c κs =
     let p = c .before .before .before .before .before .before .before .before .before .before .before .before .pre .1 in
-    let m = room t (c .before) in
-    (omega arith, record {
-      seq = opened (p .seq);
-      is = c .before .opened2 .ensures .1 (p .seq) (p .is);
-      last = omega (arith, p .last, one-more t (c .before .before .before .before .before .before .before));
-      narrow = narrow-open (p .seq) (p .narrow);
-      few = omega (arith, c .write-rows-arg2 .given);
-    })
+    let m = room t (c .before) in (
+      omega arith,
+      record {
+        seq = opened (p .seq);
+        is = c .before .opened2 .ensures .1 (p .seq) (p .is);
+        last = omega (arith, p .last, one-more t (c .before .before .before .before .before .before .before));
+        narrow = narrow-open (p .seq) (p .narrow);
+        few = omega (arith, c .write-rows-arg2 .given);
+      },
+    )
 
 write-rows-same-length-2 : (t : ℕ) → write-rows-lts.Need-same-length-2 (write-rows-calls t) (write-rows-at t) write-rows.Post
 write-rows-same-length-2 t c = c .before .out3 .given .1 ∙ c .before .before .before .before .before .before .before .write-row .kept .1 .1 .1 .0
@@ -139,9 +146,9 @@ write-rows-same-length-2 t c = c .before .out3 .given .1 ∙ c .before .before .
 write-rows-returns-3 : (t : ℕ) → write-rows-lts.Need-returns-3 (write-rows-calls t) (write-rows-at t) write-rows.Post
 write-rows-returns-3 t c =
     λ j e.
-        let s = c .before .before .before .before .before .before .before .before .before .before .before .shape .ensures j e in
-        rw (rows-node (c .before .before .before .before .before .before .before .before .before .before .before .before .before .before .before .args .r) j (omega (arith, ap length e)) (λ h. c .before .before .before .before .before .before .before .before .before .before .if2 .left (s ∙ h)), ← s)
-        (wrote-then (c .before .before .before .before .before .before .before .write-row .ensures _ (c .before .before .before .before .before .before .before .before .before .items .ensures .1 j e)) (c .before .before .write-rows2 .ensures _ (c .before .before .before .before .opened2 .ensures .1 j e)))
+    let s = c .before .before .before .before .before .before .before .before .before .before .before .shape .ensures j e in
+    rw (rows-node (c .before .before .before .before .before .before .before .before .before .before .before .before .before .before .before .args .r) j (omega (arith, ap length e)) (λ h. c .before .before .before .before .before .before .before .before .before .before .if2 .left (s ∙ h)), ← s)
+    (wrote-then (c .before .before .before .before .before .before .before .write-row .ensures _ (c .before .before .before .before .before .before .before .before .before .items .ensures .1 j e)) (c .before .before .write-rows2 .ensures _ (c .before .before .before .before .opened2 .ensures .1 j e)))
 
 write-rows-add-result : (t : ℕ) → write-rows-lts.Need-add-result (write-rows-calls t) (write-rows-at t) write-rows.Post
 write-rows-add-result t c = let p = c .before .before .before .before .before .before .before .before .before .before .before .before .before .before .before .pre .1 in omega (arith, write-rows-returns-3 t c (p .seq) (p .is) .many, rows-length (c .before .before .before .before .before .before .before .before .before .before .before .before .before .before .before .args .r) (tree (p .seq)) (p .narrow), p .few)

@@ -1,13 +1,11 @@
-use mathlib.Core.Path.{_≡_, refl, sym, _∙_}
-use Prim.Native.Nat.{_+_, _-_, _≤_}
+use mathlib.Core.Path.{_≡_, sym, _∙_}
+use Prim.Native.Nat.{_-_, _≤_}
 use native.Mathlib.Omega.{arith}
 use lib.ListN.{length, drop, replicate}
 use Rattle.orders.specs.Lists.{same}
 use Rattle.records.proofs.Comparing.{zero-not, zero-more, zero-end}
 use Rattle.records.proofs.all_zero.Statement.{statement}
 use Rattle.records.proofs.all_zero.Tie as tie
-use Rattle.records.proofs.all_zero.Reads as reads
-use Rattle.records.proofs.all_zero.Lts as lts
 
 abbrev Inv-loop : tie.InvT-loop
 Inv-loop part i₀ i = (i ≤ length part) × (same part (replicate (length part) 0) ≡ same (drop i part) (replicate (length part - i) 0))

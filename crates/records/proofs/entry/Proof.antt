@@ -5,10 +5,6 @@ use Rattle.records.proofs.Rows.{entry-leaf, entry-node}
 use borrow.Author.Needs.{needs}
 use Rattle.records.proofs.entry.Statement.{statement}
 use Rattle.records.proofs.entry.Tie as tie
-use Rattle.records.proofs.entry.Reads as reads
-use Rattle.records.proofs.entry.Lts as lts
-use Rattle.tokens.proofs.leaf.Reads as leaf-reads
-use Rattle.tokens.proofs.shape.Reads as shape-reads
 
 shape-requires : tie.Need-shape-requires
 shape-requires c κs = search needs
@@ -19,8 +15,8 @@ leaf-requires c κs = search needs
 returns : tie.Need-returns
 returns c =
     λ j e.
-        let one = sym (c .before .before .shape .ensures j e) ∙ c .before .if1 .taken in
-        c .leaf .ensures j e one ∙ sym (entry-leaf _ j one)
+    let one = sym (c .before .before .shape .ensures j e) ∙ c .before .if1 .taken in
+    c .leaf .ensures j e one ∙ sym (entry-leaf _ j one)
 
 add-result : tie.Need-add-result
 add-result c = search needs
@@ -29,8 +25,8 @@ cast-result : tie.Need-cast-result
 cast-result c = search needs
 
 returns-2 : tie.Need-returns-2
-returns-2 c = λ j e. sym (entry-node _ j (omega (arith, ap length e)) (λ h. c .if1 .left (c .before .shape .ensures j e ∙ h)))
+returns-2 c = λ j e. omega (arith, entry-node (c .before .before .before .args .r) j (omega (arith, ap length e)) (λ h. c .if1 .left (c .before .shape .ensures j e ∙ h)))
 
 pub entry-spec : {M : Type 1} → statement M
 entry-spec =
-        tie.close (tie.spec shape-requires leaf-requires returns add-result cast-result returns-2)
+    tie.close (tie.spec shape-requires leaf-requires returns add-result cast-result returns-2)

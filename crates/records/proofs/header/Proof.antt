@@ -1,12 +1,9 @@
-use mathlib.Core.Path.{sym}
 use native.Mathlib.Omega.{arith}
 use borrow.Author.Tests.{eq-eqb, ne-eqb}
 use Rattle.tokens.specs.Tokens.{node-token}
 use borrow.Author.Needs.{needs}
 use Rattle.records.proofs.header.Statement.{statement}
 use Rattle.records.proofs.header.Tie as tie
-use Rattle.records.proofs.header.Reads as reads
-use Rattle.records.proofs.header.Lts as lts
 
 mul-result : tie.Need-mul-result
 mul-result c = search needs

@@ -1,5 +1,5 @@
 use mathlib.Core.Path.{_≡_, sym, ap, _∙_}
-use mathlib.Core.Bool.{true, false}
+use mathlib.Core.Bool.{true}
 use native.Mathlib.Omega.{arith}
 use borrow.Author.Tests.{not-true, not-false}
 use Rattle.orders.specs.Form.{in-form?}
@@ -13,11 +13,6 @@ use Rattle.records.proofs.Loading.{spells-found, spells-bad, wrote-most
 use borrow.Author.Needs.{needs}
 use Rattle.records.proofs.load.Statement.{statement}
 use Rattle.records.proofs.load.Tie as tie
-use Rattle.records.proofs.load.Reads as reads
-use Rattle.records.proofs.load.Lts as lts
-use Rattle.form.proofs.in_form.Reads as in-form-reads
-use Rattle.records.proofs.matches.Reads as matches-reads
-use Rattle.records.proofs.walk.Reads as walk-reads
 
 walk-requires : tie.Need-walk-requires
 walk-requires c κs = search needs
@@ -47,10 +42,10 @@ written : (c : tie.After-known-told) → Wrote (encode (plain (spelled-tree (c .
 written c = spells-found (c .before .before .before .before .before .before .before .before .before .args .n) (c .before .before .before .before .before .before .before .before .before .args .table .now) (c .before .before .before .before .before .before .before .before .before .args .out .now) (c .before .before .before .before .before .walk .last .1 .1 .0) (c .before .k .given .1) (c .before .before .before .before .before .walk .ensures)
 
 part-in-form-end : tie.Need-part-in-form-end
-part-in-form-end c = wrote-most (written (c .before))
+part-in-form-end c = omega (arith, wrote-most (written (c .before)))
 
 in-form-requires : tie.Need-in-form-requires
-in-form-requires c κs = ((_, read-part (written (c .before .before))), c .before .before .before .before .before .before .before .before .before .before .before .pre .0)
+in-form-requires c κs = ((_, read-part (written (c .before .before))), omega arith)
 
 same-length-2 : tie.Need-same-length-2
 same-length-2 c = search needs
@@ -73,19 +68,21 @@ in-form : (c : tie.Else1) → in-form? (c .before .before .before .before .befor
 in-form c = sym (checked (c .before)) ∙ not-false _ (c .if1 .left)
 
 part-matches-end : tie.Need-part-matches-end
-part-matches-end c = wrote-most (written (c .before .before .before .before .before))
+part-matches-end c = omega (arith, wrote-most (written (c .before .before .before .before .before)))
 
 matches-requires : tie.Need-matches-requires
 matches-requires c κs =
     let n = c .before .before .before .before .before .before .before .before .before .before .before .before .before .before .before .args .n in
-    let s = spelled-tree n (c .before .before .before .before .before .before .before .before .before .before .before .before .before .before .before .args .table .now) in
-    (record {
-      size = n;
-      shown = s;
-      is = read-part (written (c .before .before .before .before .before .before));
-      in-form = form-decides n s .0 (in-form (c .before .before));
-      few = c .before .before .before .before .before .before .before .before .before .before .before .before .before .before .before .pre .0;
-    }, c .before .before .before .before .before .before .before .before .before .before .before .before .before .before .before .pre .1)
+    let s = spelled-tree n (c .before .before .before .before .before .before .before .before .before .before .before .before .before .before .before .args .table .now) in (
+      record {
+        size = n;
+        shown = s;
+        is = read-part (written (c .before .before .before .before .before .before));
+        in-form = form-decides n s .0 (in-form (c .before .before));
+        few = c .before .before .before .before .before .before .before .before .before .before .before .before .before .before .before .pre .0;
+      },
+      c .before .before .before .before .before .before .before .before .before .before .before .before .before .before .before .pre .1,
+    )
 
 same-length-3 : tie.Need-same-length-3
 same-length-3 c = search needs

@@ -1,21 +1,14 @@
 use borrow.Author.Tests.{not-true, not-false}
-use mathlib.Core.Path.{_≡_, sym, ap, _∙_}
-use mathlib.Core.Bool.{true, false}
+use mathlib.Core.Path.{sym, ap, _∙_}
 use Prim.Native.Nat.{_*_, _≤_}
 use native.Mathlib.Omega.{arith}
-use lib.ListN.{length}
 use Rattle.orders.specs.Form.{nodes}
-use Rattle.tokens.specs.Tokens.{tree, plain}
+use Rattle.tokens.specs.Tokens.{plain}
 use Rattle.tokens.proofs.Sequences.{tree-plain}
-use Rattle.records.proofs.Forms.{formed-rows, formed-few, formed-rowed, table-not, table-zeros}
+use Rattle.records.proofs.Forms.{formed-few, formed-rowed, table-not, table-zeros}
 use borrow.Author.Needs.{needs}
 use Rattle.records.proofs.matches.Statement.{statement}
 use Rattle.records.proofs.matches.Tie as tie
-use Rattle.records.proofs.matches.Reads as reads
-use Rattle.records.proofs.matches.Lts as lts
-use Rattle.records.proofs.all_zero.Reads as all-zero-reads
-use Rattle.records.proofs.rows_match.Reads as rows-match-reads
-use Rattle.tokens.proofs.node_count.Reads as node-count-reads
 
 rows-match-requires : tie.Need-rows-match-requires
 rows-match-requires c κs = formed-rowed (c .before .before .pre .0) _ (c .before .before .pre .1)
@@ -53,8 +46,8 @@ all-zero-requires c κs = search needs
 returns-2 : tie.Need-returns-2
 returns-2 c =
     λ t e.
-        c .all-zero .ensures
-        ∙ sym (table-zeros (c .before .before .before .before .before .before .before .pre .0) t e (c .before .before .before .before .before .before .before .args .table .now) (c .before .before .before .before .before .before .before .pre .1) (c .before .before .node-count .ensures .1 (plain t) e) (sym (c .before .before .before .before .rows-match .ensures (plain t) e) ∙ not-false _ (c .before .before .before .if1 .left)))
+    c .all-zero .ensures
+    ∙ sym (table-zeros (c .before .before .before .before .before .before .before .pre .0) t e (c .before .before .before .before .before .before .before .args .table .now) (c .before .before .before .before .before .before .before .pre .1) (c .before .before .node-count .ensures .1 (plain t) e) (sym (c .before .before .before .before .rows-match .ensures (plain t) e) ∙ not-false _ (c .before .before .before .if1 .left)))
 
 pub matches-spec : {M : Type 1} → statement M
 matches-spec =

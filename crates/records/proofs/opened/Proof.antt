@@ -6,8 +6,6 @@ use Rattle.records.proofs.Rows.{encode-opened}
 use borrow.Author.Needs.{needs}
 use Rattle.records.proofs.opened.Statement.{statement}
 use Rattle.records.proofs.opened.Tie as tie
-use Rattle.records.proofs.opened.Reads as reads
-use Rattle.records.proofs.opened.Lts as lts
 
 sub-result : tie.Need-sub-result
 sub-result c = search needs

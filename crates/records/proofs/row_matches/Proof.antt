@@ -10,10 +10,6 @@ use Rattle.records.proofs.Comparing.{wrote-whole}
 use borrow.Author.Needs.{needs}
 use Rattle.records.proofs.row_matches.Statement.{statement}
 use Rattle.records.proofs.row_matches.Tie as tie
-use Rattle.records.proofs.row_matches.Reads as reads
-use Rattle.records.proofs.row_matches.Lts as lts
-use Rattle.records.proofs.write_row.Reads as write-row-reads
-use Rattle.tokens.proofs.equal.Reads as equal-reads
 
 slice-aggregate-write-row : tie.Need-slice-aggregate-write-row
 slice-aggregate-write-row c = search needs
@@ -30,10 +26,10 @@ equal-requires c κs = search needs
 returns : tie.Need-returns
 returns c =
     λ i e.
-        let p = c .before .before .before .before .before .before .before .pre in
-        let w = c .before .before .before .write-row .ensures i e in
-        let few : length (items (tree i)) ≤ 255 = rw (encode-injective i (p .seq) (sym e ∙ p .is)) (p .few) in
-        c .equal .ensures ∙ ap (same (c .before .before .before .before .before .before .before .args .part .now)) (wrote-whole w (row-length (c .before .before .before .before .before .before .before .args .kind) (c .before .before .before .before .before .before .before .args .r) i few))
+    let p = c .before .before .before .before .before .before .before .pre in
+    let w = c .before .before .before .write-row .ensures i e in
+    let few : length (items (tree i)) ≤ 255 = rw (encode-injective i (p .seq) (sym e ∙ p .is)) (p .few) in
+    c .equal .ensures ∙ ap (same (c .before .before .before .before .before .before .before .args .part .now)) (wrote-whole w (row-length (c .before .before .before .before .before .before .before .args .kind) (c .before .before .before .before .before .before .before .args .r) i few))
 
 pub row-matches-spec : {M : Type 1} → statement M
 row-matches-spec =

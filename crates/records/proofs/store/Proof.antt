@@ -1,24 +1,20 @@
-use mathlib.Core.Path.{sym, ap, _∙_}
-use Prim.Native.Nat.{ℕ, _-_, _≤_}
+use mathlib.Core.Path.{ap, _∙_}
+use Prim.Native.Nat.{_≤_}
 use native.Mathlib.Omega.{arith}
 use lib.ListN.{length}
 use Rattle.calls.specs.NodeTable.{rows}
-use Rattle.tokens.specs.Tokens.{tree, plain}
+use Rattle.tokens.specs.Tokens.{plain}
 use Rattle.tokens.proofs.Sequences.{tree-plain}
 use Rattle.tokens.proofs.Writes.{wrote-then}
 use Rattle.records.proofs.Forms.{formed-rows, formed-few, formed-rowed, wrote-table}
 use borrow.Author.Needs.{needs}
 use Rattle.records.proofs.store.Statement.{statement}
 use Rattle.records.proofs.store.Tie as tie
-use Rattle.records.proofs.store.Reads as reads
-use Rattle.records.proofs.store.Lts as lts
-use Rattle.records.proofs.write_rows.Reads as write-rows-reads
-use Rattle.records.proofs.zeros.Reads as zeros-reads
 
 write-rows-requires : tie.Need-write-rows-requires
 write-rows-requires c κs = formed-rowed (c .before .before .before .pre .0) _ (c .before .before .before .pre .1)
 
-few : (c : tie.After-slice-known2) → c .before .before .write-rows .result ≤ 65792
+few : (c : tie.After-slice-known2) → c .before .before .write-rows .result ≤ 65535
 few c =
     let f = c .before .before .before .before .before .before .pre .0 in
     let t = f .shown in
@@ -30,7 +26,7 @@ few c =
     )
 
 sub-zeros : tie.Need-sub-zeros
-sub-zeros c = few c
+sub-zeros c = omega (arith, few c)
 
 mul-zeros : tie.Need-mul-zeros
 mul-zeros c = omega (arith, few c)
@@ -53,8 +49,8 @@ same-length c = search needs
 returns : tie.Need-returns
 returns c =
     λ t e.
-        let w = c .before .before .before .before .before .before .write-rows .ensures (plain t) e in
-        wrote-table t (w .many) (wrote-then w (c .before .before .zeros .ensures))
+    let w = c .before .before .before .before .before .before .write-rows .ensures (plain t) e in
+    wrote-table t (w .many) (wrote-then w (c .before .before .zeros .ensures))
 
 pub store-spec : {M : Type 1} → statement M
 store-spec =

@@ -1,15 +1,9 @@
-use mathlib.Core.Path.{sym, ap, _∙_}
 use native.Mathlib.Omega.{arith}
-use lib.ListN.{length, take, drop}
 use lib.Seq.{length-take-le}
 use Rattle.records.proofs.Roots.{small-tree, large-tree, root-stands, wrote-part}
 use borrow.Author.Needs.{needs}
 use Rattle.records.proofs.walk.Statement.{statement}
 use Rattle.records.proofs.walk.Tie as tie
-use Rattle.records.proofs.walk.Reads as reads
-use Rattle.records.proofs.walk.Lts as lts
-use Rattle.records.proofs.walk_node.Reads as walk-node-reads
-use Rattle.tokens.proofs.fresh.Reads as fresh-reads
 
 fresh-requires : tie.Need-fresh-requires
 fresh-requires c κs = search needs
@@ -38,8 +32,8 @@ same-length-2 c = search needs
 returns-2 : tie.Need-returns-2
 returns-2 c =
     λ t h.
-        let n = length-take-le 512 (c .before .before .before .before .before .before .before .before .args .out .now) (c .before .before .before .before .before .before .before .before .pre .2) in
-        c .before .before .before .walk-node .ensures .not-there (omega (arith, c .if2 .taken)) (rw n (root-stands (c .before .before .before .before .before .before .before .before .args .n) (c .before .before .before .before .before .before .before .before .args .table .now) t (c .before .before .before .before .before .before .before .before .pre .0) (c .before .before .before .before .before .if1 .left) h))
+    let n = length-take-le 512 (c .before .before .before .before .before .before .before .before .args .out .now) (c .before .before .before .before .before .before .before .before .pre .2) in
+    c .before .before .before .walk-node .ensures .not-there (omega (arith, c .if2 .taken)) (rw n (root-stands (c .before .before .before .before .before .before .before .before .args .n) (c .before .before .before .before .before .before .before .before .args .table .now) t (c .before .before .before .before .before .before .before .before .pre .0) (c .before .before .before .before .before .if1 .left) h))
 
 same-length-3 : tie.Need-same-length-3
 same-length-3 c = search needs

@@ -1,17 +1,12 @@
-use mathlib.Core.Path.{ap, _∙_}
 use Prim.Native.Nat.{ℕ, _-_, _≤_}
 use native.Mathlib.Omega.{arith}
-use lib.ListN.{length, length-replicate}
+use lib.ListN.{length-replicate}
 use Rattle.calls.proofs.NodeTables.{entries-length}
 use Rattle.tokens.specs.Tokens.{tree}
 use Rattle.tokens.proofs.Writes.{wrote-then}
 use borrow.Author.Needs.{needs}
 use Rattle.records.proofs.write_places.Statement.{statement}
 use Rattle.records.proofs.write_places.Tie as tie
-use Rattle.records.proofs.write_places.Reads as reads
-use Rattle.records.proofs.write_places.Lts as lts
-use Rattle.records.proofs.write_entries.Reads as write-entries-reads
-use Rattle.records.proofs.zeros.Reads as zeros-reads
 
 write-entries-requires : tie.Need-write-entries-requires
 write-entries-requires c κs =
@@ -50,8 +45,8 @@ same-length c = search needs
 returns : tie.Need-returns
 returns c =
     λ j e.
-        let w = c .before .before .before .before .before .before .write-entries .ensures j e in
-        rw (← w .many) (wrote-then w (c .before .before .zeros .ensures))
+    let w = c .before .before .before .before .before .before .write-entries .ensures j e in
+    rw (← w .many) (wrote-then w (c .before .before .zeros .ensures))
 
 pub write-places-spec : {M : Type 1} → statement M
 write-places-spec =

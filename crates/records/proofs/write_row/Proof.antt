@@ -1,7 +1,7 @@
-use mathlib.Core.Path.{sym, ap, _∙_}
+use mathlib.Core.Path.{sym, _∙_}
 use native.Mathlib.Omega.{arith}
-use lib.ListN.{length, set, length-set}
-use Rattle.calls.proofs.NodeTables.{entries-length, padded-length}
+use lib.ListN.{set, length-set}
+use Rattle.calls.proofs.NodeTables.{entries-length}
 use Rattle.calls.specs.NodeTable.{entries}
 use Rattle.tokens.specs.Tokens.{tree}
 use Rattle.records.proofs.Rows.{row-length}
@@ -9,10 +9,6 @@ use Rattle.records.proofs.Writing.{wrote-row}
 use borrow.Author.Needs.{needs}
 use Rattle.records.proofs.write_row.Statement.{statement}
 use Rattle.records.proofs.write_row.Tie as tie
-use Rattle.records.proofs.write_row.Reads as reads
-use Rattle.records.proofs.write_row.Lts as lts
-use Rattle.records.proofs.write_places.Reads as write-places-reads
-use Rattle.tokens.proofs.item_count.Reads as item-count-reads
 
 slice-write-out : tie.Need-slice-write-out
 slice-write-out c = search needs
@@ -52,9 +48,9 @@ same-length c = c .before .out .given .1 ∙ simp length-set
 returns : tie.Need-returns
 returns c =
     λ i e.
-        wrote-row (c .before .before .before .before .before .before .before .args .kind) (c .before .before .before .before .item-count .result) (entries (c .before .before .before .before .before .before .before .args .r) (tree i)) (c .before .before .before .before .before .before .before .args .out .now) (omega arith)
-        (c .before .before .before .before .item-count .ensures .1 i e ∙ sym (entries-length (c .before .before .before .before .before .before .before .args .r) (tree i)))
-        (c .before .before .write-places .ensures i e)
+    wrote-row (c .before .before .before .before .before .before .before .args .kind) (c .before .before .before .before .item-count .result) (entries (c .before .before .before .before .before .before .before .args .r) (tree i)) (c .before .before .before .before .before .before .before .args .out .now) (omega arith)
+    (c .before .before .before .before .item-count .ensures .1 i e ∙ sym (entries-length (c .before .before .before .before .before .before .before .args .r) (tree i)))
+    (c .before .before .write-places .ensures i e)
 
 pub write-row-spec : {M : Type 1} → statement M
 write-row-spec =

@@ -6,8 +6,6 @@ use lib.ListN.{length, drop, replicate, length-set}
 use Rattle.records.proofs.Writing.{zero-step, wrote-zeros}
 use Rattle.records.proofs.zeros.Statement.{statement}
 use Rattle.records.proofs.zeros.Tie as tie
-use Rattle.records.proofs.zeros.Reads as reads
-use Rattle.records.proofs.zeros.Lts as lts
 
 abbrev Inv-loop : tie.InvT-loop
 Inv-loop k out₀ i₀ out i = (i ≤ k) × (length out ≡ length out₀) × (out ≡ replicate i 0 ++ drop i out₀)

@@ -1,4 +1,4 @@
-use mathlib.Core.Path.{_≡_, refl, sym, ap, _∙_}
+use mathlib.Core.Path.{sym, _∙_}
 use Rattle.update.proofs.Agree.{join-outside, join-inside, four-words}
 use Rattle.update.proofs.Updates.{the-form}
 use borrow.Author.Needs.{needs}
