@@ -1,5 +1,5 @@
-// The update of a tree in tokens by a restriction, and a group that joins. Below it the reduced forms of a judged sequence: one item whose
-// full leaves are consecutive.
+// The update of a tree in tokens by a restriction, and a group that joins. It writes the reduced form of the judged tree: one item whose full
+// leaves are consecutive.
 ghost use mathlib.Core.Path.{_≡_};
 ghost use Prim.Native.Nat.{ℕ, _≤_};
 ghost use lib.ListN.{length};
