@@ -1,3 +1,4 @@
--- The groups of a book by place; a tree and the groups whose orders it allows.
+-- The groups of a book by place; a tree and the groups whose orders it allows; what joining writes.
 pub mod Places
 pub mod Trees
+pub mod Joined

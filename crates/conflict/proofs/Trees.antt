@@ -60,27 +60,21 @@ first-all Gs l G ord w = all-append _ Gs (l ++ (G ∷ [])) (all-left _ Gs l (w .
 -- A walk down from the last group: no group; the last one cannot join; it joins, and the walk goes on.
 pub reaches-none : {n : ℕ} {Gs : List Restriction} {t : Forest} (book : List ℕ) (k count : ℕ) → Represents n Gs t → k ≤ count → count ≤ k → Reaches n Gs book k count k
 reaches-none {n} {Gs} book k count rep h g = record {
-  low = omega arith;
-  high = h;
   possible = let e : count ≡ k = omega arith in rw (e, from-none book k, append-nil) (represented-possible rep);
   one-more = λ l. absurd (omega arith);
 }
 
 pub reaches-last : {n : ℕ} {Gs : List Restriction} {t : Forest} (book : List ℕ) (k count : ℕ) → Represents n Gs t → k < count → join (group-at book (count - 1)) t ≡ none → Reaches n Gs book k count count
 reaches-last {n} {Gs} book k count rep h e = record {
-  low = omega arith;
-  high = omega arith;
   possible = rw (from-none book count, append-nil) (represented-possible rep);
   one-more = λ l. joined-not (group-at book (count - 1)) rep (Gs ++ groups-from book (count - 1) count)
       (λ ord w. let v = last-all Gs (groups-from book (count - 1) (count - 1)) (group-at book (count - 1)) ord (subst (λ l. AllConsecutive (Gs ++ l) ord) (from-last book (count - 1) count (omega arith)) w) in (all-left _ Gs (groups-from book (count - 1) (count - 1)) (v .1), v .0)) e;
 }
 
-pub reaches-more : {n : ℕ} {Gs : List Restriction} (book : List ℕ) (k count r : ℕ) → k < count → Reaches n (group-at book (count - 1) ∷ Gs) book k (count - 1) r → Reaches n Gs book k count r
-reaches-more {n} {Gs} book k count r h s = record {
-  low = s .low;
-  high = omega (arith, s .high);
-  possible = subst (λ l. Possible n (Gs ++ l)) (sym (from-last book r count (omega (arith, s .high)))) (fewer n _ _ (first-all Gs (groups-from book r (count - 1)) G) (s .possible));
-  one-more = λ l p. s .one-more l (fewer n _ _ (last-all Gs (groups-from book (r - 1) (count - 1)) G) (subst (λ l. Possible n (Gs ++ l)) (from-last book (r - 1) count (omega (arith, s .high))) p));
+pub reaches-more : {n : ℕ} {Gs : List Restriction} (book : List ℕ) (k count r : ℕ) → k < count → r ≤ count - 1 → Reaches n (group-at book (count - 1) ∷ Gs) book k (count - 1) r → Reaches n Gs book k count r
+reaches-more {n} {Gs} book k count r h g s = record {
+  possible = subst (λ l. Possible n (Gs ++ l)) (sym (from-last book r count (omega arith))) (fewer n _ _ (first-all Gs (groups-from book r (count - 1)) G) (s .possible));
+  one-more = λ l p. s .one-more l (fewer n _ _ (last-all Gs (groups-from book (r - 1) (count - 1)) G) (subst (λ l. Possible n (Gs ++ l)) (from-last book (r - 1) count (omega arith)) p));
 }
   where
     G : Restriction
@@ -107,10 +101,10 @@ module _ {n : ℕ} {new : Restriction} {kept : List Restriction} {book : List �
   pub conflicts-none : r ≡ k → conflicts-from n new kept (suc k) (groups-from book k count) ≡ []
   conflicts-none e = when-possible n new kept (suc k) (groups-from book k count) (subst (λ i. Possible n (new ∷ (kept ++ groups-from book i count))) e (s .possible))
 
-  pub conflicts-next : k < r
+  pub conflicts-next : k < r → r ≤ count
       → conflicts-from n new kept (suc k) (groups-from book k count) ≡ r ∷ conflicts-from n new (kept ++ (group-at book (r - 1) ∷ [])) (suc r) (groups-from book r count)
-  conflicts-next h =
-      ap (conflicts-from n new kept (suc k)) (from-split book k r count h (s .high))
+  conflicts-next h g =
+      ap (conflicts-from n new kept (suc k)) (from-split book k r count h g)
       ∙ when-impossible n new kept (suc k) (out ++ (G ∷ rest)) (λ p. u (fewer n _ _ (λ ord w. (w .0, all-append _ kept (G ∷ rest) (all-left _ kept (out ++ (G ∷ rest)) (w .1)) (all-right _ out (G ∷ rest) (all-right _ kept (out ++ (G ∷ rest)) (w .1))))) p))
       ∙ leave-out-next n new kept (suc k) r out G rest (omega (arith, from-length book k (r - 1))) u (s .possible)
       ∙ ap (λ (l : List ℕ). r ∷ l) (sym (when-impossible n new (kept ++ (G ∷ [])) (suc r) rest (λ p. u (subst (λ l. Possible n (new ∷ l)) (append-assoc kept (G ∷ []) rest) p))))
@@ -125,7 +119,7 @@ module _ {n : ℕ} {new : Restriction} {kept : List Restriction} {book : List �
       rest = groups-from book r count
 
       here : groups-from book (r - 1) count ≡ G ∷ rest
-      here = from-split book (r - 1) r count (omega arith) (s .high) ∙ ap (λ (l : List Restriction). l ++ (G ∷ rest)) (from-none book (r - 1))
+      here = from-split book (r - 1) r count (omega arith) g ∙ ap (λ (l : List Restriction). l ++ (G ∷ rest)) (from-none book (r - 1))
 
       u : Possible n (new ∷ (kept ++ (G ∷ rest))) → ⊥
       u p = s .one-more h (subst (λ l. Possible n (new ∷ (kept ++ l))) (sym here) p)

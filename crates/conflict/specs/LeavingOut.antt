@@ -2,7 +2,7 @@
 use mathlib.Core.Logic.{_↔_}
 use mathlib.Core.Bool.{true, false}
 use mathlib.Core.List.{List, [], _∷_, _++_, map}
-use Prim.Native.Nat.{ℕ, _-_, _≤_, _<_}
+use Prim.Native.Nat.{ℕ, _-_, _<_}
 use Rattle.orders.specs.Lists.{range}
 use Rattle.orders.specs.CircularOrder.{CircularOrder, Restriction, AllConsecutive, Possible}
 use Rattle.orders.specs.Tree.{Forest, Allowed}
@@ -26,8 +26,6 @@ pub record Represents (n : ℕ) (Gs : List Restriction) (t : Forest) : Type 0 wh
 -- Going down from the last of the groups from place k up to the count: those from place r on are possible with Gs, and with one more they are
 -- not, or there is no other.
 pub record Reaches (n : ℕ) (Gs : List Restriction) (book : List ℕ) (k count r : ℕ) : Type 0 where
-  pub low : k ≤ r
-  pub high : r ≤ count
   pub possible : Possible n (Gs ++ groups-from book r count)
   pub one-more : k < r → Possible n (Gs ++ groups-from book (r - 1) count) → ⊥
 

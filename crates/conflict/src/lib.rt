@@ -15,7 +15,7 @@ use update::Updated;
 // the first group that cannot join.
 fn reach(toks: &[u16], book: &[u64], n: usize, k: usize, count: usize) -> usize
     requires { ⌜ (Published n (now toks)) × (384 ≤ length (now book)) × (k ≤ count) × (count ≤ 96) ⌝ }
-    ensures { λ r. ⌜ ((t : Forest) (Gs : List Restriction) → now (toks .entry) ≡ flat t → Represents n Gs t
+    ensures { λ r. ⌜ (k ≤ r) × (r ≤ count) × ((t : Forest) (Gs : List Restriction) → now (toks .entry) ≡ flat t → Represents n Gs t
         → Reaches n Gs (now (book .entry)) k count r) ⌝ }
 {
     if k >= count {
@@ -36,7 +36,8 @@ fn reach(toks: &[u16], book: &[u64], n: usize, k: usize, count: usize) -> usize
 // group and of those kept before. Going down from the last group, the first one that cannot join is the next to be kept.
 fn leave_out(toks: &[u16], book: &[u64], n: usize, k: usize, count: usize, out: &mut [u16]) -> usize
     requires { ⌜ (Published n (now toks)) × (384 ≤ length (now book)) × (k ≤ count) × (count ≤ 96) × (count - k ≤ length (now out)) ⌝ }
-    ensures { λ r. ⌜ ((t : Forest) (new : Restriction) (kept : List Restriction) → now (toks .entry) ≡ flat t → Represents n (new ∷ kept) t
+    ensures { λ r. ⌜ (r ≤ count - k)
+        × ((t : Forest) (new : Restriction) (kept : List Restriction) → now (toks .entry) ≡ flat t → Represents n (new ∷ kept) t
         → Wrote (conflicts-from n new kept (suc k) (groups-from (now (book .entry)) k count)) (now (out .entry)) (now (out .exit)) r) ⌝ }
 {
     let number = reach(toks, book, n, k, count);
