@@ -31,10 +31,16 @@ pub record Ring : Type 0 where
   pub nodes : List ℕ
   pub book : List ℕ
 
+abbrev pub ring : Answer → List ℕ → List ℕ → Ring
+ring answer nodes book = record { answer = answer; nodes = nodes; book = book }
+
 -- A call that fills one table: its answer, and the table afterwards.
 pub record Filled : Type 0 where
   pub answer : Answer
   pub table : List ℕ
+
+abbrev pub filled-as : Answer → List ℕ → Filled
+filled-as answer table = record { answer = answer; table = table }
 
 abbrev pub is-none : {A : Type 0} → Option A → Bool
 is-none none = true
@@ -51,8 +57,8 @@ open-refusal n have nodes book =
     down (refuse (bad-size n) RingSize ∷ refuse (short-nodes have nodes || short 384 book) ShortTable ∷ [])
 
 unfoldable pub opened : Option Refusal → ℕ → List ℕ → List ℕ → Ring
-opened (some r) n nodes book = record { answer = Refused r; nodes = nodes; book = book }
-opened none n nodes book = record { answer = Done 0; nodes = over (table-of (fresh n)) nodes; book = emptied book }
+opened (some r) n nodes book = ring (Refused r) nodes book
+opened none n nodes book = ring (Done 0) (over (table-of (fresh n)) nodes) (emptied book)
 
 unfoldable pub open-call : ℕ → ℕ → List ℕ → List ℕ → Ring
 open-call n have nodes book = opened (open-refusal n have nodes book) n nodes book
@@ -71,8 +77,8 @@ join-refusal n have nodes book count list =
 
 -- "The accepted group takes the next book place in every case." Answers the new count of the book's groups.
 unfoldable pub joined : Option Refusal → Option Forest → List ℕ → List ℕ → ℕ → List ℕ → Ring
-joined (some r) t nodes book count list = record { answer = Refused r; nodes = nodes; book = book }
-joined none t nodes book count list = record { answer = Done (count + 1); nodes = with-tree t nodes; book = booked book count (elem list) }
+joined (some r) t nodes book count list = ring (Refused r) nodes book
+joined none t nodes book count list = ring (Done (count + 1)) (with-tree t nodes) (booked book count (elem list))
 
 unfoldable pub join-call : ℕ → ℕ → List ℕ → List ℕ → ℕ → List ℕ → Ring
 join-call n have nodes book count list =
@@ -84,8 +90,8 @@ trial-call n have nodes book count list = join-call n have nodes book count list
 
 -- A call that fills one table from a ring's tree: its answer and what it writes, or the table as it was.
 abbrev pub filled : Option Refusal → ℕ → List ℕ → List ℕ → Filled
-filled (some r) value xs table = record { answer = Refused r; table = table }
-filled none value xs table = record { answer = Done value; table = over xs table }
+filled (some r) value xs table = filled-as (Refused r) table
+filled none value xs table = filled-as (Done value) (over xs table)
 
 abbrev pub of-tree : Option Forest → (Forest → List ℕ) → List ℕ
 of-tree none f = []
@@ -110,11 +116,11 @@ write-call n have nodes bytes =
 
 -- The tree text, read: checks 1, 2 and 12; the tree, an empty book. Answers the count of the book's groups, 0.
 unfoldable pub read-outcome : Found → List ℕ → List ℕ → Ring
-read-outcome (refused p) nodes book = record { answer = Refused (TreeText p); nodes = nodes; book = book }
-read-outcome (tree t) nodes book = record { answer = Done 0; nodes = over (table-of t) nodes; book = emptied book }
+read-outcome (refused p) nodes book = ring (Refused (TreeText p)) nodes book
+read-outcome (tree t) nodes book = ring (Done 0) (over (table-of t) nodes) (emptied book)
 
 pub data ReadCall (n have : ℕ) (text nodes book : List ℕ) : Ring → Type 0 where
-  unread : {r : Refusal} → open-refusal n have nodes book ≡ some r → ReadCall n have text nodes book (record { answer = Refused r; nodes = nodes; book = book })
+  unread : {r : Refusal} → open-refusal n have nodes book ≡ some r → ReadCall n have text nodes book (ring (Refused r) nodes book)
   read : {f : Found} → open-refusal n have nodes book ≡ none → Reads n text f → ReadCall n have text nodes book (read-outcome f nodes book)
 
 -- The aim of the book's group with the number k: checks 1, 2, 3, 9, 10. Answers the bin.
