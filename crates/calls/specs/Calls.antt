@@ -46,6 +46,18 @@ abbrev pub is-none : {A : Type 0} → Option A → Bool
 is-none none = true
 is-none (some x) = false
 
+-- Checks 1 to 3 of a call that is lent a node table, where `other` says that another table is too short; of one that is lent a ring.
+abbrev pub tree-checks : ℕ → ℕ → List ℕ → Bool → List (Option Refusal)
+tree-checks n have nodes other =
+    refuse (bad-size n) RingSize ∷ refuse (short-nodes have nodes || other) ShortTable ∷ refuse (is-none (tree-in n nodes)) NotInForm ∷ []
+
+abbrev pub ring-checks : ℕ → ℕ → List ℕ → List ℕ → ℕ → List (Option Refusal)
+ring-checks n have nodes book count =
+    refuse (bad-size n) RingSize
+    ∷ refuse (short-nodes have nodes || short 384 book) ShortTable
+    ∷ refuse (is-none (tree-in n nodes) || not (book-in-form? n book count)) NotInForm
+    ∷ []
+
 -- A ring with this tree in its node table.
 abbrev pub with-tree : Option Forest → List ℕ → List ℕ
 with-tree none nodes = nodes
@@ -70,10 +82,8 @@ joined-tree n nodes list = then (tree-in n nodes) (join (elem list))
 unfoldable pub join-refusal : ℕ → ℕ → List ℕ → List ℕ → ℕ → List ℕ → Option Refusal
 join-refusal n have nodes book count list =
     down
-    (refuse (bad-size n) RingSize
-    ∷ refuse (short-nodes have nodes || short 384 book) ShortTable
-    ∷ refuse (is-none (tree-in n nodes) || not (book-in-form? n book count)) NotInForm
-    ∷ (list-checks n list ++ (refuse (eqb count 96) BookFull ∷ refuse (is-none (joined-tree n nodes list)) Impossible ∷ [])))
+    (ring-checks n have nodes book count
+    ++ (list-checks n list ++ (refuse (eqb count 96) BookFull ∷ refuse (is-none (joined-tree n nodes list)) Impossible ∷ [])))
 
 -- "The accepted group takes the next book place in every case." Answers the new count of the book's groups.
 unfoldable pub joined : Option Refusal → Option Forest → List ℕ → List ℕ → ℕ → List ℕ → Ring
@@ -100,7 +110,7 @@ of-tree (some t) f = f t
 -- The standard order: checks 1, 2 (n places for the order), 3. Answers n.
 unfoldable pub order-refusal : ℕ → ℕ → List ℕ → List ℕ → Option Refusal
 order-refusal n have nodes order =
-    down (refuse (bad-size n) RingSize ∷ refuse (short-nodes have nodes || short n order) ShortTable ∷ refuse (is-none (tree-in n nodes)) NotInForm ∷ [])
+    down (tree-checks n have nodes (short n order))
 
 unfoldable pub order-call : ℕ → ℕ → List ℕ → List ℕ → Filled
 order-call n have nodes order = filled (order-refusal n have nodes order) n (of-tree (tree-in n nodes) standard) order
@@ -108,7 +118,7 @@ order-call n have nodes order = filled (order-refusal n have nodes order) n (of-
 -- The tree text, written: checks 1, 2 (2,048 bytes), 3. Answers the length.
 unfoldable pub write-refusal : ℕ → ℕ → List ℕ → List ℕ → Option Refusal
 write-refusal n have nodes bytes =
-    down (refuse (bad-size n) RingSize ∷ refuse (short-nodes have nodes || short 2048 bytes) ShortTable ∷ refuse (is-none (tree-in n nodes)) NotInForm ∷ [])
+    down (tree-checks n have nodes (short 2048 bytes))
 
 unfoldable pub write-call : ℕ → ℕ → List ℕ → List ℕ → Filled
 write-call n have nodes bytes =
@@ -130,12 +140,10 @@ group-numbered book k = marked (group-words book (k - 1))
 unfoldable pub aim-refusal : ℕ → ℕ → List ℕ → List ℕ → ℕ → ℕ → Option Refusal
 aim-refusal n have nodes book count k =
     down
-    (refuse (bad-size n) RingSize
-    ∷ refuse (short-nodes have nodes || short 384 book) ShortTable
-    ∷ refuse (is-none (tree-in n nodes) || not (book-in-form? n book count)) NotInForm
-    ∷ refuse (eqb k 0 || ltb count k) NoSuchGroup
+    (ring-checks n have nodes book count
+    ++ (refuse (eqb k 0 || ltb count k) NoSuchGroup
     ∷ refuse (not (consecutive? (group-numbered book k) (of-tree (tree-in n nodes) standard))) NotConsecutive
-    ∷ [])
+    ∷ []))
 
 abbrev pub answered : Option Refusal → ℕ → Answer
 answered (some r) value = Refused r
