@@ -1,10 +1,20 @@
 // The book: a table of 384 mark words, four for each of up to 96 groups; and the list of a group that is to join it.
 ghost use mathlib.Core.Path.{_≡_};
-ghost use Prim.Native.Nat.{_≤_, _<_};
+ghost use Prim.Native.Nat.{ℕ, _≤_, _<_, _+_, _^_};
 ghost use lib.ListN.{length};
+ghost use mathlib.Core.List.{List, []};
 ghost use Rattle.orders.specs.Lists.{elem};
+ghost use Rattle.calls.specs.Refusals.{down, bad-leaf, list-checks};
 ghost use Rattle.calls.specs.Book.{group-in-form?, book-in-form?, booked, emptied};
 ghost use Rattle.book.specs.Groups.{groups-in-form?};
+ghost use Rattle.book.specs.Lists.{verdict, Seen};
+use calls::Refusal;
+
+// What the check of a group's list says: it is a list of different leaves of the ring, or why it is refused.
+pub enum Checked {
+    Fine,
+    Bad(Refusal),
+}
 
 // Whether the group of these four words has a mark, and marks of leaves up to n only.
 fn group_in_form(words: &[u64], n: usize) -> bool
@@ -63,4 +73,38 @@ pub fn clear(book: &mut [u64])
     ensures { λ r. ⌜ now (book .exit) ≡ emptied (now (book .entry)) ⌝ }
 {
     marks::clear(&mut book[0..384]);
+}
+
+// Checks 5 and 6 on the part of a list from place k on; `seen` has the marks of the leaves before it, and gets more of them.
+fn bad_leaf(list: &[u16], n: usize, k: usize, seen: &mut [u64]) -> Checked
+    requires { ⌜ (n ≤ 256) × (length (now seen) ≡ 4) × (k + length (now list) < 2 ^ 64) ⌝ }
+    ensures { λ r. ⌜ ((earlier : List ℕ) → Seen n (now (seen .entry)) earlier → verdict r ≡ bad-leaf n earlier k (now (list .entry))) ⌝ }
+{
+    if list.len() == 0 {
+        return Checked::Fine;
+    }
+    let b = list[0];
+    if b == 0 {
+        return Checked::Bad(Refusal::OutsideRing(k));
+    }
+    if b as usize > n {
+        return Checked::Bad(Refusal::OutsideRing(k));
+    }
+    if marks::test(seen, b) {
+        return Checked::Bad(Refusal::Repeated(k));
+    }
+    marks::set(seen, b);
+    bad_leaf(&list[1..], n, k + 1, seen)
+}
+
+// Checks 4, 5 and 6: whether the list is a group of a ring with n leaves.
+pub fn check_list(list: &[u16], n: usize) -> Checked
+    requires { ⌜ n ≤ 256 ⌝ }
+    ensures { λ r. ⌜ verdict r ≡ down (list-checks n (now (list .entry))) ⌝ }
+{
+    if list.len() == 0 {
+        return Checked::Bad(Refusal::EmptyGroup);
+    }
+    let mut seen = [0u64; 4];
+    bad_leaf(list, n, 0, &mut seen)
 }

@@ -31,14 +31,32 @@ pub record Ring : Type 0 where
   pub nodes : List ℕ
   pub book : List ℕ
 
+abbrev pub ring : Answer → List ℕ → List ℕ → Ring
+ring answer nodes book = record { answer = answer; nodes = nodes; book = book }
+
 -- A call that fills one table: its answer, and the table afterwards.
 pub record Filled : Type 0 where
   pub answer : Answer
   pub table : List ℕ
 
+abbrev pub filled-as : Answer → List ℕ → Filled
+filled-as answer table = record { answer = answer; table = table }
+
 abbrev pub is-none : {A : Type 0} → Option A → Bool
 is-none none = true
 is-none (some x) = false
+
+-- Checks 1 to 3 of a call that is lent a node table, where `other` says that another table is too short; of one that is lent a ring.
+abbrev pub tree-checks : ℕ → ℕ → List ℕ → Bool → List (Option Refusal)
+tree-checks n have nodes other =
+    refuse (bad-size n) RingSize ∷ refuse (short-nodes have nodes || other) ShortTable ∷ refuse (is-none (tree-in n nodes)) NotInForm ∷ []
+
+abbrev pub ring-checks : ℕ → ℕ → List ℕ → List ℕ → ℕ → List (Option Refusal)
+ring-checks n have nodes book count =
+    refuse (bad-size n) RingSize
+    ∷ refuse (short-nodes have nodes || short 384 book) ShortTable
+    ∷ refuse (is-none (tree-in n nodes) || not (book-in-form? n book count)) NotInForm
+    ∷ []
 
 -- A ring with this tree in its node table.
 abbrev pub with-tree : Option Forest → List ℕ → List ℕ
@@ -51,8 +69,8 @@ open-refusal n have nodes book =
     down (refuse (bad-size n) RingSize ∷ refuse (short-nodes have nodes || short 384 book) ShortTable ∷ [])
 
 unfoldable pub opened : Option Refusal → ℕ → List ℕ → List ℕ → Ring
-opened (some r) n nodes book = record { answer = Refused r; nodes = nodes; book = book }
-opened none n nodes book = record { answer = Done 0; nodes = over (table-of (fresh n)) nodes; book = emptied book }
+opened (some r) n nodes book = ring (Refused r) nodes book
+opened none n nodes book = ring (Done 0) (over (table-of (fresh n)) nodes) (emptied book)
 
 unfoldable pub open-call : ℕ → ℕ → List ℕ → List ℕ → Ring
 open-call n have nodes book = opened (open-refusal n have nodes book) n nodes book
@@ -64,15 +82,13 @@ joined-tree n nodes list = then (tree-in n nodes) (join (elem list))
 unfoldable pub join-refusal : ℕ → ℕ → List ℕ → List ℕ → ℕ → List ℕ → Option Refusal
 join-refusal n have nodes book count list =
     down
-    (refuse (bad-size n) RingSize
-    ∷ refuse (short-nodes have nodes || short 384 book) ShortTable
-    ∷ refuse (is-none (tree-in n nodes) || not (book-in-form? n book count)) NotInForm
-    ∷ (list-checks n list ++ (refuse (eqb count 96) BookFull ∷ refuse (is-none (joined-tree n nodes list)) Impossible ∷ [])))
+    (ring-checks n have nodes book count
+    ++ (list-checks n list ++ (refuse (eqb count 96) BookFull ∷ refuse (is-none (joined-tree n nodes list)) Impossible ∷ [])))
 
 -- "The accepted group takes the next book place in every case." Answers the new count of the book's groups.
 unfoldable pub joined : Option Refusal → Option Forest → List ℕ → List ℕ → ℕ → List ℕ → Ring
-joined (some r) t nodes book count list = record { answer = Refused r; nodes = nodes; book = book }
-joined none t nodes book count list = record { answer = Done (count + 1); nodes = with-tree t nodes; book = booked book count (elem list) }
+joined (some r) t nodes book count list = ring (Refused r) nodes book
+joined none t nodes book count list = ring (Done (count + 1)) (with-tree t nodes) (booked book count (elem list))
 
 unfoldable pub join-call : ℕ → ℕ → List ℕ → List ℕ → ℕ → List ℕ → Ring
 join-call n have nodes book count list =
@@ -84,8 +100,8 @@ trial-call n have nodes book count list = join-call n have nodes book count list
 
 -- A call that fills one table from a ring's tree: its answer and what it writes, or the table as it was.
 abbrev pub filled : Option Refusal → ℕ → List ℕ → List ℕ → Filled
-filled (some r) value xs table = record { answer = Refused r; table = table }
-filled none value xs table = record { answer = Done value; table = over xs table }
+filled (some r) value xs table = filled-as (Refused r) table
+filled none value xs table = filled-as (Done value) (over xs table)
 
 abbrev pub of-tree : Option Forest → (Forest → List ℕ) → List ℕ
 of-tree none f = []
@@ -94,7 +110,7 @@ of-tree (some t) f = f t
 -- The standard order: checks 1, 2 (n places for the order), 3. Answers n.
 unfoldable pub order-refusal : ℕ → ℕ → List ℕ → List ℕ → Option Refusal
 order-refusal n have nodes order =
-    down (refuse (bad-size n) RingSize ∷ refuse (short-nodes have nodes || short n order) ShortTable ∷ refuse (is-none (tree-in n nodes)) NotInForm ∷ [])
+    down (tree-checks n have nodes (short n order))
 
 unfoldable pub order-call : ℕ → ℕ → List ℕ → List ℕ → Filled
 order-call n have nodes order = filled (order-refusal n have nodes order) n (of-tree (tree-in n nodes) standard) order
@@ -102,7 +118,7 @@ order-call n have nodes order = filled (order-refusal n have nodes order) n (of-
 -- The tree text, written: checks 1, 2 (2,048 bytes), 3. Answers the length.
 unfoldable pub write-refusal : ℕ → ℕ → List ℕ → List ℕ → Option Refusal
 write-refusal n have nodes bytes =
-    down (refuse (bad-size n) RingSize ∷ refuse (short-nodes have nodes || short 2048 bytes) ShortTable ∷ refuse (is-none (tree-in n nodes)) NotInForm ∷ [])
+    down (tree-checks n have nodes (short 2048 bytes))
 
 unfoldable pub write-call : ℕ → ℕ → List ℕ → List ℕ → Filled
 write-call n have nodes bytes =
@@ -110,11 +126,11 @@ write-call n have nodes bytes =
 
 -- The tree text, read: checks 1, 2 and 12; the tree, an empty book. Answers the count of the book's groups, 0.
 unfoldable pub read-outcome : Found → List ℕ → List ℕ → Ring
-read-outcome (refused p) nodes book = record { answer = Refused (TreeText p); nodes = nodes; book = book }
-read-outcome (tree t) nodes book = record { answer = Done 0; nodes = over (table-of t) nodes; book = emptied book }
+read-outcome (refused p) nodes book = ring (Refused (TreeText p)) nodes book
+read-outcome (tree t) nodes book = ring (Done 0) (over (table-of t) nodes) (emptied book)
 
 pub data ReadCall (n have : ℕ) (text nodes book : List ℕ) : Ring → Type 0 where
-  unread : {r : Refusal} → open-refusal n have nodes book ≡ some r → ReadCall n have text nodes book (record { answer = Refused r; nodes = nodes; book = book })
+  unread : {r : Refusal} → open-refusal n have nodes book ≡ some r → ReadCall n have text nodes book (ring (Refused r) nodes book)
   read : {f : Found} → open-refusal n have nodes book ≡ none → Reads n text f → ReadCall n have text nodes book (read-outcome f nodes book)
 
 -- The aim of the book's group with the number k: checks 1, 2, 3, 9, 10. Answers the bin.
@@ -124,12 +140,10 @@ group-numbered book k = marked (group-words book (k - 1))
 unfoldable pub aim-refusal : ℕ → ℕ → List ℕ → List ℕ → ℕ → ℕ → Option Refusal
 aim-refusal n have nodes book count k =
     down
-    (refuse (bad-size n) RingSize
-    ∷ refuse (short-nodes have nodes || short 384 book) ShortTable
-    ∷ refuse (is-none (tree-in n nodes) || not (book-in-form? n book count)) NotInForm
-    ∷ refuse (eqb k 0 || ltb count k) NoSuchGroup
+    (ring-checks n have nodes book count
+    ++ (refuse (eqb k 0 || ltb count k) NoSuchGroup
     ∷ refuse (not (consecutive? (group-numbered book k) (of-tree (tree-in n nodes) standard))) NotConsecutive
-    ∷ [])
+    ∷ []))
 
 abbrev pub answered : Option Refusal → ℕ → Answer
 answered (some r) value = Refused r

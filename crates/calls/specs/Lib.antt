@@ -4,3 +4,4 @@ pub mod Book
 pub mod NodeTable
 pub mod Refusals
 pub mod Calls
+pub mod Demands

@@ -1,0 +1,1 @@
+-- The checks down the table, one by one.
