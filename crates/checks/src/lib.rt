@@ -38,7 +38,14 @@ pub fn lent_tree(n: usize, nodes: &[u16], have: usize, other: bool, toks: &mut [
 }
 
 // Checks 1, 2 and 3 on a node table of `have` records and a book of `count` groups. Writes the tree to the start of toks.
-pub fn lent_ring(n: usize, nodes: &[u16], have: usize, book: &[u64], count: usize, toks: &mut [u16]) -> Lent
+pub fn lent_ring(
+    n: usize,
+    nodes: &[u16],
+    have: usize,
+    book: &[u64],
+    count: usize,
+    toks: &mut [u16],
+) -> Lent
     requires { ⌜ 512 ≤ length (now toks) ⌝ }
     ensures { λ r. ⌜ LendsRing n have (now (nodes .entry)) (now (book .entry)) count (now (toks .entry)) (now (toks .exit)) r ⌝ }
 {
