@@ -41,7 +41,8 @@ module _ (n : ℕ) (book : List ℕ) (count : ℕ) (list table : List ℕ) where
     where
       go : (a : Bool) → eqb n 0 ≡ a → (b : Bool) → ltb 256 n ≡ b → (c : Bool) → ltb (length book) 384 ≡ c → (d : Bool) → ltb (length table) 96 ≡ d
           → (f : Bool) → book-in-form? n book count ≡ f
-          → down (refuse (a || b) RingSize ∷ (refuse (c || d) ShortTable ∷ (refuse (not f) NotInForm ∷ list-checks n list))) ≡ none → LentBook n book count list table
+          → down (refuse (a || b) RingSize ∷ (refuse (c || d) ShortTable ∷ (refuse (not f) NotInForm ∷ list-checks n list))) ≡ none
+          → LentBook n book count list table
       go true p b q c r d s f w e = absurd (let i : _≡_ {A = ℕ} 0 1 = cc in omega arith)
       go false p true q c r d s f w e = absurd (let i : _≡_ {A = ℕ} 0 1 = cc in omega arith)
       go false p false q true r d s f w e = absurd (let i : _≡_ {A = ℕ} 0 1 = cc in omega arith)
@@ -59,7 +60,13 @@ module _ (n : ℕ) (book : List ℕ) (count : ℕ) (list table : List ℕ) where
   pub lent-passes : LentBook n book count list table → conflict-refusal n book count list table ≡ none
   unfolding conflict-refusal
   lent-passes h =
-      rw (ne-eqb n 0 (λ e. omega (arith, h .some-leaf)), le-ltb 256 n (h .few-leaves), le-ltb (length book) 384 (h .all-words), le-ltb (length table) 96 (h .all-places), h .in-form)
+      rw (
+        ne-eqb n 0 (λ e. omega (arith, h .some-leaf)),
+        le-ltb 256 n (h .few-leaves),
+        le-ltb (length book) 384 (h .all-words),
+        le-ltb (length table) 96 (h .all-places),
+        h .in-form,
+      )
       (passes-iff n list .1 (h .group))
 
 pub few-groups : (n : ℕ) (book : List ℕ) (count : ℕ) → book-in-form? n book count ≡ true → count ≤ 96
@@ -67,7 +74,8 @@ unfolding book-in-form?
 few-groups n book count e = leb-true count 96 (both {a = leb count 96} Iff·rfl Iff·rfl .0 e .0)
 
 -- The whole list.
-pub list-is : (n : ℕ) (book : List ℕ) (count : ℕ) (list : List ℕ) → conflicts-from n (elem list) [] 1 (groups-from book 0 count) ≡ conflicts-of n book count list
+pub list-is : (n : ℕ) (book : List ℕ) (count : ℕ) (list : List ℕ)
+    → conflicts-from n (elem list) [] 1 (groups-from book 0 count) ≡ conflicts-of n book count list
 unfolding conflicts-of
 list-is n book count list = rw (from-all book count) (conflicts-all n (groups book count) (elem list))
 
@@ -98,7 +106,8 @@ conflict-meets n book count list table h =
     (record {
       numbers = xs;
       answered = refl;
-      places = subst (λ k. take k (padded 96 xs ++ drop (length (padded 96 xs)) table) ≡ padded 96 xs) (padded-length xs few) (take-append-seam (padded 96 xs) (drop (length (padded 96 xs)) table));
+      places = subst (λ k. take k (padded 96 xs ++ drop (length (padded 96 xs)) table) ≡ padded 96 xs) (padded-length xs few)
+          (take-append-seam (padded 96 xs) (drop (length (padded 96 xs)) table));
       demand = conflict-demand-3 n (groups book count) (elem list);
     })
 
@@ -109,11 +118,13 @@ drop-zeros zero (suc k) = let e : 0 - suc k ≡ 0 = omega arith in rw e
 drop-zeros (suc w) (suc k) = let e : suc w - suc k ≡ w - k = omega arith in rw e (drop-zeros w k)
 
 module _ (n : ℕ) (book : List ℕ) (count : ℕ) (list table : List ℕ) where
-  pub call-refused : {r : Checked} {why : Refusal} → r ≡ Bad why → verdict r ≡ conflict-refusal n book count list table → filled-as (Refused why) table ≡ conflict-call n book count list table
+  pub call-refused : {r : Checked} {why : Refusal} → r ≡ Bad why → verdict r ≡ conflict-refusal n book count list table
+      → filled-as (Refused why) table ≡ conflict-call n book count list table
   unfolding conflict-call
   call-refused e h = let q = sym h ∙ ap verdict e in rw q
 
-  pub call-found : {numbers new : List ℕ} {k m : ℕ} → conflict-refusal n book count list table ≡ none → Wrote (conflicts-of n book count list) (replicate 96 0) numbers k → Wrote numbers table new m
+  pub call-found : {numbers new : List ℕ} {k m : ℕ} → conflict-refusal n book count list table ≡ none
+      → Wrote (conflicts-of n book count list) (replicate 96 0) numbers k → Wrote numbers table new m
       → filled-as (Done k) new ≡ conflict-call n book count list table
   unfolding conflict-call
   call-found {numbers} h a b =
@@ -121,5 +132,6 @@ module _ (n : ℕ) (book : List ℕ) (count : ℕ) (list table : List ℕ) where
       let e : numbers ≡ padded 96 xs = a .text ∙ ap (λ (l : List ℕ). xs ++ l) (drop-zeros 96 (length xs)) in
       rw (h, a .many, b .text, e)
 
-  pub call-meets : {answer : Answer} {new : List ℕ} → filled-as answer new ≡ conflict-call n book count list table → LentBook n book count list table → Named n book count list answer new
+  pub call-meets : {answer : Answer} {new : List ℕ} → filled-as answer new ≡ conflict-call n book count list table
+      → LentBook n book count list table → Named n book count list answer new
   call-meets e h = subst (λ (c : Filled). Named n book count list (c .answer) (c .table)) (sym e) (conflict-meets n book count list table h)

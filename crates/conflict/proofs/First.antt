@@ -53,11 +53,14 @@ order-few n ord h c =
 
 module _ (n : ℕ) (G : Restriction) (few : n ≤ 256) where
   same-leaves : (ord : List ℕ) → CircularOrder n ord → All (λ x. marked (words-of 4 G) x ≡ G x) ord
-  same-leaves ord c = all-map (λ b. (1 ≤ b) × (b ≤ 256)) (λ x. marked (words-of 4 G) x ≡ G x) (λ b r. marked-words 4 G b (r .0) (omega (arith, r .1))) ord (order-few n ord few c)
+  same-leaves ord c =
+      all-map (λ b. (1 ≤ b) × (b ≤ 256)) (λ x. marked (words-of 4 G) x ≡ G x) (λ b r. marked-words 4 G b (r .0) (omega (arith, r .1))) ord
+      (order-few n ord few c)
 
   to-marks : (ord : List ℕ) → CircularOrder n ord → Consecutive G ord → Consecutive (marked (words-of 4 G)) ord
   to-marks ord c h =
-      agree-consecutive G (marked (words-of 4 G)) ord (all-map (λ x. marked (words-of 4 G) x ≡ G x) (λ x. G x ≡ marked (words-of 4 G) x) (λ x e. sym e) ord (same-leaves ord c)) h
+      agree-consecutive G (marked (words-of 4 G)) ord
+      (all-map (λ x. marked (words-of 4 G) x ≡ G x) (λ x. G x ≡ marked (words-of 4 G) x) (λ x e. sym e) ord (same-leaves ord c)) h
 
   pub new-represented : {u : Forest} → join (marked (words-of 4 G)) (fresh n) ≡ some u → Represents n (G ∷ []) u
   new-represented e =

@@ -22,7 +22,8 @@ pub record Next (G : Restriction) (t : Forest) (new : List ℕ) (m : ℕ) : Type
   pub text : take (m - 0) (drop 0 new) ≡ flat tree
   pub room : m ≤ length new
 
-answers-tree : {o : Option Forest} {old new : List ℕ} {r : Updated} {m : ℕ} → r ≡ Tokens m → Answers o old new r → (u : Forest) × (o ≡ some u) × Wrote (flat u) old new m
+answers-tree : {o : Option Forest} {old new : List ℕ} {r : Updated} {m : ℕ} → r ≡ Tokens m → Answers o old new r
+    → (u : Forest) × (o ≡ some u) × Wrote (flat u) old new m
 answers-tree e (impossible q) = let z : _≡_ {A = ℕ} 0 1 = cc in absurd (omega (arith, z))
 answers-tree {old = old} {new} {r} {m} e (written {t = t} {k = k} w) = let n : k ≡ m = cc in (t, refl, subst (Wrote (flat t) old new) n w)
 
@@ -34,11 +35,17 @@ pub next-tree : {H G : Restriction} (t : Forest) {old new : List ℕ} {r : Updat
 next-tree t {old} {new} {r} {m} g e a =
     let x = answers-tree e (subst (λ H. Answers (join H t) old new r) g a) in
     let w = x .2 in
-    record { tree = x .0; is = x .1; text = read-part w; room = omega (arith, w .many, ap length (w .text), length-append (flat (x .0)) (drop (length (flat (x .0))) old)) }
+    record {
+      tree = x .0;
+      is = x .1;
+      text = read-part w;
+      room = omega (arith, w .many, ap length (w .text), length-append (flat (x .0)) (drop (length (flat (x .0))) old));
+    }
 
 pub no-tree : {H G : Restriction} (t : Forest) {old new : List ℕ} {r : Updated} → H ≡ G → r ≡ Impossible → Answers (join H t) old new r → join G t ≡ none
 no-tree t {old} {new} {r} g e a = answers-none e (subst (λ H. Answers (join H t) old new r) g a)
 
 -- The next tree is in form.
-pub next-published : {n : ℕ} {l : List ℕ} (p : Published n l) {G : Restriction} {new : List ℕ} {m : ℕ} → Next G (p .0) new m → Published n (take (m - 0) (drop 0 new))
+pub next-published : {n : ℕ} {l : List ℕ} (p : Published n l) {G : Restriction} {new : List ℕ} {m : ℕ} → Next G (p .0) new m
+    → Published n (take (m - 0) (drop 0 new))
 next-published {n} p {G} x = (x .tree, x .text, join-some n G (p .0) (x .tree) (p .2) (x .is) .form, p .3)

@@ -3,7 +3,7 @@ use mathlib.Core.Path.{_≡_, refl, sym, ap, _∙_}
 use mathlib.Core.List.{List, [], _∷_, _++_, map, map-append}
 use Prim.Native.Nat.{ℕ, suc, _+_, _-_, _*_, _≤_, _<_}
 use native.Mathlib.Omega.{arith}
-use lib.ListN.{length, take, drop, length-take, length-drop}
+use lib.ListN.{length, take, drop}
 use Rattle.orders.specs.Lists.{range}
 use Rattle.orders.specs.CircularOrder.{Restriction}
 use Rattle.orders.proofs.Ranges.{range-length, range-append}
@@ -42,18 +42,19 @@ from-one : (book : List ℕ) (k m : ℕ) → m ≡ suc k → groups-from book k 
 unfolding groups-from
 from-one book k m h = let e : m - k ≡ 1 = omega arith in rw e
 
-pub from-split : (book : List ℕ) (k r count : ℕ) → k < r → r ≤ count → groups-from book k count ≡ groups-from book k (r - 1) ++ (group-at book (r - 1) ∷ groups-from book r count)
+pub from-split : (book : List ℕ) (k r count : ℕ) → k < r → r ≤ count
+    → groups-from book k count ≡ groups-from book k (r - 1) ++ (group-at book (r - 1) ∷ groups-from book r count)
 from-split book k r count h g =
     from-cut book k (r - 1) count (omega arith) (omega arith)
-    ∙ ap (λ (l : List Restriction). groups-from book k (r - 1) ++ l) (from-cut book (r - 1) r count (omega arith) g ∙ ap (λ (l : List Restriction). l ++ groups-from book r count) (from-one book (r - 1) r (omega arith)))
+    ∙ ap (λ (l : List Restriction). groups-from book k (r - 1) ++ l)
+    (from-cut book (r - 1) r count (omega arith) g ∙ ap (λ (l : List Restriction). l ++ groups-from book r count) (from-one book (r - 1) r (omega arith)))
 
 pub from-last : (book : List ℕ) (k count : ℕ) → k < count → groups-from book k count ≡ groups-from book k (count - 1) ++ (group-at book (count - 1) ∷ [])
-from-last book k count h = from-split book k count count h (omega arith) ∙ ap (λ (l : List Restriction). groups-from book k (count - 1) ++ (group-at book (count - 1) ∷ l)) (from-none book count)
+from-last book k count h =
+    from-split book k count count h (omega arith)
+    ∙ ap (λ (l : List Restriction). groups-from book k (count - 1) ++ (group-at book (count - 1) ∷ l)) (from-none book count)
 
 -- The part of the book that a function is lent.
 pub part-group : (book : List ℕ) (k : ℕ) → marked (take (4 * k + 4 - 4 * k) (drop (4 * k) book)) ≡ group-at book k
 unfolding group-at
 part-group book k = ap marked (group-part book k)
-
-pub part-length : (book : List ℕ) (k : ℕ) → k < 96 → 384 ≤ length book → length (take (4 * k + 4 - 4 * k) (drop (4 * k) book)) ≡ 4
-part-length book k h g = omega (arith, length-take (4 * k + 4 - 4 * k) (drop (4 * k) book), length-drop (4 * k) book)

@@ -28,7 +28,8 @@ none-represented n = record { form = fresh-form n; orders = λ ord. ((λ a. (fre
 
 module _ {n : ℕ} {Gs : List Restriction} {t : Forest} (G : Restriction) (rep : Represents n Gs t) where
   -- The group stands anywhere among the others.
-  pub joined-represented : (Hs : List Restriction) {u : Forest} → ((ord : List ℕ) → CircularOrder n ord → AllConsecutive Hs ord ↔ (AllConsecutive Gs ord × Consecutive G ord)) → join G t ≡ some u → Represents n Hs u
+  pub joined-represented : (Hs : List Restriction) {u : Forest}
+      → ((ord : List ℕ) → CircularOrder n ord → AllConsecutive Hs ord ↔ (AllConsecutive Gs ord × Consecutive G ord)) → join G t ≡ some u → Represents n Hs u
   joined-represented Hs {u} h e = record { form = j .form; orders = λ ord. ((λ a. to ord (j .orders ord .0 a)), (λ r. from ord r)) }
     where
       j : Joined n G t u
@@ -40,7 +41,8 @@ module _ {n : ℕ} {Gs : List Restriction} {t : Forest} (G : Restriction) (rep :
       from : (ord : List ℕ) → CircularOrder n ord × AllConsecutive Hs ord → Allowed u ord
       from ord r = let s = h ord (r .0) .0 (r .1) in j .orders ord .1 (rep .orders ord .1 (r .0, s .0), s .1)
 
-  pub joined-not : (Hs : List Restriction) → ((ord : List ℕ) → CircularOrder n ord → AllConsecutive Hs ord → AllConsecutive Gs ord × Consecutive G ord) → join G t ≡ none → Possible n Hs → ⊥
+  pub joined-not : (Hs : List Restriction) → ((ord : List ℕ) → CircularOrder n ord → AllConsecutive Hs ord → AllConsecutive Gs ord × Consecutive G ord)
+      → join G t ≡ none → Possible n Hs → ⊥
   joined-not Hs h e p =
       let s = h (p .order) (p .is-order) (p .hang) in
       subst (λ o. Allows o (p .order)) e (join-orders n G t (rep .form) (p .order) .1 (rep .orders (p .order) .1 (p .is-order, s .0), s .1))
@@ -58,23 +60,37 @@ first-all : (Gs l : List Restriction) (G : Restriction) (ord : List ℕ) → All
 first-all Gs l G ord w = all-append _ Gs (l ++ (G ∷ [])) (all-left _ Gs l (w .1)) (all-append _ l (G ∷ []) (all-right _ Gs l (w .1)) (w .0, tt))
 
 -- A walk down from the last group: no group; the last one cannot join; it joins, and the walk goes on.
-pub reaches-none : {n : ℕ} {Gs : List Restriction} {t : Forest} (book : List ℕ) (k count : ℕ) → Represents n Gs t → k ≤ count → count ≤ k → Reaches n Gs book k count k
+pub reaches-none : {n : ℕ} {Gs : List Restriction} {t : Forest} (book : List ℕ) (k count : ℕ) → Represents n Gs t → k ≤ count → count ≤ k
+    → Reaches n Gs book k count k
 reaches-none {n} {Gs} book k count rep h g = record {
   possible = let e : count ≡ k = omega arith in rw (e, from-none book k, append-nil) (represented-possible rep);
   one-more = λ l. absurd (omega arith);
 }
 
-pub reaches-last : {n : ℕ} {Gs : List Restriction} {t : Forest} (book : List ℕ) (k count : ℕ) → Represents n Gs t → k < count → join (group-at book (count - 1)) t ≡ none → Reaches n Gs book k count count
-reaches-last {n} {Gs} book k count rep h e = record {
+pub reaches-last : {n : ℕ} {Gs : List Restriction} {t : Forest} (book : List ℕ) (k count r : ℕ) → Represents n Gs t → k < count → r ≡ count
+    → join (group-at book (count - 1)) t ≡ none → Reaches n Gs book k count r
+reaches-last {n} {Gs} book k count r rep h q e = rw q (record {
   possible = rw (from-none book count, append-nil) (represented-possible rep);
-  one-more = λ l. joined-not (group-at book (count - 1)) rep (Gs ++ groups-from book (count - 1) count)
-      (λ ord i w. let v = last-all Gs (groups-from book (count - 1) (count - 1)) (group-at book (count - 1)) ord (subst (λ l. AllConsecutive (Gs ++ l) ord) (from-last book (count - 1) count (omega arith)) w) in (all-left _ Gs (groups-from book (count - 1) (count - 1)) (v .1), v .0)) e;
-}
+  one-more = λ l. joined-not G rep (Gs ++ groups-from book (count - 1) count)
+      (λ ord i w. let v = last-all Gs before G ord (subst (λ l. AllConsecutive (Gs ++ l) ord) last w) in (all-left _ Gs before (v .1), v .0)) e;
+})
+  where
+    G : Restriction
+    G = group-at book (count - 1)
 
-pub reaches-more : {n : ℕ} {Gs : List Restriction} (book : List ℕ) (k count r : ℕ) → k < count → r ≤ count - 1 → Reaches n (group-at book (count - 1) ∷ Gs) book k (count - 1) r → Reaches n Gs book k count r
+    before : List Restriction
+    before = groups-from book (count - 1) (count - 1)
+
+    last : groups-from book (count - 1) count ≡ before ++ (G ∷ [])
+    last = from-last book (count - 1) count (omega arith)
+
+pub reaches-more : {n : ℕ} {Gs : List Restriction} (book : List ℕ) (k count r : ℕ) → k < count → r ≤ count - 1
+    → Reaches n (group-at book (count - 1) ∷ Gs) book k (count - 1) r → Reaches n Gs book k count r
 reaches-more {n} {Gs} book k count r h g s = record {
-  possible = subst (λ l. Possible n (Gs ++ l)) (sym (from-last book r count (omega arith))) (fewer n _ _ (first-all Gs (groups-from book r (count - 1)) G) (s .possible));
-  one-more = λ l p. s .one-more l (fewer n _ _ (last-all Gs (groups-from book (r - 1) (count - 1)) G) (subst (λ l. Possible n (Gs ++ l)) (from-last book (r - 1) count (omega arith)) p));
+  possible = subst (λ l. Possible n (Gs ++ l)) (sym (from-last book r count (omega arith)))
+      (fewer n _ _ (first-all Gs (groups-from book r (count - 1)) G) (s .possible));
+  one-more = λ l p. s .one-more l (fewer n _ _ (last-all Gs (groups-from book (r - 1) (count - 1)) G)
+      (subst (λ l. Possible n (Gs ++ l)) (from-last book (r - 1) count (omega arith)) p));
 }
   where
     G : Restriction
@@ -99,15 +115,18 @@ conflicts-all n book new = refl
 
 module _ {n : ℕ} {new : Restriction} {kept : List Restriction} {book : List ℕ} {k count r : ℕ} (s : Reaches n (new ∷ kept) book k count r) where
   pub conflicts-none : r ≡ k → conflicts-from n new kept (suc k) (groups-from book k count) ≡ []
-  conflicts-none e = when-possible n new kept (suc k) (groups-from book k count) (subst (λ i. Possible n (new ∷ (kept ++ groups-from book i count))) e (s .possible))
+  conflicts-none e =
+      when-possible n new kept (suc k) (groups-from book k count) (subst (λ i. Possible n (new ∷ (kept ++ groups-from book i count))) e (s .possible))
 
   pub conflicts-next : k < r → r ≤ count
-      → conflicts-from n new kept (suc k) (groups-from book k count) ≡ r ∷ conflicts-from n new (kept ++ (group-at book (r - 1) ∷ [])) (suc r) (groups-from book r count)
+      → conflicts-from n new kept (suc k) (groups-from book k count)
+      ≡ r ∷ conflicts-from n new (kept ++ (group-at book (r - 1) ∷ [])) (suc r) (groups-from book r count)
   conflicts-next h g =
       ap (conflicts-from n new kept (suc k)) (from-split book k r count h g)
-      ∙ when-impossible n new kept (suc k) (out ++ (G ∷ rest)) (λ p. u (fewer n _ _ (λ ord w. (w .0, all-append _ kept (G ∷ rest) (all-left _ kept (out ++ (G ∷ rest)) (w .1)) (all-right _ out (G ∷ rest) (all-right _ kept (out ++ (G ∷ rest)) (w .1))))) p))
+      ∙ when-impossible n new kept (suc k) (out ++ (G ∷ rest)) (λ p. u (fewer n _ _ without-out p))
       ∙ leave-out-next n new kept (suc k) r out G rest (omega (arith, from-length book k (r - 1))) u (s .possible)
-      ∙ ap (λ (l : List ℕ). r ∷ l) (sym (when-impossible n new (kept ++ (G ∷ [])) (suc r) rest (λ p. u (subst (λ l. Possible n (new ∷ l)) (append-assoc kept (G ∷ []) rest) p))))
+      ∙ ap (λ (l : List ℕ). r ∷ l)
+      (sym (when-impossible n new (kept ++ (G ∷ [])) (suc r) rest (λ p. u (subst (λ l. Possible n (new ∷ l)) (append-assoc kept (G ∷ []) rest) p))))
     where
       G : Restriction
       G = group-at book (r - 1)
@@ -117,6 +136,10 @@ module _ {n : ℕ} {new : Restriction} {kept : List Restriction} {book : List �
 
       rest : List Restriction
       rest = groups-from book r count
+
+      without-out : (ord : List ℕ) → AllConsecutive (new ∷ (kept ++ (out ++ (G ∷ rest)))) ord → AllConsecutive (new ∷ (kept ++ (G ∷ rest))) ord
+      without-out ord w =
+          (w .0, all-append _ kept (G ∷ rest) (all-left _ kept (out ++ (G ∷ rest)) (w .1)) (all-right _ out (G ∷ rest) (all-right _ kept (out ++ (G ∷ rest)) (w .1))))
 
       here : groups-from book (r - 1) count ≡ G ∷ rest
       here = from-split book (r - 1) r count (omega arith) g ∙ ap (λ (l : List Restriction). l ++ (G ∷ rest)) (from-none book (r - 1))
@@ -130,11 +153,13 @@ module _ {n : ℕ} {new : Restriction} {kept : List Restriction} {t : Forest} (G
   apart ord w = ((w .0, all-left _ kept (G ∷ []) (w .1)), all-right _ kept (G ∷ []) (w .1) .0)
 
   pub kept-represented : {u : Forest} → join G t ≡ some u → Represents n (new ∷ (kept ++ (G ∷ []))) u
-  kept-represented e = joined-represented G rep (new ∷ (kept ++ (G ∷ []))) (λ ord i. (apart ord, λ w. (w .0 .0, all-append _ kept (G ∷ []) (w .0 .1) (w .1, tt)))) e
+  kept-represented e =
+      joined-represented G rep (new ∷ (kept ++ (G ∷ []))) (λ ord i. (apart ord, λ w. (w .0 .0, all-append _ kept (G ∷ []) (w .0 .1) (w .1, tt)))) e
 
   pub no-more-kept : (k : ℕ) (rest : List Restriction) → join G t ≡ none → conflicts-from n new (kept ++ (G ∷ [])) k rest ≡ []
   no-more-kept k rest e =
-      when-impossible n new (kept ++ (G ∷ [])) k rest (λ p. u (fewer n _ _ (λ ord w. (w .0, all-left _ (kept ++ (G ∷ [])) rest (w .1))) p))
+      when-impossible n new (kept ++ (G ∷ [])) k rest
+      (λ p. u (fewer n _ _ (λ ord w. (w .0, all-left _ (kept ++ (G ∷ [])) rest (w .1))) p))
       ∙ leave-out-none n new (kept ++ (G ∷ [])) k rest u
     where
       u : Possible n (new ∷ (kept ++ (G ∷ []))) → ⊥

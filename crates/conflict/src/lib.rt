@@ -33,7 +33,7 @@ fn reach(toks: &[u16], book: &[u64], n: usize, k: usize, count: usize) -> usize
     let mut next = [0u16; 512];
     let got = update::join(toks, &book[at..end], n, &mut next);
     let Updated::Tokens(m) = got else {
-        return count;
+        return last + 1;
     };
     reach(&next[0..m], book, n, k, last)
 }
@@ -72,6 +72,7 @@ fn find(n: usize, book: &[u64], count: usize, list: &[u16], out: &mut [u16]) -> 
     let m = tokens::fresh(n, &mut start);
     let mut toks = [0u16; 512];
     let got = update::join(&start[0..m], &group, n, &mut toks);
+    // One group by itself always joins.
     let Updated::Tokens(k) = got else {
         return 0;
     };

@@ -162,7 +162,8 @@ module _ (n : ℕ) (new : Restriction) (kept : List Restriction) where
   unfolding leave-out choice
   leave-out-leaves k G rest e = ap (choice k G rest) e
 
-  impossible-more : (Hs Gs : List Restriction) → ((ord : List ℕ) → AllConsecutive Hs ord → AllConsecutive Gs ord) → (Possible n (new ∷ (kept ++ Gs)) → ⊥) → possible? n (new ∷ (kept ++ Hs)) ≡ false
+  impossible-more : (Hs Gs : List Restriction) → ((ord : List ℕ) → AllConsecutive Hs ord → AllConsecutive Gs ord)
+      → (Possible n (new ∷ (kept ++ Gs)) → ⊥) → possible? n (new ∷ (kept ++ Hs)) ≡ false
   impossible-more Hs Gs h u =
       false-if (possible? n (new ∷ (kept ++ Hs))) (λ e. u (fewer n (new ∷ (kept ++ Hs)) (new ∷ (kept ++ Gs))
       (λ ord w. (w .0, all-append _ kept Gs (all-left _ kept Hs (w .1)) (h ord (all-right _ kept Hs (w .1)))))
@@ -180,4 +181,6 @@ module _ (n : ℕ) (new : Restriction) (kept : List Restriction) where
   pub leave-out-none : (k : ℕ) (rest : List Restriction) → (Possible n (new ∷ kept) → ⊥) → leave-out n new kept k rest ≡ []
   unfolding leave-out
   leave-out-none k [] u = refl
-  leave-out-none k (G ∷ rest) u = leave-out-leaves k G rest (impossible-more rest [] (λ ord w. tt) (λ p. u (subst (λ l. Possible n (new ∷ l)) (append-nil kept) p))) ∙ leave-out-none (suc k) rest u
+  leave-out-none k (G ∷ rest) u =
+      leave-out-leaves k G rest (impossible-more rest [] (λ ord w. tt) (λ p. u (subst (λ l. Possible n (new ∷ l)) (append-nil kept) p)))
+      ∙ leave-out-none (suc k) rest u

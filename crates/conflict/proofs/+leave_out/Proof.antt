@@ -8,7 +8,7 @@ use Rattle.orders.specs.Tree.{Forest}
 use Rattle.tokens.proofs.Writes.{wrote-none, wrote-one, wrote-then}
 use Rattle.parts.specs.Writers.{flat}
 use Rattle.conflict.specs.LeavingOut.{group-at, groups-from}
-use Rattle.conflict.proofs.Places.{part-group, part-length}
+use Rattle.conflict.proofs.Places.{part-group}
 use Rattle.conflict.proofs.Trees.{conflicts-none, conflicts-next, kept-represented, no-more-kept}
 use Rattle.conflict.proofs.Joined.{Next, next-tree, no-tree, next-published}
 use borrow.Fn.Kinds.{In}
@@ -71,7 +71,7 @@ leave-out-slice-aggregate-join : (t : ℕ) → leave-out-lts.Need-slice-aggregat
 leave-out-slice-aggregate-join t c = search needs
 
 leave-out-join-requires : (t : ℕ) → leave-out-lts.Need-join-requires (leave-out-calls t) (leave-out-at t) leave-out.Post
-leave-out-join-requires t c κs = (c .before .before .before .before .before .before .before .pre .1 .0, part-length (c .before .before .before .before .before .before .before .args .book .now) (c .before .before .before .reach .result - 1) (omega (arith, c .before .before .before .before .before .before .before .pre .1 .3, c .before .before .before .reach .ensures .0, c .before .before .before .reach .ensures .1, c .before .before .if1 .left)) (c .before .before .before .before .before .before .before .pre .1 .1), omega arith)
+leave-out-join-requires t c κs = (c .before .before .before .before .before .before .before .pre .1 .0, omega (arith, c .before .before .before .before .before .before .before .pre .1 .1, c .before .before .before .before .before .before .before .pre .1 .3, c .before .before .before .reach .ensures .0, c .before .before .before .reach .ensures .1, c .before .before .if1 .left, c .before .join-arg .given), omega arith)
 
 -- The tree with the next group kept.
 after : {t : ℕ} (c : leave-out-lts.After-known-told (leave-out-calls t) (leave-out-at t) leave-out.Post) (u : Forest) → c .before .before .before .before .before .before .before .before .before .before .before .before .args .toks .now ≡ flat u

@@ -1,4 +1,4 @@
-use Prim.Native.Nat.{ℕ, _<_, _-_}
+use Prim.Native.Nat.{ℕ, _<_, _+_, _-_}
 use mathlib.Core.Path.{_≡_, subst}
 use mathlib.Core.List.{_∷_}
 use native.Mathlib.Omega.{arith}
@@ -6,7 +6,7 @@ use borrow.Author.Needs.{needs}
 use Rattle.orders.specs.Tree.{Forest}
 use Rattle.parts.specs.Writers.{flat}
 use Rattle.conflict.specs.LeavingOut.{group-at}
-use Rattle.conflict.proofs.Places.{part-group, part-length}
+use Rattle.conflict.proofs.Places.{part-group}
 use Rattle.conflict.proofs.Trees.{joined-represented, reaches-none, reaches-last, reaches-more}
 use Rattle.conflict.proofs.Joined.{Next, next-tree, no-tree, next-published}
 use borrow.Fn.Kinds.{In}
@@ -58,7 +58,7 @@ reach-slice-aggregate-join : (t : ℕ) → reach-lts.Need-slice-aggregate-join (
 reach-slice-aggregate-join t c = search needs
 
 reach-join-requires : (t : ℕ) → reach-lts.Need-join-requires (reach-calls t) (reach-at t) reach.Post
-reach-join-requires t c κs = (c .before .before .before .before .before .pre .1 .0, part-length (c .before .before .before .before .before .args .book .now) (c .before .before .before .before .before .args .count - 1) (omega (arith, c .before .before .before .before .before .pre .1 .3, c .before .before .if1 .left)) (c .before .before .before .before .before .pre .1 .1), omega arith)
+reach-join-requires t c κs = (c .before .before .before .before .before .pre .1 .0, omega (arith, c .before .before .before .before .before .pre .1 .1, c .before .before .before .before .before .pre .1 .3, c .before .before .if1 .left, c .before .join-arg .given), omega arith)
 
 -- The next tree.
 after : {t : ℕ} (c : reach-lts.After-known-told (reach-calls t) (reach-at t) reach.Post) (u : Forest) → c .before .before .before .before .before .before .before .before .before .before .args .toks .now ≡ flat u
@@ -71,8 +71,17 @@ reach-enum-known-got t c = search needs
 reach-enum-told : (t : ℕ) → reach-lts.Need-enum-told (reach-calls t) (reach-at t) reach.Post
 reach-enum-told t c = search needs
 
+reach-add-result : (t : ℕ) → reach-lts.Need-add-result (reach-calls t) (reach-at t) reach.Post
+reach-add-result t c = omega (arith, c .before .before .before .before .before .before .before .before .before .pre .1 .3)
+
 reach-returns-2 : (t : ℕ) → reach-lts.Need-returns-2 (reach-calls t) (reach-at t) reach.Post
-reach-returns-2 t c = (c .before .before .before .before .before .before .before .before .before .pre .1 .2, omega arith, λ u Gs e rep. reaches-last (c .before .before .before .before .before .before .before .before .before .args .book .now) (c .before .before .before .before .before .before .before .before .before .args .k) (c .before .before .before .before .before .before .before .before .before .args .count) rep (omega (arith, c .before .before .before .before .before .before .if1 .left)) (no-tree u (part-group (c .before .before .before .before .before .before .before .before .before .args .book .now) (c .before .before .before .before .before .before .before .before .before .args .count - 1)) (c .enum-told .given .1) (c .before .before .before .join .ensures u e)))
+reach-returns-2 t c = (
+  omega (arith, c .before .before .before .before .before .before .if1 .left),
+  omega (arith, c .before .before .before .before .before .before .if1 .left),
+  λ u Gs e rep.
+      reaches-last (c .before .before .before .before .before .before .before .before .before .args .book .now) (c .before .before .before .before .before .before .before .before .before .args .k) (c .before .before .before .before .before .before .before .before .before .args .count) (c .before .before .before .before .before .before .before .before .before .args .count - 1 + 1) rep (omega (arith, c .before .before .before .before .before .before .if1 .left)) (omega (arith, c .before .before .before .before .before .before .if1 .left))
+      (no-tree u (part-group (c .before .before .before .before .before .before .before .before .before .args .book .now) (c .before .before .before .before .before .before .before .before .before .args .count - 1)) (c .enum-told .given .1) (c .before .before .before .join .ensures u e)),
+)
 
 reach-sub-reach : (t : ℕ) → reach-lts.Need-sub-reach (reach-calls t) (reach-at t) reach.Post
 reach-sub-reach t c = omega arith
@@ -115,6 +124,7 @@ pub +reach-spec : {M : Type 1} → statement M
     (reach-join-requires t)
     (reach-enum-known-got t)
     (reach-enum-told t)
+    (reach-add-result t)
     (reach-returns-2 t)
     (reach-sub-reach t)
     (reach-part-reach-start t)
