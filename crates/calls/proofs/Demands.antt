@@ -94,11 +94,11 @@ passes-iff n l = (from l, well-formed-passes n l)
 
 -- ---- joining
 
-size-fine : (n : ℕ) → 1 ≤ n → n ≤ 256 → bad-size n ≡ false
+pub size-fine : (n : ℕ) → 1 ≤ n → n ≤ 256 → bad-size n ≡ false
 size-fine n l m = rw (ne-eqb n 0 (λ e. omega arith), le-ltb 256 n m)
 
-nodes-fine : (n have : ℕ) (nodes : List ℕ) (t : Forest) → LentTree n have nodes t → short-nodes have nodes ≡ false
-nodes-fine n have nodes t h = rw (le-ltb have 256 (h .all-records), le-ltb (length nodes) 65792 (h .all-rows))
+pub nodes-fine : (have : ℕ) (nodes : List ℕ) → 256 ≤ have → 65792 ≤ length nodes → short-nodes have nodes ≡ false
+nodes-fine have nodes l m = rw (le-ltb have 256 l, le-ltb (length nodes) 65792 m)
 
 module _ (n have : ℕ) (nodes book : List ℕ) (count : ℕ) (list : List ℕ) (t : Forest) (h : LentRing n have nodes book count t) (w : WellFormed n list) where
   the-tree : tree-in n nodes ≡ some t
@@ -120,7 +120,7 @@ module _ (n have : ℕ) (nodes book : List ℕ) (count : ℕ) (list : List ℕ) 
   the-refusal =
       rw
       (size-fine n (h .lent .some-leaf) (h .lent .few-leaves),
-      nodes-fine n have nodes t (h .lent),
+      nodes-fine have nodes (h .lent .all-records) (h .lent .all-rows),
       le-ltb (length book) 384 (h .all-words),
       the-tree,
       h .groups,
