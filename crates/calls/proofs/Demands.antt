@@ -118,15 +118,16 @@ module _ (n have : ℕ) (nodes book : List ℕ) (count : ℕ) (list : List ℕ) 
   the-refusal : join-refusal n have nodes book count list ≡ down (refuse (is-none (join (elem list) t)) Impossible ∷ [])
   unfolding join-refusal
   the-refusal =
-      rw
-      (size-fine n (h .lent .some-leaf) (h .lent .few-leaves),
-      nodes-fine have nodes (h .lent .all-records) (h .lent .all-rows),
-      le-ltb (length book) 384 (h .all-words),
-      the-tree,
-      h .groups,
-      after-checks (refuse (eqb count 96) BookFull ∷ refuse (is-none (joined-tree n nodes list)) Impossible ∷ []),
-      ne-eqb count 96 (λ e. omega (arith, h .place-left)),
-      the-joined)
+      rw (
+        size-fine n (h .lent .some-leaf) (h .lent .few-leaves),
+        nodes-fine have nodes (h .lent .all-records) (h .lent .all-rows),
+        le-ltb (length book) 384 (h .all-words),
+        the-tree,
+        h .groups,
+        after-checks (refuse (eqb count 96) BookFull ∷ refuse (is-none (joined-tree n nodes list)) Impossible ∷ []),
+        ne-eqb count 96 (λ e. omega (arith, h .place-left)),
+        the-joined,
+      )
 
   pub join-meets : Joins n (elem list) t (join-call n have nodes book count list .answer) (join-call n have nodes book count list .nodes)
   unfolding join-call joined
@@ -149,6 +150,6 @@ module _ (n have : ℕ) (nodes book : List ℕ) (count : ℕ) (list : List ℕ) 
               new = u;
               held = record { in-form = j .form; records = subst (λ k. take k (table-of u ++ drop (length (table-of u)) nodes) ≡ table-of u) (table-length n u (j .form) (h .lent .few-leaves)) (take-append-seam (table-of u) (drop (length (table-of u)) nodes)) };
               orders = j .orders;
-              first = j .standard-first
-            }
+              first = j .standard-first;
+            };
           }
