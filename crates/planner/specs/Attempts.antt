@@ -1,5 +1,6 @@
 -- What an attempt to join a group answers and writes.
 use mathlib.Core.Path.{_≡_}
+use mathlib.Core.Logic.{_≢_}
 use mathlib.Core.Option.{Option, none, some}
 use mathlib.Core.List.{List, [], _∷_, _++_}
 use Prim.Native.Nat.{ℕ, _≤_, _<_}
@@ -25,6 +26,7 @@ group-refusal t n count list =
 
 pub record JoinedTree (t : Forest) (n count : ℕ) (list old new : List ℕ) (k : ℕ) : Type 0 where
   pub passes : group-refusal t n count list ≡ none
+  pub not-full : count ≢ 96
   pub tree : Forest
   pub is : join (elem list) t ≡ some tree
   pub wrote : Wrote (flat tree) old new k

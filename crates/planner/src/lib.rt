@@ -22,20 +22,8 @@ use update::Updated;
 pub fn open(n: usize, nodes: &mut [u16], have: usize, book: &mut [u64]) -> Answer
     ensures { λ r. ⌜ ring r (now (nodes .exit)) (now (book .exit)) ≡ open-call n have (now (nodes .entry)) (now (book .entry)) ⌝ }
 {
-    if n == 0 {
-        return Answer::Refused(Refusal::RingSize);
-    }
-    if n > 256 {
-        return Answer::Refused(Refusal::RingSize);
-    }
-    if have < 256 {
-        return Answer::Refused(Refusal::ShortTable);
-    }
-    if nodes.len() < 65792 {
-        return Answer::Refused(Refusal::ShortTable);
-    }
-    if book.len() < 384 {
-        return Answer::Refused(Refusal::ShortTable);
+    if let Checked::Bad(refusal) = checks::check_tables(n, nodes, have, book.len() < 384) {
+        return Answer::Refused(refusal);
     }
     let mut toks = [0u16; 512];
     let k = tokens::fresh(n, &mut toks);
