@@ -13,9 +13,11 @@ use lib.Seq.{take-append-seam}
 use Rattle.orders.specs.Lists.{All, Distinct, In, elem}
 use Rattle.orders.specs.CircularOrder.{Restriction, WellFormed}
 use Rattle.orders.specs.Tree.{Forest}
-use Rattle.orders.specs.Form.{InForm, standard}
+use Rattle.orders.specs.Form.{InForm, standard, StandardOrder}
 use Rattle.orders.specs.Join.{join}
 use Rattle.orders.proofs.Members.{false-if}
+use Rattle.orders.proofs.StandardOrders.{standard-is}
+use Rattle.orders.proofs.TextTree.{form-length}
 use Rattle.orders.proofs.Joining.{join-none, join-some}
 use Rattle.calls.specs.declared.Refusal.{Refusal}
 use Rattle.calls.specs.declared.Refusal.the-variants.{OutsideRing, Repeated, BookFull, Impossible}
@@ -24,7 +26,7 @@ use Rattle.calls.specs.Tables.{over}
 use Rattle.calls.specs.Book.{book-in-form?}
 use Rattle.calls.specs.NodeTable.{Holds, table-of, tree-in}
 use Rattle.calls.specs.Refusals.{refuse, down, bad-size, short, short-nodes, bad-leaf, list-checks}
-use Rattle.calls.specs.Calls.{is-none, joined-tree, join-refusal, joined, join-call, trial-call}
+use Rattle.calls.specs.Calls.{is-none, joined-tree, join-refusal, joined, join-call, order-refusal, order-call}
 use Rattle.calls.specs.Demands.{LentTree, LentRing, ImpossibleIff, NewTree, Joins}
 use Rattle.calls.proofs.NodeTables.{tree-in-holds, table-length}
 
@@ -94,11 +96,11 @@ passes-iff n l = (from l, well-formed-passes n l)
 
 -- ---- joining
 
-size-fine : (n : ℕ) → 1 ≤ n → n ≤ 256 → bad-size n ≡ false
+pub size-fine : (n : ℕ) → 1 ≤ n → n ≤ 256 → bad-size n ≡ false
 size-fine n l m = rw (ne-eqb n 0 (λ e. omega arith), le-ltb 256 n m)
 
-nodes-fine : (n have : ℕ) (nodes : List ℕ) (t : Forest) → LentTree n have nodes t → short-nodes have nodes ≡ false
-nodes-fine n have nodes t h = rw (le-ltb have 256 (h .all-records), le-ltb (length nodes) 65792 (h .all-rows))
+pub nodes-fine : (have : ℕ) (nodes : List ℕ) → 256 ≤ have → 65792 ≤ length nodes → short-nodes have nodes ≡ false
+nodes-fine have nodes l m = rw (le-ltb have 256 l, le-ltb (length nodes) 65792 m)
 
 module _ (n have : ℕ) (nodes book : List ℕ) (count : ℕ) (list : List ℕ) (t : Forest) (h : LentRing n have nodes book count t) (w : WellFormed n list) where
   the-tree : tree-in n nodes ≡ some t
@@ -120,7 +122,7 @@ module _ (n have : ℕ) (nodes book : List ℕ) (count : ℕ) (list : List ℕ) 
   the-refusal =
       rw (
         size-fine n (h .lent .some-leaf) (h .lent .few-leaves),
-        nodes-fine n have nodes t (h .lent),
+        nodes-fine have nodes (h .lent .all-records) (h .lent .all-rows),
         le-ltb (length book) 384 (h .all-words),
         the-tree,
         h .groups,
@@ -153,3 +155,22 @@ module _ (n have : ℕ) (nodes book : List ℕ) (count : ℕ) (list : List ℕ) 
               first = j .standard-first;
             };
           }
+
+-- ---- the standard order
+
+pub order-meets : (n have : ℕ) (nodes order : List ℕ) (t : Forest) → LentTree n have nodes t → n ≤ length order → StandardOrder t (take n (order-call n have nodes order .table))
+unfolding order-call order-refusal
+order-meets n have nodes order t h l =
+    rw (
+      size-fine n (h .some-leaf) (h .few-leaves),
+      nodes-fine have nodes (h .all-records) (h .all-rows),
+      le-ltb (length order) n l,
+      tree-in-holds n nodes t (h .few-leaves) .1 (h .tree),
+    )
+    (subst (StandardOrder t) (sym whole) (standard-is n t (h .tree .in-form)))
+  where
+    many : length (standard t) ≡ n
+    many = omega (arith, form-length n t (h .tree .in-form), h .some-leaf)
+
+    whole : take n (standard t ++ drop (length (standard t)) order) ≡ standard t
+    whole = subst (λ k. take k (standard t ++ drop (length (standard t)) order) ≡ standard t) many (take-append-seam (standard t) (drop (length (standard t)) order))

@@ -46,17 +46,17 @@ abbrev pub is-none : {A : Type 0} → Option A → Bool
 is-none none = true
 is-none (some x) = false
 
--- Checks 1 to 3 of a call that is lent a node table, where `other` says that another table is too short; of one that is lent a ring.
+-- Checks 1 and 2 of a call that is lent a node table, where `other` says that another lent table is too short.
+abbrev pub table-checks : ℕ → ℕ → List ℕ → Bool → List (Option Refusal)
+table-checks n have nodes other = refuse (bad-size n) RingSize ∷ refuse (short-nodes have nodes || other) ShortTable ∷ []
+
+-- And 3, of a call that reads the node table; of one that reads the node table and the book.
 abbrev pub tree-checks : ℕ → ℕ → List ℕ → Bool → List (Option Refusal)
-tree-checks n have nodes other =
-    refuse (bad-size n) RingSize ∷ refuse (short-nodes have nodes || other) ShortTable ∷ refuse (is-none (tree-in n nodes)) NotInForm ∷ []
+tree-checks n have nodes other = table-checks n have nodes other ++ (refuse (is-none (tree-in n nodes)) NotInForm ∷ [])
 
 abbrev pub ring-checks : ℕ → ℕ → List ℕ → List ℕ → ℕ → List (Option Refusal)
 ring-checks n have nodes book count =
-    refuse (bad-size n) RingSize
-    ∷ refuse (short-nodes have nodes || short 384 book) ShortTable
-    ∷ refuse (is-none (tree-in n nodes) || not (book-in-form? n book count)) NotInForm
-    ∷ []
+    table-checks n have nodes (short 384 book) ++ (refuse (is-none (tree-in n nodes) || not (book-in-form? n book count)) NotInForm ∷ [])
 
 -- A ring with this tree in its node table.
 abbrev pub with-tree : Option Forest → List ℕ → List ℕ
@@ -65,8 +65,7 @@ with-tree (some t) nodes = over (table-of t) nodes
 
 -- Opening: checks 1 and 2; the fresh ring, an empty book. Answers the count of the book's groups, 0.
 unfoldable pub open-refusal : ℕ → ℕ → List ℕ → List ℕ → Option Refusal
-open-refusal n have nodes book =
-    down (refuse (bad-size n) RingSize ∷ refuse (short-nodes have nodes || short 384 book) ShortTable ∷ [])
+open-refusal n have nodes book = down (table-checks n have nodes (short 384 book))
 
 unfoldable pub opened : Option Refusal → ℕ → List ℕ → List ℕ → Ring
 opened (some r) n nodes book = ring (Refused r) nodes book
@@ -109,16 +108,14 @@ of-tree (some t) f = f t
 
 -- The standard order: checks 1, 2 (n places for the order), 3. Answers n.
 unfoldable pub order-refusal : ℕ → ℕ → List ℕ → List ℕ → Option Refusal
-order-refusal n have nodes order =
-    down (tree-checks n have nodes (short n order))
+order-refusal n have nodes order = down (tree-checks n have nodes (short n order))
 
 unfoldable pub order-call : ℕ → ℕ → List ℕ → List ℕ → Filled
 order-call n have nodes order = filled (order-refusal n have nodes order) n (of-tree (tree-in n nodes) standard) order
 
 -- The tree text, written: checks 1, 2 (2,048 bytes), 3. Answers the length.
 unfoldable pub write-refusal : ℕ → ℕ → List ℕ → List ℕ → Option Refusal
-write-refusal n have nodes bytes =
-    down (tree-checks n have nodes (short 2048 bytes))
+write-refusal n have nodes bytes = down (tree-checks n have nodes (short 2048 bytes))
 
 unfoldable pub write-call : ℕ → ℕ → List ℕ → List ℕ → Filled
 write-call n have nodes bytes =

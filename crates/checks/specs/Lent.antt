@@ -14,6 +14,14 @@ use Rattle.calls.specs.Demands.{LentTree}
 use Rattle.checks.specs.declared.Lent.{Lent}
 use Rattle.checks.specs.declared.Lent.the-variants.{Tree, Refused}
 
+-- A node table of a ring of n leaves, lent whole.
+pub record TableLent (n have : ℕ) (nodes : List ℕ) (other : Bool) : Type 0 where
+  pub some-leaf : 1 ≤ n
+  pub few-leaves : n ≤ 256
+  pub all-records : 256 ≤ have
+  pub all-rows : 65792 ≤ length nodes
+  pub long : other ≡ false
+
 pub record TreeLent (n have : ℕ) (nodes : List ℕ) (other : Bool) (old new : List ℕ) (k : ℕ) : Type 0 where
   pub passes : down (tree-checks n have nodes other) ≡ none
   pub long : other ≡ false

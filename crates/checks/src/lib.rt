@@ -1,7 +1,12 @@
 // The checks that calls on a lent ring share: 1, 2 and 3 on its node table and its book. They load the tree.
+ghost use mathlib.Core.Path.{_≡_};
 ghost use Prim.Native.Nat.{_≤_};
 ghost use lib.ListN.{length};
+ghost use Rattle.calls.specs.Refusals.{down};
+ghost use Rattle.calls.specs.Calls.{table-checks};
+ghost use Rattle.book.specs.Lists.{verdict};
 ghost use Rattle.checks.specs.Lent.{LendsTree, LendsRing};
+use book::Checked;
 use calls::Refusal;
 use records::Walked;
 
@@ -11,25 +16,35 @@ pub enum Lent {
     Refused(Refusal),
 }
 
+// Checks 1 and 2 on a node table of `have` records; `other` says that another lent table is too short.
+pub fn check_tables(n: usize, nodes: &[u16], have: usize, other: bool) -> Checked
+    ensures { λ r. ⌜ verdict r ≡ down (table-checks n have (now (nodes .entry)) other) ⌝ }
+{
+    if n == 0 {
+        return Checked::Bad(Refusal::RingSize);
+    }
+    if n > 256 {
+        return Checked::Bad(Refusal::RingSize);
+    }
+    if have < 256 {
+        return Checked::Bad(Refusal::ShortTable);
+    }
+    if nodes.len() < 65792 {
+        return Checked::Bad(Refusal::ShortTable);
+    }
+    if other {
+        return Checked::Bad(Refusal::ShortTable);
+    }
+    Checked::Fine
+}
+
 // Checks 1, 2 and 3 on a node table of `have` records; `other` says that another lent table is too short. Writes the tree to the start of toks.
 pub fn lent_tree(n: usize, nodes: &[u16], have: usize, other: bool, toks: &mut [u16]) -> Lent
     requires { ⌜ 512 ≤ length (now toks) ⌝ }
     ensures { λ r. ⌜ LendsTree n have (now (nodes .entry)) other (now (toks .entry)) (now (toks .exit)) r ⌝ }
 {
-    if n == 0 {
-        return Lent::Refused(Refusal::RingSize);
-    }
-    if n > 256 {
-        return Lent::Refused(Refusal::RingSize);
-    }
-    if have < 256 {
-        return Lent::Refused(Refusal::ShortTable);
-    }
-    if nodes.len() < 65792 {
-        return Lent::Refused(Refusal::ShortTable);
-    }
-    if other {
-        return Lent::Refused(Refusal::ShortTable);
+    if let Checked::Bad(refusal) = check_tables(n, nodes, have, other) {
+        return Lent::Refused(refusal);
     }
     let Walked::Found(k) = records::load(nodes, n, toks) else {
         return Lent::Refused(Refusal::NotInForm);

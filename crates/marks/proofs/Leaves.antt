@@ -14,10 +14,10 @@ use lib.Count.{ones, ones-step, ones-ones}
 use Rattle.orders.specs.Lists.{All, Distinct, In, filter, elem, range}
 use Rattle.orders.specs.CircularOrder.{Restriction}
 use Rattle.marks.specs.Marks.{bit, marked, words-of, leaves-of}
-use Rattle.orders.proofs.Members.{false-if, elem-in, in-elem, in-all}
+use Rattle.orders.proofs.Members.{false-if, elem-in, in-elem, all-in, in-all}
 use Rattle.orders.proofs.Ranges.{filter-different, in-filter, filter-in, in-range, range-in, range-append, filter-agree, count, count-cons, count-append, count-elem}
 use Rattle.marks.proofs.Word.{digit-times, bit-zero, bit-half}
-use Rattle.marks.proofs.Words.{Words, words-agree, words-of-marked, length-words, leaf-at, marked-at, marked-past, marked-words}
+use Rattle.marks.proofs.Words.{Words, words-agree, words-of-marked, length-words, leaf-at, marked-at, marked-none, marked-past, marked-words}
 
 -- A leaf stands in the list of marks just when it is marked, and then it is one of the words' leaves.
 pub leaf-marked : (ws : List ℕ) (x : ℕ) → In x (leaves-of ws) → marked ws x ≡ true
@@ -116,3 +116,18 @@ size-is ws v = count-words 64 ws 1 (marked ws) v (λ i j l. ap (marked ws) (omeg
 -- A list of different leaves of the words has as many as its words have marks.
 pub size-of-list : (k : ℕ) (l : List ℕ) → Distinct l → All (λ b. (1 ≤ b) × (b ≤ 64 * k)) l → length (leaves-of (words-of k (elem l))) ≡ length l
 size-of-list k l d h = ap length (leaves-of-words k (elem l)) ∙ count-elem (64 * k) l d h
+
+-- The words of a list of leaves hold the list's leaves and no others.
+pub marked-list : (k : ℕ) (l : List ℕ) → All (λ b. (1 ≤ b) × (b ≤ 64 * k)) l → marked (words-of k (elem l)) ≡ elem l
+marked-list k l r = λ i x. at x i
+  where
+    out : (x : ℕ) → ((1 ≤ x) × (x ≤ 64 * k) → ⊥) → elem l x ≡ false
+    out x h = false-if (elem l x) (λ e. h (all-in (λ b. (1 ≤ b) × (b ≤ 64 * k)) x l r (elem-in l x e)))
+
+    at : (x : ℕ) → marked (words-of k (elem l)) x ≡ elem l x
+    at zero = marked-none (words-of k (elem l)) ∙ sym (out 0 (λ h. omega (arith, h .0)))
+    at (suc x) = go (decLe (suc x) (64 * k))
+      where
+        go : Dec (suc x ≤ 64 * k) → marked (words-of k (elem l)) (suc x) ≡ elem l (suc x)
+        go (yes h) = marked-words k (elem l) (suc x) (omega arith) h
+        go (no h) = marked-past (words-of k (elem l)) (suc x) (omega (arith, length-words k (elem l))) ∙ sym (out (suc x) (λ p. h (p .1)))

@@ -1,59 +1,67 @@
+use mathlib.Core.Path.{_≡_, sym, _∙_, ap, subst}
+use mathlib.Core.Option.{none}
+use denote.Ref.{now}
+use Rattle.calls.specs.Refusals.{down}
+use Rattle.calls.specs.Calls.{table-checks}
+use Rattle.book.specs.Lists.{verdict}
+use Rattle.records.specs.Walks.{Loads}
+use Rattle.checks.proofs.Laws.{tables-lent, tables-refused, no-tree, tree-lent}
 use borrow.Author.Needs.{needs}
 use Rattle.checks.proofs.lent_tree.Statement.{statement}
 use Rattle.checks.proofs.lent_tree.Tie as tie
 use Rattle.checks.proofs.lent_tree.Reads as reads
 use Rattle.checks.proofs.lent_tree.Lts as lts
+use Rattle.checks.proofs.check_tables.Reads as check-tables-reads
 use Rattle.records.proofs.load.Reads as load-reads
 
+check-tables-requires : tie.Need-check-tables-requires
+check-tables-requires c κs = search needs
+
+enum-known-refusal : tie.Need-enum-known-refusal
+enum-known-refusal c = search needs
+
 returns : tie.Need-returns
-returns c = ?
-
-returns-2 : tie.Need-returns-2
-returns-2 c = ?
-
-returns-3 : tie.Need-returns-3
-returns-3 c = ?
-
-returns-4 : tie.Need-returns-4
-returns-4 c = ?
-
-returns-5 : tie.Need-returns-5
-returns-5 c = ?
-
-load-requires : tie.Need-load-requires
-load-requires c κs = search needs
-
-enum-known-k : tie.Need-enum-known-k
-enum-known-k c = search needs
+returns c = tables-refused (c .before .before .before .before .before .before .args .n) (c .before .before .before .before .before .before .args .have) (now (c .before .before .before .before .before .before .args .nodes)) (c .before .before .before .before .before .before .args .other) (c .before .refusal .given .0 .0) (sym (c .before .before .before .check-tables .ensures) ∙ ap verdict (c .before .refusal .given .1))
 
 enum-told : tie.Need-enum-told
 enum-told c = search needs
 
+pass : (c : tie.After-enum-told) → down (table-checks (c .before .before .before .before .before .args .n) (c .before .before .before .before .before .args .have) (now (c .before .before .before .before .before .args .nodes)) (c .before .before .before .before .before .args .other)) ≡ none
+pass c = sym (c .before .before .check-tables .ensures) ∙ ap verdict (c .enum-told .given .1)
+
+load-requires : tie.Need-load-requires
+load-requires c κs = let l = tables-lent (c .before .before .before .before .before .before .args .n) (c .before .before .before .before .before .before .args .have) (now (c .before .before .before .before .before .before .args .nodes)) (c .before .before .before .before .before .before .args .other) (pass (c .before)) in (l .few-leaves, l .all-rows, c .before .before .before .before .before .before .pre)
+
+enum-known-k : tie.Need-enum-known-k
+enum-known-k c = search needs
+
+enum-told-2 : tie.Need-enum-told-2
+enum-told-2 c = search needs
+
 same-length : tie.Need-same-length
 same-length c = search needs
 
-returns-6 : tie.Need-returns-6
-returns-6 c = ?
+returns-2 : tie.Need-returns-2
+returns-2 c = no-tree (c .before .before .before .before .before .before .before .before .before .before .before .args .n) (c .before .before .before .before .before .before .before .before .before .before .before .args .have) (now (c .before .before .before .before .before .before .before .before .before .before .before .args .nodes)) (c .before .before .before .before .before .before .before .before .before .before .before .args .other) (pass (c .before .before .before .before .before .before)) (subst (Loads (c .before .before .before .before .before .before .before .before .before .before .before .args .n) (now (c .before .before .before .before .before .before .before .before .before .before .before .args .nodes)) (now (c .before .before .before .before .before .before .before .before .before .before .before .args .toks)) (c .before .before .before .before .load .last .1 .1 .0)) (c .enum-told2 .given .1) (c .before .before .before .before .load .ensures))
 
 same-length-2 : tie.Need-same-length-2
 same-length-2 c = search needs
 
-returns-7 : tie.Need-returns-7
-returns-7 c = ?
+returns-3 : tie.Need-returns-3
+returns-3 c = tree-lent (c .before .before .before .before .before .before .before .before .before .before .before .before .args .n) (c .before .before .before .before .before .before .before .before .before .before .before .before .args .have) (now (c .before .before .before .before .before .before .before .before .before .before .before .before .args .nodes)) (c .before .before .before .before .before .before .before .before .before .before .before .before .args .other) (pass (c .before .before .before .before .before .before .before)) (subst (Loads (c .before .before .before .before .before .before .before .before .before .before .before .before .args .n) (now (c .before .before .before .before .before .before .before .before .before .before .before .before .args .nodes)) (now (c .before .before .before .before .before .before .before .before .before .before .before .before .args .toks)) (c .before .before .before .before .before .load .last .1 .1 .0)) (c .before .k .given .1) (c .before .before .before .before .before .load .ensures))
 
 pub lent-tree-spec : {M : Type 1} → statement M
 lent-tree-spec =
     tie.close
     (tie.spec
+    check-tables-requires
+    enum-known-refusal
     returns
-    returns-2
-    returns-3
-    returns-4
-    returns-5
+    enum-told
     load-requires
     enum-known-k
-    enum-told
+    enum-told-2
     same-length
-    returns-6
+    returns-2
     same-length-2
-    returns-7)
+    returns-3)

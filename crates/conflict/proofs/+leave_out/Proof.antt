@@ -7,7 +7,7 @@ use lib.ListN.{length, set, length-set}
 use Rattle.orders.specs.Tree.{Forest}
 use Rattle.tokens.proofs.Writes.{wrote-none, wrote-one, wrote-then}
 use Rattle.parts.specs.Writers.{flat}
-use Rattle.conflict.specs.LeavingOut.{group-at, groups-from}
+use Rattle.conflict.specs.LeavingOut.{group-at, groups-from, conflicts-from}
 use Rattle.conflict.proofs.Places.{part-group}
 use Rattle.conflict.proofs.Trees.{conflicts-none, conflicts-next, kept-represented, no-more-kept}
 use Rattle.conflict.proofs.Joined.{Next, next-tree, no-tree, next-published}
@@ -132,7 +132,7 @@ leave-out-returns-3 t c = (
       let x = after (c .before .before .before .before .before .before) u e in
       let G = group-at (c .before .before .before .before .before .before .before .before .before .before .before .before .before .before .before .before .before .before .args .book .now) (c .before .before .before .before .before .before .before .before .before .before .before .before .before .before .reach .result - 1) in
       rw (conflicts-next (c .before .before .before .before .before .before .before .before .before .before .before .before .before .before .reach .ensures .2 u (new ∷ kept) e rep) (omega (arith, c .before .before .before .before .before .before .before .before .before .before .before .before .before .before .reach .ensures .0, c .before .before .before .before .before .before .before .before .before .before .before .before .before .if1 .left)) (c .before .before .before .before .before .before .before .before .before .before .before .before .before .before .reach .ensures .1))
-      (wrote-then (wrote-one (c .before .before .before .before .before .before .before .before .before .before .before .before .before .before .reach .result) (c .before .before .before .before .before .before .before .before .before .before .before .before .before .before .before .before .before .before .args .out .now) (omega (arith, c .before .before .before .before .before .before .before .before .before .before .before .before .before .before .before .before .before .before .pre .1 .4, c .before .before .before .before .before .before .before .before .before .before .before .before .before .before .reach .ensures .0, c .before .before .before .before .before .before .before .before .before .before .before .before .before .before .reach .ensures .1, c .before .before .before .before .before .before .before .before .before .before .before .before .before .if1 .left)))
+      (wrote-then {ys = conflicts-from (c .before .before .before .before .before .before .before .before .before .before .before .before .before .before .before .before .before .before .args .n) new (kept ++ (G ∷ [])) (suc (c .before .before .before .before .before .before .before .before .before .before .before .before .before .before .reach .result)) (groups-from (c .before .before .before .before .before .before .before .before .before .before .before .before .before .before .before .before .before .before .args .book .now) (c .before .before .before .before .before .before .before .before .before .before .before .before .before .before .reach .result) (c .before .before .before .before .before .before .before .before .before .before .before .before .before .before .before .before .before .before .args .count))} (wrote-one (c .before .before .before .before .before .before .before .before .before .before .before .before .before .before .reach .result) (c .before .before .before .before .before .before .before .before .before .before .before .before .before .before .before .before .before .before .args .out .now) (omega (arith, c .before .before .before .before .before .before .before .before .before .before .before .before .before .before .before .before .before .before .pre .1 .4, c .before .before .before .before .before .before .before .before .before .before .before .before .before .before .reach .ensures .0, c .before .before .before .before .before .before .before .before .before .before .before .before .before .before .reach .ensures .1, c .before .before .before .before .before .before .before .before .before .before .before .before .before .if1 .left)))
       (c .before .before .leave-out .ensures .1 (x .tree) new (kept ++ (G ∷ [])) (x .text) (kept-represented G rep (x .is)))),
 )
 
