@@ -1,19 +1,17 @@
 -- The call's checks, and its definition meets the third demand.
 use mathlib.Core.Path.{_≡_, refl, sym, ap, subst, _∙_}
-use mathlib.Core.Logic.{Iff·rfl}
 use mathlib.Core.Bool.{Bool, true, false, not, _||_}
 use mathlib.Core.Option.{Option, none, some}
 use mathlib.Core.List.{List, [], _∷_, _++_}
 use Prim.Native.Nat.{ℕ, zero, suc, _+_, _-_, _≤_, _<_}
 use native.Mathlib.Omega.{arith}
-use borrow.Author.Tests.{ne-eqb, le-ltb, eqb-false, ltb-false, leb-true}
-use lib.Dec.{eqb, ltb, leb}
+use borrow.Author.Tests.{ne-eqb, le-ltb, eqb-false, ltb-false}
+use lib.Dec.{eqb, ltb}
 use lib.ListN.{length, take, drop, replicate, length-append, length-replicate}
 use lib.Seq.{take-append-seam}
 use Rattle.orders.specs.Lists.{elem}
 use Rattle.orders.specs.CircularOrder.{WellFormed}
 use Rattle.orders.specs.Conflict.{conflict-list, Numbers}
-use Rattle.orders.proofs.Members.{both}
 use Rattle.orders.proofs.Conflicts.{conflict-demand-3}
 use Rattle.calls.specs.declared.Refusal.{Refusal}
 use Rattle.calls.specs.declared.Refusal.the-variants.{RingSize, ShortTable, NotInForm}
@@ -27,6 +25,7 @@ use Rattle.calls.proofs.Demands.{passes-iff}
 use Rattle.book.specs.declared.Checked.{Checked}
 use Rattle.book.specs.declared.Checked.the-variants.{Bad}
 use Rattle.book.specs.Lists.{verdict}
+use Rattle.book.proofs.Laws.{few-groups}
 use Rattle.tokens.specs.Tokens.{Wrote}
 use Rattle.conflict.specs.LeavingOut.{groups-from, conflicts-from}
 use Rattle.conflict.specs.Demand.{LentBook, Named}
@@ -68,10 +67,6 @@ module _ (n : ℕ) (book : List ℕ) (count : ℕ) (list table : List ℕ) where
         h .in-form,
       )
       (passes-iff n list .1 (h .group))
-
-pub few-groups : (n : ℕ) (book : List ℕ) (count : ℕ) → book-in-form? n book count ≡ true → count ≤ 96
-unfolding book-in-form?
-few-groups n book count e = leb-true count 96 (both {a = leb count 96} Iff·rfl Iff·rfl .0 e .0)
 
 -- The whole list.
 pub list-is : (n : ℕ) (book : List ℕ) (count : ℕ) (list : List ℕ)

@@ -29,26 +29,33 @@ none-represented n = record { form = fresh-form n; orders = λ ord. ((λ a. (fre
 module _ {n : ℕ} {Gs : List Restriction} {t : Forest} (G : Restriction) (rep : Represents n Gs t) where
   -- The group stands anywhere among the others.
   pub joined-represented : (Hs : List Restriction) {u : Forest}
-      → ((ord : List ℕ) → CircularOrder n ord → AllConsecutive Hs ord ↔ (AllConsecutive Gs ord × Consecutive G ord)) → join G t ≡ some u → Represents n Hs u
+      → ((ord : List ℕ) → AllConsecutive Hs ord ↔ (AllConsecutive Gs ord × Consecutive G ord)) → join G t ≡ some u → Represents n Hs u
   joined-represented Hs {u} h e = record { form = j .form; orders = λ ord. ((λ a. to ord (j .orders ord .0 a)), (λ r. from ord r)) }
     where
       j : Joined n G t u
       j = join-some n G t u (rep .form) e
 
       to : (ord : List ℕ) → Allowed t ord × Consecutive G ord → CircularOrder n ord × AllConsecutive Hs ord
-      to ord a = let r = rep .orders ord .0 (a .0) in (r .0, h ord (r .0) .1 (r .1, a .1))
+      to ord a = let r = rep .orders ord .0 (a .0) in (r .0, h ord .1 (r .1, a .1))
 
       from : (ord : List ℕ) → CircularOrder n ord × AllConsecutive Hs ord → Allowed u ord
-      from ord r = let s = h ord (r .0) .0 (r .1) in j .orders ord .1 (rep .orders ord .1 (r .0, s .0), s .1)
+      from ord r = let s = h ord .0 (r .1) in j .orders ord .1 (rep .orders ord .1 (r .0, s .0), s .1)
 
-  pub joined-not : (Hs : List Restriction) → ((ord : List ℕ) → CircularOrder n ord → AllConsecutive Hs ord → AllConsecutive Gs ord × Consecutive G ord)
+  pub joined-not : (Hs : List Restriction) → ((ord : List ℕ) → AllConsecutive Hs ord → AllConsecutive Gs ord × Consecutive G ord)
       → join G t ≡ none → Possible n Hs → ⊥
   joined-not Hs h e p =
-      let s = h (p .order) (p .is-order) (p .hang) in
+      let s = h (p .order) (p .hang) in
       subst (λ o. Allows o (p .order)) e (join-orders n G t (rep .form) (p .order) .1 (rep .orders (p .order) .1 (p .is-order, s .0), s .1))
 
 pub represented-possible : {n : ℕ} {Gs : List Restriction} {t : Forest} → Represents n Gs t → Possible n Gs
 represented-possible {t = t} rep = let r = rep .orders (standard t) .0 (standard-allowed t) in record { order = standard t; is-order = r .0; hang = r .1 }
+
+-- The tree of one group: there is one.
+pub one-represented : (n : ℕ) (G : Restriction) {u : Forest} → join G (fresh n) ≡ some u → Represents n (G ∷ []) u
+one-represented n G e = joined-represented G (none-represented n) (G ∷ []) (λ ord. ((λ w. (tt, w .0)), (λ w. (w .1, tt)))) e
+
+pub one-joins : (n : ℕ) (G : Restriction) → join G (fresh n) ≡ none → ⊥
+one-joins n G e = joined-not G (none-represented n) (G ∷ []) (λ ord w. (tt, w .0)) e (one-possible n G)
 
 -- A group before the others, or after them.
 last-all : (Gs l : List Restriction) (G : Restriction) (ord : List ℕ) → AllConsecutive (Gs ++ (l ++ (G ∷ []))) ord → AllConsecutive ((G ∷ Gs) ++ l) ord
@@ -72,7 +79,7 @@ pub reaches-last : {n : ℕ} {Gs : List Restriction} {t : Forest} (book : List �
 reaches-last {n} {Gs} book k count r rep h q e = rw q (record {
   possible = rw (from-none book count, append-nil) (represented-possible rep);
   one-more = λ l. joined-not G rep (Gs ++ groups-from book (count - 1) count)
-      (λ ord i w. let v = last-all Gs before G ord (subst (λ l. AllConsecutive (Gs ++ l) ord) last w) in (all-left _ Gs before (v .1), v .0)) e;
+      (λ ord w. let v = last-all Gs before G ord (subst (λ l. AllConsecutive (Gs ++ l) ord) last w) in (all-left _ Gs before (v .1), v .0)) e;
 })
   where
     G : Restriction
@@ -154,7 +161,7 @@ module _ {n : ℕ} {new : Restriction} {kept : List Restriction} {t : Forest} (G
 
   pub kept-represented : {u : Forest} → join G t ≡ some u → Represents n (new ∷ (kept ++ (G ∷ []))) u
   kept-represented e =
-      joined-represented G rep (new ∷ (kept ++ (G ∷ []))) (λ ord i. (apart ord, λ w. (w .0 .0, all-append _ kept (G ∷ []) (w .0 .1) (w .1, tt)))) e
+      joined-represented G rep (new ∷ (kept ++ (G ∷ []))) (λ ord. (apart ord, λ w. (w .0 .0, all-append _ kept (G ∷ []) (w .0 .1) (w .1, tt)))) e
 
   pub no-more-kept : (k : ℕ) (rest : List Restriction) → join G t ≡ none → conflicts-from n new (kept ++ (G ∷ [])) k rest ≡ []
   no-more-kept k rest e =
@@ -163,4 +170,4 @@ module _ {n : ℕ} {new : Restriction} {kept : List Restriction} {t : Forest} (G
       ∙ leave-out-none n new (kept ++ (G ∷ [])) k rest u
     where
       u : Possible n (new ∷ (kept ++ (G ∷ []))) → ⊥
-      u = joined-not G rep (new ∷ (kept ++ (G ∷ []))) (λ ord i. apart ord) e
+      u = joined-not G rep (new ∷ (kept ++ (G ∷ []))) apart e

@@ -3,7 +3,7 @@ ghost use mathlib.Core.Path.{_≡_};
 ghost use mathlib.Core.List.{List, _∷_};
 ghost use Prim.Native.Nat.{ℕ, _≤_, _-_, suc};
 ghost use lib.ListN.{length};
-ghost use Rattle.orders.specs.CircularOrder.{Restriction};
+ghost use Rattle.orders.specs.CircularOrder.{Restriction, WellFormed};
 ghost use Rattle.orders.specs.Tree.{Forest};
 ghost use Rattle.tokens.specs.Tokens.{Wrote};
 ghost use Rattle.parts.specs.Writers.{flat};
@@ -63,7 +63,7 @@ fn leave_out(toks: &[u16], book: &[u64], n: usize, k: usize, count: usize, out: 
 
 // Writes the numbers of the groups in conflict with the list's group, rising, and says how many.
 fn find(n: usize, book: &[u64], count: usize, list: &[u16], out: &mut [u16]) -> usize
-    requires { ⌜ (n ≤ 256) × (384 ≤ length (now book)) × (count ≤ 96) × (count ≤ length (now out)) ⌝ }
+    requires { ⌜ (n ≤ 256) × (384 ≤ length (now book)) × (count ≤ 96) × (count ≤ length (now out)) × (WellFormed n (now list)) ⌝ }
     ensures { λ r. ⌜ Wrote (conflicts-of n (now (book .entry)) count (now (list .entry))) (now (out .entry)) (now (out .exit)) r ⌝ }
 {
     let mut group = [0u64; 4];

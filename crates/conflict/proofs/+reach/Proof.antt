@@ -105,7 +105,7 @@ reach-returns-3 t c = (
       let x = after (c .before .before .before) u e in
       let G = group-at (c .before .before .before .before .before .before .before .before .before .before .before .before .before .args .book .now) (c .before .before .before .before .before .before .before .before .before .before .before .before .before .args .count - 1) in
       reaches-more (c .before .before .before .before .before .before .before .before .before .before .before .before .before .args .book .now) (c .before .before .before .before .before .before .before .before .before .before .before .before .before .args .k) (c .before .before .before .before .before .before .before .before .before .before .before .before .before .args .count) (c .reach .result) (omega (arith, c .before .before .before .before .before .before .before .before .before .before .if1 .left)) (c .reach .ensures .1)
-      (c .reach .ensures .2 (x .tree) (G ∷ Gs) (x .text) (joined-represented G rep (G ∷ Gs) (λ ord i. ((λ w. (w .1, w .0)), (λ w. (w .1, w .0)))) (x .is))),
+      (c .reach .ensures .2 (x .tree) (G ∷ Gs) (x .text) (joined-represented G rep (G ∷ Gs) (λ ord. ((λ w. (w .1, w .0)), (λ w. (w .1, w .0)))) (x .is))),
 )
 
 pub +reach-spec : {M : Type 1} → statement M

@@ -4,8 +4,9 @@ use native.Mathlib.Omega.{arith}
 use denote.Ref.{now}
 use Rattle.calls.specs.Calls.{conflict-refusal}
 use Rattle.book.specs.Lists.{verdict}
+use Rattle.book.proofs.Laws.{few-groups}
 use Rattle.conflict.specs.Demand.{LentBook}
-use Rattle.conflict.proofs.Call.{passes-lent, few-groups, call-refused, call-found, call-meets}
+use Rattle.conflict.proofs.Call.{passes-lent, call-refused, call-found, call-meets}
 use borrow.Author.Needs.{needs}
 use Rattle.conflict.proofs.conflict.Statement.{statement}
 use Rattle.conflict.proofs.conflict.Tie as tie
@@ -43,7 +44,7 @@ find-requires : tie.Need-find-requires
 find-requires c κs =
     let h = lent (c .before) in
     let few = few-groups (c .before .before .before .before .before .before .before .args .n) (now (c .before .before .before .before .before .before .before .args .book)) (c .before .before .before .before .before .before .before .args .count) (h .in-form) in
-    (h .few-leaves, h .all-words, few, few)
+    (h .few-leaves, h .all-words, few, few, h .group)
 
 slice-aggregate-copy : tie.Need-slice-aggregate-copy
 slice-aggregate-copy c = search needs

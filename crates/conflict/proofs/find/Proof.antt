@@ -1,4 +1,4 @@
-use mathlib.Core.Path.{_≡_, ap}
+use mathlib.Core.Path.{_≡_, ap, _∙_}
 use mathlib.Core.List.{[], _∷_}
 use Prim.Native.Nat.{_-_}
 use native.Mathlib.Omega.{arith}
@@ -7,12 +7,13 @@ use lib.ListN.{take, drop}
 use Rattle.orders.specs.Lists.{elem}
 use Rattle.orders.specs.Join.{fresh}
 use Rattle.orders.proofs.Fresh.{fresh-form}
-use Rattle.marks.specs.Marks.{marked, words-of}
+use Rattle.marks.specs.Marks.{marked}
+use Rattle.marks.proofs.Leaves.{marked-group}
 use Rattle.tokens.proofs.Writes.{read-part}
 use Rattle.parts.specs.Writers.{flat}
 use Rattle.update.proofs.Updates.{wrote-as}
 use Rattle.conflict.proofs.Joined.{Next, next-tree, no-tree, next-published}
-use Rattle.conflict.proofs.First.{new-represented, new-joins}
+use Rattle.conflict.proofs.Trees.{one-represented, one-joins}
 use Rattle.conflict.proofs.Call.{list-is}
 use borrow.Author.Needs.{needs}
 use Rattle.conflict.proofs.find.Statement.{statement}
@@ -56,8 +57,8 @@ started : (c : tie.After-fresh) → take (c .fresh .result - 0) (drop 0 (c .fres
 unfolding flat
 started c = read-part (c .fresh .ensures .1)
 
-after : (c : tie.After-known-told) → Next (marked (words-of 4 (elem (now (c .before .before .before .before .before .before .before .before .before .before .before .before .before .before .before .before .before .before .args .list))))) (fresh (c .before .before .before .before .before .before .before .before .before .before .before .before .before .before .before .before .before .before .args .n)) (c .before .before .before .before .join .last .1 .1 .1 .0) (c .before .got .given .0 .0)
-after c = next-tree (fresh (c .before .before .before .before .before .before .before .before .before .before .before .before .before .before .before .before .before .before .args .n)) (ap marked (c .before .before .before .before .before .before .before .before .before .before .before .before .before .mark-list .ensures)) (c .before .got .given .1) (c .before .before .before .before .join .ensures (fresh (c .before .before .before .before .before .before .before .before .before .before .before .before .before .before .before .before .before .before .args .n)) (started (c .before .before .before .before .before .before .before .before .before .before)))
+after : (c : tie.After-known-told) → Next (elem (now (c .before .before .before .before .before .before .before .before .before .before .before .before .before .before .before .before .before .before .args .list))) (fresh (c .before .before .before .before .before .before .before .before .before .before .before .before .before .before .before .before .before .before .args .n)) (c .before .before .before .before .join .last .1 .1 .1 .0) (c .before .got .given .0 .0)
+after c = next-tree (fresh (c .before .before .before .before .before .before .before .before .before .before .before .before .before .before .before .before .before .before .args .n)) (ap marked (c .before .before .before .before .before .before .before .before .before .before .before .before .before .mark-list .ensures) ∙ marked-group (c .before .before .before .before .before .before .before .before .before .before .before .before .before .before .before .before .before .before .args .n) (now (c .before .before .before .before .before .before .before .before .before .before .before .before .before .before .before .before .before .before .args .list)) (c .before .before .before .before .before .before .before .before .before .before .before .before .before .before .before .before .before .before .pre .0) (c .before .before .before .before .before .before .before .before .before .before .before .before .before .before .before .before .before .before .pre .4)) (c .before .got .given .1) (c .before .before .before .before .join .ensures (fresh (c .before .before .before .before .before .before .before .before .before .before .before .before .before .before .before .before .before .before .args .n)) (started (c .before .before .before .before .before .before .before .before .before .before)))
 
 join-requires : tie.Need-join-requires
 join-requires c κs = ((fresh (c .before .before .before .before .before .before .before .before .before .before .before .before .before .args .n), started (c .before .before .before .before .before), fresh-form (c .before .before .before .before .before .before .before .before .before .before .before .before .before .args .n), c .before .before .before .before .before .before .before .before .before .before .before .before .before .pre .0), c .before .before .before .before .before .before .before .before .mark-list .kept .1 .0, omega arith)
@@ -69,7 +70,7 @@ enum-told : tie.Need-enum-told
 enum-told c = search needs
 
 returns : tie.Need-returns
-returns c = absurd (new-joins (c .before .before .before .before .before .before .before .before .before .before .before .before .before .before .before .before .before .args .n) (elem (now (c .before .before .before .before .before .before .before .before .before .before .before .before .before .before .before .before .before .args .list))) (c .before .before .before .before .before .before .before .before .before .before .before .before .before .before .before .before .before .pre .0) (no-tree (fresh (c .before .before .before .before .before .before .before .before .before .before .before .before .before .before .before .before .before .args .n)) (ap marked (c .before .before .before .before .before .before .before .before .before .before .before .before .mark-list .ensures)) (c .enum-told .given .1) (c .before .before .before .join .ensures (fresh (c .before .before .before .before .before .before .before .before .before .before .before .before .before .before .before .before .before .args .n)) (started (c .before .before .before .before .before .before .before .before .before)))))
+returns c = absurd (one-joins (c .before .before .before .before .before .before .before .before .before .before .before .before .before .before .before .before .before .args .n) (elem (now (c .before .before .before .before .before .before .before .before .before .before .before .before .before .before .before .before .before .args .list))) (no-tree (fresh (c .before .before .before .before .before .before .before .before .before .before .before .before .before .before .before .before .before .args .n)) (ap marked (c .before .before .before .before .before .before .before .before .before .before .before .before .mark-list .ensures) ∙ marked-group (c .before .before .before .before .before .before .before .before .before .before .before .before .before .before .before .before .before .args .n) (now (c .before .before .before .before .before .before .before .before .before .before .before .before .before .before .before .before .before .args .list)) (c .before .before .before .before .before .before .before .before .before .before .before .before .before .before .before .before .before .pre .0) (c .before .before .before .before .before .before .before .before .before .before .before .before .before .before .before .before .before .pre .4)) (c .enum-told .given .1) (c .before .before .before .join .ensures (fresh (c .before .before .before .before .before .before .before .before .before .before .before .before .before .before .before .before .before .args .n)) (started (c .before .before .before .before .before .before .before .before .before)))))
 
 sub-leave-out : tie.Need-sub-leave-out
 sub-leave-out c = search needs
@@ -84,7 +85,7 @@ returns-2 : tie.Need-returns-2
 returns-2 c =
     let x = after (c .before .before .before .before .before .before) in
     wrote-as (list-is (c .before .before .before .before .before .before .before .before .before .before .before .before .before .before .before .before .before .before .before .before .before .before .before .before .args .n) (now (c .before .before .before .before .before .before .before .before .before .before .before .before .before .before .before .before .before .before .before .before .before .before .before .before .args .book)) (c .before .before .before .before .before .before .before .before .before .before .before .before .before .before .before .before .before .before .before .before .before .before .before .before .args .count) (now (c .before .before .before .before .before .before .before .before .before .before .before .before .before .before .before .before .before .before .before .before .before .before .before .before .args .list)))
-    (c .before .before .leave-out .ensures .1 (x .tree) (elem (now (c .before .before .before .before .before .before .before .before .before .before .before .before .before .before .before .before .before .before .before .before .before .before .before .before .args .list))) [] (x .text) (new-represented (c .before .before .before .before .before .before .before .before .before .before .before .before .before .before .before .before .before .before .before .before .before .before .before .before .args .n) (elem (now (c .before .before .before .before .before .before .before .before .before .before .before .before .before .before .before .before .before .before .before .before .before .before .before .before .args .list))) (c .before .before .before .before .before .before .before .before .before .before .before .before .before .before .before .before .before .before .before .before .before .before .before .before .pre .0) (x .is)))
+    (c .before .before .leave-out .ensures .1 (x .tree) (elem (now (c .before .before .before .before .before .before .before .before .before .before .before .before .before .before .before .before .before .before .before .before .before .before .before .before .args .list))) [] (x .text) (one-represented (c .before .before .before .before .before .before .before .before .before .before .before .before .before .before .before .before .before .before .before .before .before .before .before .before .args .n) (elem (now (c .before .before .before .before .before .before .before .before .before .before .before .before .before .before .before .before .before .before .before .before .before .before .before .before .args .list))) (x .is)))
 
 leave-out-requires : tie.Need-leave-out-requires
 leave-out-requires c κs = (next-published (fresh (c .before .before .before .before .before .before .before .before .before .before .before .before .before .before .before .before .before .before .before .before .before .args .n), started (c .before .before .before .before .before .before .before .before .before .before .before .before .before), fresh-form (c .before .before .before .before .before .before .before .before .before .before .before .before .before .before .before .before .before .before .before .before .before .args .n), c .before .before .before .before .before .before .before .before .before .before .before .before .before .before .before .before .before .before .before .before .before .pre .0) (after (c .before .before .before)), c .before .before .before .before .before .before .before .before .before .before .before .before .before .before .before .before .before .before .before .before .before .pre .1, omega arith, c .before .before .before .before .before .before .before .before .before .before .before .before .before .before .before .before .before .before .before .before .before .pre .2, omega (arith, c .before .before .before .before .before .before .before .before .before .before .before .before .before .before .before .before .before .before .before .before .before .pre .3))
