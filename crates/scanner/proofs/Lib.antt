@@ -1,0 +1,5 @@
+pub mod Words
+pub mod Language
+pub mod Completion
+pub mod Derivative
+pub mod Exact
