@@ -3,3 +3,5 @@ pub mod Language
 pub mod Completion
 pub mod Derivative
 pub mod Exact
+pub mod Rule
+pub mod Canonical
