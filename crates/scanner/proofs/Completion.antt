@@ -34,13 +34,13 @@ fill [] c l h = record
   ; fits = (omega (arith, items-length l), forked-leaves l, tt)
   ; each = sym (append-nil (frontier (leaf-items l)) ∙ frontier-leaves l) }
 fill (d ∷ cs) c l h =
-    let a = take (2 - c) l in
-    let b = drop (2 - c) l in
-    let r = fill cs d b (rw (length-drop (2 - c) l) (omega arith)) in
+    let a = take c l in
+    let b = drop c l in
+    let r = fill cs d b (rw (length-drop c l) (omega arith)) in
     record
     { fs = leaf-items a ∷ r .fs
-    ; fits = (rw (items-length a, length-take (2 - c) l) (omega arith), forked-leaves a, r .fits)
-    ; each = sym (take-append-drop (2 - c) l) ∙ (rw (frontier-leaves a) (ap (λ t. a ++ t) (r .each))) }
+    ; fits = (rw (items-length a, length-take c l) (omega arith), forked-leaves a, r .fits)
+    ; each = sym (take-append-drop c l) ∙ (rw (frontier-leaves a) (ap (λ t. a ++ t) (r .each))) }
 
 perm-eq : {l k : List ℕ} → l ≡ k → Perm l k
 perm-eq {l} e = subst (Perm l) e (perm-refl l)
@@ -55,21 +55,21 @@ finish-num ds c cs l h g =
     let t = finish-tail c cs (g .k) (omega (arith, pick-length (g .pick))) in
     (g .tail ++ t .0, record { m = g .m; tail = g .tail; k = g .k; y = t .0; name = g .name; pick = g .pick; is = refl; then = t .1 })
 
-due-of : (c : ℕ) (cs l : List ℕ) (m : ℕ) → Filled (suc c ∷ cs) l → (x : List ℕ) × Due c cs (m ∷ l) x
+due-of : (c : ℕ) (cs l : List ℕ) (m : ℕ) → Filled ((c - 1) ∷ cs) l → (x : List ℕ) × Due c cs (m ∷ l) x
 due-of c cs l m r = go (r .fs) (r .fits) (r .each)
   where
-    go : (fs : List Forest) → Fits (suc c ∷ cs) fs → l ≡ frontiers fs → (x : List ℕ) × Due c cs (m ∷ l) x
+    go : (fs : List Forest) → Fits ((c - 1) ∷ cs) fs → l ≡ frontiers fs → (x : List ℕ) × Due c cs (m ∷ l) x
     go (f ∷ fs) h e = (text (leaf m f) ++ (41 ∷ bytes fs), record
       { f = leaf m f; fs = fs; has = omega arith; two = omega arith; good = h .1; fits = h .2
       ; each = next here (perm-eq e); is = refl })
 
-finish-due : (c : ℕ) (cs l : List ℕ) → suc (need (suc c ∷ cs)) ≤ length l → (x : List ℕ) × Due c cs l x
+finish-due : (c : ℕ) (cs l : List ℕ) → suc (need ((c - 1) ∷ cs)) ≤ length l → (x : List ℕ) × Due c cs l x
 finish-due c cs [] h = absurd (omega arith)
-finish-due c cs (m ∷ l) h = due-of c cs l m (fill cs (suc c) l (omega arith))
+finish-due c cs (m ∷ l) h = due-of c cs l m (fill cs (c - 1) l (omega arith))
 
 finish-open : (cs l : List ℕ) → 2 + need cs ≤ length l → (x : List ℕ) × Open cs l x
 finish-open cs l h =
-    let t = finish-due 0 cs l (omega arith) in
+    let t = finish-due 2 cs l (omega arith) in
     (40 ∷ t .0, record { y = t .0; is = refl; then = t .1 })
 
 pub finish : (s : State) → Viable s → (x : List ℕ) × Lang s x

@@ -4,7 +4,7 @@ use mathlib.Core.Logic.{_⊎_, inl, inr}
 use mathlib.Core.Bool.{Bool, true, false, _||_, _&&_}
 use mathlib.Core.Option.{Option, none, some}
 use mathlib.Core.List.{List, [], _∷_, _++_, append-assoc, append-nil}
-use Prim.Native.Nat.{ℕ, suc, _+_, _≤_, _<_}
+use Prim.Native.Nat.{ℕ, suc, _+_, _-_, _≤_, _<_}
 use native.Mathlib.Omega.{arith}
 use borrow.Author.Tests.{eqb-true, eqb-false, eq-eqb, leb-true, leb-false, le-leb}
 use lib.Dec.{leb, eqb}
@@ -79,15 +79,15 @@ space-tail : {c : ℕ} {cs l x : List ℕ} → Due c cs l x → Tail (c ∷ cs) 
 space-tail d = record { fs = d .f ∷ d .fs; fits = (d .two, d .good, d .fits); each = d .each
   ; is = rw (more-text (d .f) (d .has)) (ap (_∷_ 32) (d .is)) }
 
-tail-close : {c : ℕ} {cs l x : List ℕ} → Tail (c ∷ cs) l (41 ∷ x) → (2 ≤ c) × Tail cs l x
+tail-close : {c : ℕ} {cs l x : List ℕ} → Tail (c ∷ cs) l (41 ∷ x) → (c ≡ 0) × Tail cs l x
 tail-close {c} {cs} {l} {x} t = go (t .fs) (t .fits) (t .each) (t .is)
   where
-    go : (fs : List Forest) → Fits (c ∷ cs) fs → Perm l (frontiers fs) → 41 ∷ x ≡ bytes fs → (2 ≤ c) × Tail cs l x
+    go : (fs : List Forest) → Fits (c ∷ cs) fs → Perm l (frontiers fs) → 41 ∷ x ≡ bytes fs → (c ≡ 0) × Tail cs l x
     go (nil ∷ fs) h p e = (omega (arith, h .0), record { fs = fs; fits = h .2; each = p; is = cons-tail e })
     go (leaf m f ∷ fs) h p e = absurd (let z = cons-head e in omega arith)
     go (node k i f ∷ fs) h p e = absurd (let z = cons-head e in omega arith)
 
-close-tail : {c : ℕ} {cs l x : List ℕ} → 2 ≤ c → Tail cs l x → Tail (c ∷ cs) l (41 ∷ x)
+close-tail : {c : ℕ} {cs l x : List ℕ} → c ≡ 0 → Tail cs l x → Tail (c ∷ cs) l (41 ∷ x)
 close-tail h t = record { fs = nil ∷ t .fs; fits = (omega arith, tt, t .fits); each = t .each; is = ap (_∷_ 41) (t .is) }
 
 tail-byte : {cs l x : List ℕ} (b : ℕ) → Tail cs l (b ∷ x) → (b ≡ 32) ⊎ (b ≡ 41)
@@ -119,27 +119,27 @@ after-deriv [] l b v = stop (λ x t. let e = tail-end t .0 in let z : _≡_ {A =
 after-deriv (c ∷ cs) l b v =
     cond-cases (eqb b 32) _ _ (Deriv (after (c ∷ cs) l) b)
       (λ y. let e = eqb-true b 32 y in
-        cond-cases (leb (suc (need (suc c ∷ cs))) (length l)) _ _ (Deriv (after (c ∷ cs) l) b)
-          (λ h. goes (leb-true (suc (need (suc c ∷ cs))) (length l) h)
+        cond-cases (leb (suc (need ((c - 1) ∷ cs))) (length l)) _ _ (Deriv (after (c ∷ cs) l) b)
+          (λ h. goes (leb-true (suc (need ((c - 1) ∷ cs))) (length l) h)
             (λ x t. tail-space (subst (λ w. Tail (c ∷ cs) l (w ∷ x)) e t))
             (λ x d. subst (λ w. Tail (c ∷ cs) l (w ∷ x)) (sym e) (space-tail d)))
           (λ h. stop (λ x t. let d = due-need (tail-space (subst (λ w. Tail (c ∷ cs) l (w ∷ x)) e t)) in
-            let g = leb-false (suc (need (suc c ∷ cs))) (length l) h in omega arith)))
-      (λ n. cond-cases (eqb b 41 && (leb 2 c && closes cs l)) _ _ (Deriv (after (c ∷ cs) l) b)
-          (λ h. let a = and-true (eqb b 41) (leb 2 c && closes cs l) h in
-            let a' = and-true (leb 2 c) (closes cs l) (a .1) in
+            let g = leb-false (suc (need ((c - 1) ∷ cs))) (length l) h in omega arith)))
+      (λ n. cond-cases (eqb b 41 && (eqb c 0 && closes cs l)) _ _ (Deriv (after (c ∷ cs) l) b)
+          (λ h. let a = and-true (eqb b 41) (eqb c 0 && closes cs l) h in
+            let a' = and-true (eqb c 0) (closes cs l) (a .1) in
             let e = eqb-true b 41 (a .0) in
-            let two = leb-true 2 c (a' .0) in
+            let two = eqb-true c 0 (a' .0) in
             goes (omega arith, a' .1)
               (λ x t. tail-close (subst (λ w. Tail (c ∷ cs) l (w ∷ x)) e t) .1)
               (λ x t. subst (λ w. Tail (c ∷ cs) l (w ∷ x)) (sym e) (close-tail two t)))
           (λ h. stop (λ x t. not-there x h (tail-byte b t) t n)))
   where
-    not-there : (x : List ℕ) → eqb b 41 && (leb 2 c && closes cs l) ≡ false → (b ≡ 32) ⊎ (b ≡ 41) → Tail (c ∷ cs) l (b ∷ x) → eqb b 32 ≡ false → ⊥
+    not-there : (x : List ℕ) → eqb b 41 && (eqb c 0 && closes cs l) ≡ false → (b ≡ 32) ⊎ (b ≡ 41) → Tail (c ∷ cs) l (b ∷ x) → eqb b 32 ≡ false → ⊥
     not-there x h (inl e) t n = eqb-false b 32 n e
     not-there x h (inr e) t n =
         let q = tail-close (subst (λ w. Tail (c ∷ cs) l (w ∷ x)) e t) in
-        let a = and-all (eqb b 41) (leb 2 c) (closes cs l) (eq-eqb b 41 e) (le-leb 2 c (q .0)) (tail-closes cs l (q .1)) in
+        let a = and-all (eqb b 41) (eqb c 0) (closes cs l) (eq-eqb b 41 e) (eq-eqb c 0 (q .0)) (tail-closes cs l (q .1)) in
         let z : _≡_ {A = ℕ} 0 1 = cc in omega arith
 
 -- A byte that begins a number is a digit.
@@ -158,10 +158,10 @@ letter-high P = omega arith
 letter-high C = omega arith
 
 -- An item is due: a node or a leaf.
-due-node : {c : ℕ} {cs l x : List ℕ} (b : ℕ) → Letter b → Due c cs l (b ∷ x) → Open (suc c ∷ cs) l x
+due-node : {c : ℕ} {cs l x : List ℕ} (b : ℕ) → Letter b → Due c cs l (b ∷ x) → Open ((c - 1) ∷ cs) l x
 due-node {c} {cs} {l} {x} b k d = go (d .f) (d .has) (d .good) (d .two) (d .each) (d .is)
   where
-    go : (f : Forest) → 1 ≤ length (items f) → Forked f → 2 ≤ c + length (items f) → Perm l (frontier f ++ frontiers (d .fs)) → b ∷ x ≡ text f ++ (41 ∷ bytes (d .fs)) → Open (suc c ∷ cs) l x
+    go : (f : Forest) → 1 ≤ length (items f) → Forked f → c ≤ length (items f) → Perm l (frontier f ++ frontiers (d .fs)) → b ∷ x ≡ text f ++ (41 ∷ bytes (d .fs)) → Open ((c - 1) ∷ cs) l x
     go nil h g n p e = absurd (omega arith)
     go (leaf m f) h g n p e =
         let r = first-byte (digits m) (digits-nonempty m) b x (more f ++ (41 ∷ bytes (d .fs))) (e ∙ simp append-assoc) in
@@ -172,17 +172,17 @@ due-node {c} {cs} {l} {x} b k d = go (d .f) (d .has) (d .good) (d .two) (d .each
       ; then = record { f = i; fs = f ∷ d .fs; has = omega (arith, g .0 .0); two = omega (arith, g .0 .0); good = g .0 .1; fits = (omega arith, g .1, d .fits)
                       ; each = rw append-assoc at p; is = refl } }
 
-node-due : {c : ℕ} {cs l x : List ℕ} (b : ℕ) → Letter b → Open (suc c ∷ cs) l x → Due c cs l (b ∷ x)
+node-due : {c : ℕ} {cs l x : List ℕ} (b : ℕ) → Letter b → Open ((c - 1) ∷ cs) l x → Due c cs l (b ∷ x)
 node-due {c} {cs} {l} {x} b k o = go (o .then .fs) (o .then .fits) (o .then .each) (o .is ∙ ap (_∷_ 40) (o .then .is))
   where
-    go : (fs : List Forest) → Fits (suc c ∷ cs) fs → Perm l (frontier (o .then .f) ++ frontiers fs) → x ≡ 40 ∷ (text (o .then .f) ++ (41 ∷ bytes fs)) → Due c cs l (b ∷ x)
+    go : (fs : List Forest) → Fits ((c - 1) ∷ cs) fs → Perm l (frontier (o .then .f) ++ frontiers fs) → x ≡ 40 ∷ (text (o .then .f) ++ (41 ∷ bytes fs)) → Due c cs l (b ∷ x)
     go (f ∷ fs) h p e = record { f = node (k .0) (o .then .f) f; fs = fs; has = omega arith; two = omega (arith, h .0); good = ((omega (arith, o .then .two), o .then .good), h .1)
       ; fits = h .2; each = rw append-assoc p; is = ap₂ _∷_ (k .1) (e ∙ simp append-assoc) }
 
-due-leaf : {c : ℕ} {cs l x : List ℕ} (b : ℕ) → ((k : Kind) → b ≡ letter k → ⊥) → Due c cs l (b ∷ x) → Num (b ∷ []) (suc c ∷ cs) l x
+due-leaf : {c : ℕ} {cs l x : List ℕ} (b : ℕ) → ((k : Kind) → b ≡ letter k → ⊥) → Due c cs l (b ∷ x) → Num (b ∷ []) ((c - 1) ∷ cs) l x
 due-leaf {c} {cs} {l} {x} b k d = go (d .f) (d .has) (d .good) (d .two) (d .each) (d .is)
   where
-    go : (f : Forest) → 1 ≤ length (items f) → Forked f → 2 ≤ c + length (items f) → Perm l (frontier f ++ frontiers (d .fs)) → b ∷ x ≡ text f ++ (41 ∷ bytes (d .fs)) → Num (b ∷ []) (suc c ∷ cs) l x
+    go : (f : Forest) → 1 ≤ length (items f) → Forked f → c ≤ length (items f) → Perm l (frontier f ++ frontiers (d .fs)) → b ∷ x ≡ text f ++ (41 ∷ bytes (d .fs)) → Num (b ∷ []) ((c - 1) ∷ cs) l x
     go nil h g n p e = absurd (omega arith)
     go (leaf m f) h g n (next {k = j} p q) e =
         let r = first-byte (digits m) (digits-nonempty m) b x (more f ++ (41 ∷ bytes (d .fs))) (e ∙ simp append-assoc) in
@@ -190,10 +190,10 @@ due-leaf {c} {cs} {l} {x} b k d = go (d .f) (d .has) (d .good) (d .two) (d .each
                ; then = record { fs = f ∷ d .fs; fits = (omega arith, g, d .fits); each = q; is = refl } }
     go (node j i f) h g n p e = absurd (k j (cons-head e))
 
-leaf-due : {c : ℕ} {cs l x : List ℕ} (b : ℕ) → Num (b ∷ []) (suc c ∷ cs) l x → Due c cs l (b ∷ x)
+leaf-due : {c : ℕ} {cs l x : List ℕ} (b : ℕ) → Num (b ∷ []) ((c - 1) ∷ cs) l x → Due c cs l (b ∷ x)
 leaf-due {c} {cs} {l} {x} b d = go (d .then .fs) (d .then .fits) (d .then .each) (d .is ∙ ap (λ w. d .tail ++ w) (d .then .is))
   where
-    go : (fs : List Forest) → Fits (suc c ∷ cs) fs → Perm (d .k) (frontiers fs) → x ≡ d .tail ++ bytes fs → Due c cs l (b ∷ x)
+    go : (fs : List Forest) → Fits ((c - 1) ∷ cs) fs → Perm (d .k) (frontiers fs) → x ≡ d .tail ++ bytes fs → Due c cs l (b ∷ x)
     go (f ∷ fs) h p e = record { f = leaf (d .m) f; fs = fs; has = omega arith; two = omega (arith, h .0); good = h .1; fits = h .2
       ; each = next (d .pick) p; is = rw (d .name) (ap (_∷_ b) (e ∙ sym (append-assoc (d .tail) (more f) (41 ∷ bytes fs)))) }
 
@@ -205,9 +205,9 @@ unfolding step
 due-deriv c cs l b v =
     cond-cases (letter? b) _ _ (Deriv (due c cs l) b)
       (λ y. let k = letter-true b y in
-        cond-cases (leb (2 + need (suc c ∷ cs)) (length l)) _ _ (Deriv (due c cs l) b)
-          (λ h. goes (leb-true (2 + need (suc c ∷ cs)) (length l) h) (λ x d. due-node b k d) (λ x o. node-due b k o))
-          (λ h. stop (λ x d. let a = open-need (due-node b k d) in let g = leb-false (2 + need (suc c ∷ cs)) (length l) h in omega arith)))
+        cond-cases (leb (2 + need ((c - 1) ∷ cs)) (length l)) _ _ (Deriv (due c cs l) b)
+          (λ h. goes (leb-true (2 + need ((c - 1) ∷ cs)) (length l) h) (λ x d. due-node b k d) (λ x o. node-due b k o))
+          (λ h. stop (λ x d. let a = open-need (due-node b k d) in let g = leb-false (2 + need ((c - 1) ∷ cs)) (length l) h in omega arith)))
       (λ n. let k = letter-false b n in
         cond-cases (begun (b ∷ []) l) _ _ (Deriv (due c cs l) b)
           (λ h. goes (v, h) (λ x d. due-leaf b k d) (λ x m. leaf-due b m))
@@ -264,7 +264,7 @@ unfolding step
 open-deriv cs l b v =
     cond-cases (eqb b 40) _ _ (Deriv (open-due cs l) b)
       (λ y. goes (omega arith)
-        (λ x o. subst (Due 0 cs l) (sym (cons-tail (o .is))) (o .then))
+        (λ x o. subst (Due 2 cs l) (sym (cons-tail (o .is))) (o .then))
         (λ x d. record { y = x; is = ap (λ w. w ∷ x) (eqb-true b 40 y); then = d }))
       (λ n. stop (λ x o. eqb-false b 40 n (cons-head (o .is))))
 

@@ -100,7 +100,7 @@ to-text n x h =
     go (h .then .then .fs) (h .then .then .fits) (h .then .then .each)
     (h .is ∙ ap (λ w. 49 ∷ 32 ∷ letter (h .k) ∷ w) (h .then .is ∙ ap (_∷_ 40) (h .then .then .is)))
   where
-    d : Due 0 [] (others n) (h .then .y)
+    d : Due 2 [] (others n) (h .then .y)
     d = h .then .then
 
     go : (fs : List Forest) → Fits [] fs → Perm (others n) (frontier (d .f) ++ frontiers fs)

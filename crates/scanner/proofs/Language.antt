@@ -2,7 +2,7 @@
 use mathlib.Core.Path.{_≡_, refl}
 use mathlib.Core.Bool.{true}
 use mathlib.Core.List.{List, [], _∷_, _++_}
-use Prim.Native.Nat.{ℕ, suc, _+_, _≤_}
+use Prim.Native.Nat.{ℕ, suc, _+_, _-_, _≤_}
 use native.Mathlib.Omega.{arith}
 use lib.ListN.{length, length-append}
 use Rattle.orders.specs.Lists.{Perm, Pick}
@@ -27,7 +27,7 @@ abbrev pub Fits : List ℕ → List Forest → Type 0
 Fits [] [] = Unit {0}
 Fits [] (f ∷ fs) = ⊥
 Fits (c ∷ cs) [] = ⊥
-Fits (c ∷ cs) (f ∷ fs) = (2 ≤ c + length (items f)) × Forked f × Fits cs fs
+Fits (c ∷ cs) (f ∷ fs) = (c ≤ length (items f)) × Forked f × Fits cs fs
 
 pub record Tail (cs l x : List ℕ) : Type 0 where
   pub fs : List Forest
@@ -39,7 +39,7 @@ pub record Due (c : ℕ) (cs l x : List ℕ) : Type 0 where
   pub f : Forest
   pub fs : List Forest
   pub has : 1 ≤ length (items f)
-  pub two : 2 ≤ c + length (items f)
+  pub two : c ≤ length (items f)
   pub good : Forked f
   pub fits : Fits cs fs
   pub each : Perm l (frontier f ++ frontiers fs)
@@ -58,7 +58,7 @@ pub record Num (ds cs l x : List ℕ) : Type 0 where
 pub record Open (cs l x : List ℕ) : Type 0 where
   pub y : List ℕ
   pub is : x ≡ 40 ∷ y
-  pub then : Due 0 cs l y
+  pub then : Due 2 cs l y
 
 pub record Pre (ws l x : List ℕ) : Type 0 where
   pub k : Kind
@@ -79,7 +79,7 @@ abbrev pub Viable : State → Type 0
 Viable (lit ws) = Unit {0}
 Viable (pre ws l) = 2 ≤ length l
 Viable (open-due cs l) = 2 + need cs ≤ length l
-Viable (due c cs l) = suc (need (suc c ∷ cs)) ≤ length l
+Viable (due c cs l) = suc (need ((c - 1) ∷ cs)) ≤ length l
 Viable (num ds c cs l) = (suc (need (c ∷ cs)) ≤ length l) × (begun ds l ≡ true)
 Viable (after cs l) = (need cs ≤ length l) × (closes cs l ≡ true)
 
@@ -88,7 +88,7 @@ fits-need [] [] h = omega arith
 fits-need (c ∷ cs) (f ∷ fs) h = simp length-append (omega (arith, nodes-bound f (h .1), fits-need cs fs (h .2)))
 
 -- What the scanner asks for is there.
-pub due-need : {c : ℕ} {cs l x : List ℕ} → Due c cs l x → suc (need (suc c ∷ cs)) ≤ length l
+pub due-need : {c : ℕ} {cs l x : List ℕ} → Due c cs l x → suc (need ((c - 1) ∷ cs)) ≤ length l
 due-need {cs = cs} d = rw (perm-length (d .each), length-append) (omega (arith, nodes-bound (d .f) (d .good), fits-need cs (d .fs) (d .fits)))
 
 pub open-need : {cs l x : List ℕ} → Open cs l x → 2 + need cs ≤ length l

@@ -5,3 +5,4 @@ pub mod Derivative
 pub mod Exact
 pub mod Rule
 pub mod Canonical
+pub mod Numbers

@@ -32,7 +32,7 @@ seek ds (m ∷ l) = cond (same ds (digits m)) (some l) (put m (seek ds l))
 -- Open nodes are told by the number of items begun in each, innermost first. So many others they still want.
 abbrev pub need : List ℕ → ℕ
 need [] = 0
-need (c ∷ cs) = (2 - c) + need cs
+need (c ∷ cs) = c + need cs
 
 -- In each state but the first the last argument is the list of others not yet printed.
 pub data State : Type 0 where
@@ -59,8 +59,8 @@ abbrev pub step-after : List ℕ → List ℕ → ℕ → Option State
 step-after [] l b = none
 step-after (c ∷ cs) l b =
     cond (eqb b 32)
-      (cond (leb (suc (need (suc c ∷ cs))) (length l)) (some (due c cs l)) none)
-      (cond (eqb b 41 && (leb 2 c && closes cs l)) (some (after cs l)) none)
+      (cond (leb (suc (need ((c - 1) ∷ cs))) (length l)) (some (due c cs l)) none)
+      (cond (eqb b 41 && (eqb c 0 && closes cs l)) (some (after cs l)) none)
 
 abbrev pub step-leaf : Option (List ℕ) → ℕ → List ℕ → ℕ → Option State
 step-leaf none c cs b = none
@@ -71,11 +71,11 @@ step (lit []) b = none
 step (lit (w ∷ ws)) b = cond (eqb b w) (some (lit ws)) none
 step (pre [] l) b = cond (letter? b) (some (open-due [] l)) none
 step (pre (w ∷ ws) l) b = cond (eqb b w) (some (pre ws l)) none
-step (open-due cs l) b = cond (eqb b 40) (some (due 0 cs l)) none
+step (open-due cs l) b = cond (eqb b 40) (some (due 2 cs l)) none
 step (due c cs l) b =
     cond (letter? b)
-      (cond (leb (2 + need (suc c ∷ cs)) (length l)) (some (open-due (suc c ∷ cs) l)) none)
-      (cond (begun (b ∷ []) l) (some (num (b ∷ []) (suc c) cs l)) none)
+      (cond (leb (2 + need ((c - 1) ∷ cs)) (length l)) (some (open-due ((c - 1) ∷ cs) l)) none)
+      (cond (begun (b ∷ []) l) (some (num (b ∷ []) (c - 1) cs l)) none)
 step (num ds c cs l) b =
     cond (sep? b)
       (step-leaf (seek ds l) c cs b)
