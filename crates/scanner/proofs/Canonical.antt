@@ -67,11 +67,12 @@ keeps-canonical (leaf b f) k m o g d h =
 keeps-canonical (node j i f) k m o g d h =
     let di = distinct-left (frontier i) (frontier f) d in
     let q = keeps-canonical i j 0 (o + 2) (g .0 .1) di (λ p w. h p (inside w)) in
-    let r = keeps-canonical f k (first i) (o + length (text i) + 4) (g .1) (distinct-right (frontier i) (frontier f) d) (λ p w. h p (after-node w)) in
-    ((((g .0 .0, sorted j k m o i f (g .0 .0) (q .0) di h (q .1)), q .0), r .0),
+    let r = keeps-canonical f k (first i) (o + length (text i) + 4) (g .1) (distinct-right (frontier i) (frontier f) d) (λ p w. h p (after-node w)) in (
+      (((g .0 .0, sorted j k m o i f (g .0 .0) (q .0) di h (q .1)), q .0), r .0),
       node-up k j m o i f
-      (λ s e. apart (first i) (frontier i) (frontier f) d (first-in i (g .0 .1) (omega (arith, g .0 .0))) (subst (λ w. In w (frontier f)) (sym e) (first-in f (g .1) s)))
-      (r .1) h)
+          (λ s e. apart (first i) (frontier i) (frontier f) d (first-in i (g .0 .1) (omega (arith, g .0 .0))) (subst (λ w. In w (frontier f)) (sym e) (first-in f (g .1) s)))
+          (r .1) h,
+    )
 
 pub keeps-form : (n : ℕ) (t : Forest) → Shaped n t → Keeps C 0 2 t → InForm n t
 keeps-form n t s h = record {

@@ -29,18 +29,20 @@ record Filled (cs l : List ℕ) : Type 0 where
   each : l ≡ frontiers fs
 
 fill : (cs : List ℕ) (c : ℕ) (l : List ℕ) → need (c ∷ cs) ≤ length l → Filled (c ∷ cs) l
-fill [] c l h = record
-  { fs = leaf-items l ∷ []
-  ; fits = (omega (arith, items-length l), forked-leaves l, tt)
-  ; each = sym (append-nil (frontier (leaf-items l)) ∙ frontier-leaves l) }
+fill [] c l h = record {
+  fs = leaf-items l ∷ [];
+  fits = (omega (arith, items-length l), forked-leaves l, tt);
+  each = sym (append-nil (frontier (leaf-items l)) ∙ frontier-leaves l);
+}
 fill (d ∷ cs) c l h =
     let a = take c l in
     let b = drop c l in
     let r = fill cs d b (rw (length-drop c l) (omega arith)) in
-    record
-    { fs = leaf-items a ∷ r .fs
-    ; fits = (rw (items-length a, length-take c l) (omega arith), forked-leaves a, r .fits)
-    ; each = sym (take-append-drop c l) ∙ (rw (frontier-leaves a) (ap (λ t. a ++ t) (r .each))) }
+    record {
+      fs = leaf-items a ∷ r .fs;
+      fits = (rw (items-length a, length-take c l) (omega arith), forked-leaves a, r .fits);
+      each = sym (take-append-drop c l) ∙ (rw (frontier-leaves a) (ap (λ t. a ++ t) (r .each)));
+    }
 
 perm-eq : {l k : List ℕ} → l ≡ k → Perm l k
 perm-eq {l} e = subst (Perm l) e (perm-refl l)
@@ -59,9 +61,19 @@ due-of : (c : ℕ) (cs l : List ℕ) (m : ℕ) → Filled ((c - 1) ∷ cs) l →
 due-of c cs l m r = go (r .fs) (r .fits) (r .each)
   where
     go : (fs : List Forest) → Fits ((c - 1) ∷ cs) fs → l ≡ frontiers fs → (x : List ℕ) × Due c cs (m ∷ l) x
-    go (f ∷ fs) h e = (text (leaf m f) ++ (41 ∷ bytes fs), record
-      { f = leaf m f; fs = fs; has = omega arith; two = omega arith; good = h .1; fits = h .2
-      ; each = next here (perm-eq e); is = refl })
+    go (f ∷ fs) h e = (
+      text (leaf m f) ++ (41 ∷ bytes fs),
+      record {
+        f = leaf m f;
+        fs = fs;
+        has = omega arith;
+        two = omega arith;
+        good = h .1;
+        fits = h .2;
+        each = next here (perm-eq e);
+        is = refl;
+      },
+    )
 
 finish-due : (c : ℕ) (cs l : List ℕ) → suc (need ((c - 1) ∷ cs)) ≤ length l → (x : List ℕ) × Due c cs l x
 finish-due c cs [] h = absurd (omega arith)

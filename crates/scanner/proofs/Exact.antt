@@ -63,15 +63,15 @@ not-final (after (c ∷ cs) l) e h = tail-some h [] refl
 
 at-the-end : (s : State) → Viable s → (p : ℕ) → Right s [] p (cond (final s) accepted (refused p))
 at-the-end s v p = cond-cases (final s) accepted (refused p) (Right s [] p)
-  (λ y. ok (final-lang s v y))
-  (λ n. bad p 0 (omega arith) (more-to-come (finish s v .0) (finish s v .1) n))
+    (λ y. ok (final-lang s v y))
+    (λ n. bad p 0 (omega arith) (more-to-come (finish s v .0) (finish s v .1) n))
   where
     more-to-come : (x : List ℕ) → Lang s x → final s ≡ false → Fails s [] 0
     more-to-come [] h n = absurd (not-final s n h)
     more-to-come (b ∷ x) h n = end refl (not-final s n) b x h
 
 further : (s t : State) (b : ℕ) (x : List ℕ) (p : ℕ) → ((y : List ℕ) → Lang s (b ∷ y) → Lang t y) → ((y : List ℕ) → Lang t y → Lang s (b ∷ y))
-  → (a : Answer) → Right t x (suc p) a → Right s (b ∷ x) p a
+    → (a : Answer) → Right t x (suc p) a → Right s (b ∷ x) p a
 further s t b x p f g accepted (ok h) = ok (g x h)
 further s t b x p f g (refused _) (bad r q e h) = bad r (suc q) (omega arith) (up h)
   where
@@ -80,7 +80,7 @@ further s t b x p f g (refused _) (bad r q e h) = bad r (suc q) (omega arith) (u
     up (end l n c y h) = end (omega arith) (λ h. n (f x h)) c y (g _ h)
 
 after-step : (s : State) → Viable s → (b : ℕ) (x : List ℕ) (p : ℕ) → ((t : State) → Viable t → Right t x (suc p) (run x (suc p) t))
-  → (o : Option State) → Deriv s b o → Right s (b ∷ x) p (elim o [ none ↦ refused p | some t ↦ run x (suc p) t ])
+    → (o : Option State) → Deriv s b o → Right s (b ∷ x) p (elim o [ none ↦ refused p | some t ↦ run x (suc p) t ])
 after-step s v b x p rec none (stop h) = bad p 0 (omega arith) (mid (omega arith) (λ y l. h y l) (finish s v .0) (finish s v .1))
 after-step s v b x p rec (some t) (goes w f g) = further s t b x p f g (run x (suc p) t) (rec t w)
 
@@ -114,9 +114,16 @@ of-text n b x t = go (t .tree) (t .shaped .single) (t .shaped .forked) (t .shape
     go : (f : Forest) → Single (items f) → Forked f → Perm (others n) (frontier f) → x ≡ tree-text f → Lang (pre (49 ∷ 32 ∷ []) (others n)) x
     go nil s g p e = absurd (omega (arith, perm-length p, others-length n))
     go (leaf m nil) s g p e = absurd (omega (arith, perm-length p, others-length n))
-    go (node k i nil) s g p e = record { k = k; y = 40 ∷ (text i ++ (41 ∷ [])); is = e
-      ; then = record { y = text i ++ (41 ∷ []); is = refl
-        ; then = record { f = i; fs = []; has = omega (arith, g .0 .0); two = omega (arith, g .0 .0); good = g .0 .1; fits = tt; each = p; is = refl } } }
+    go (node k i nil) s g p e = record {
+      k = k;
+      y = 40 ∷ (text i ++ (41 ∷ []));
+      is = e;
+      then = record {
+        y = text i ++ (41 ∷ []);
+        is = refl;
+        then = record { f = i; fs = []; has = omega (arith, g .0 .0); two = omega (arith, g .0 .0); good = g .0 .1; fits = tt; each = p; is = refl };
+      };
+    }
 
 -- A node has two leaves or more.
 node-long : (n : ℕ) (f : Forest) → Shaped n f → length (items f) ≤ length (others n)

@@ -6,3 +6,4 @@ pub mod Exact
 pub mod Rule
 pub mod Canonical
 pub mod Numbers
+pub mod Moves

@@ -30,8 +30,8 @@ bool-same false false f g = refl
 
 pub same-digits : (v m : ℕ) → same (digits v) (digits m) ≡ eqb m v
 same-digits v m = bool-same (same (digits v) (digits m)) (eqb m v)
-  (λ h. eq-eqb m v (sym (digits-injective v m (same-decides (digits v) (digits m) .0 h))))
-  (λ h. subst (λ w. same (digits v) (digits w) ≡ true) (sym (eqb-true m v h)) (same-decides (digits v) (digits v) .1 refl))
+    (λ h. eq-eqb m v (sym (digits-injective v m (same-decides (digits v) (digits m) .0 h))))
+    (λ h. subst (λ w. same (digits v) (digits w) ≡ true) (sym (eqb-true m v h)) (same-decides (digits v) (digits v) .1 refl))
 
 -- A beginning of q and one digit more: of q, or the whole.
 begins-snoc : (a q : List ℕ) (d : ℕ) → begins a (q ++ (d ∷ [])) ≡ same a (q ++ (d ∷ [])) || begins a q
@@ -64,8 +64,8 @@ begins-less v m h = ap (begins (digits v)) (digits-one m h) ∙ begins-one (digi
 begins-more : (v m : ℕ) → 10 ≤ m → begins (digits v) (digits m) ≡ eqb m v || begins (digits v) (digits (m / 10))
 begins-more v m h =
     ap (begins (digits v)) (digits-step m h) ∙ begins-snoc (digits v) (digits (m / 10)) (48 + m % 10)
-      ∙ ap (λ l. same (digits v) l || begins (digits v) (digits (m / 10))) (sym (digits-step m h))
-      ∙ ap (λ t. t || begins (digits v) (digits (m / 10))) (same-digits v m)
+    ∙ ap (λ l. same (digits v) l || begins (digits v) (digits (m / 10))) (sym (digits-step m h))
+    ∙ ap (λ t. t || begins (digits v) (digits (m / 10))) (same-digits v m)
 
 or-false : (a : Bool) → a ≡ a || false
 or-false true = refl
@@ -80,7 +80,7 @@ starts-is v m h g = go (decLe 10 m) (decLe 100 m)
     go (yes a) (no c) = begins-more v m a ∙ ap (λ t. eqb m v || t) (begins-less v (m / 10) (omega arith) ∙ or-false (eqb (m / 10) v) ∙ rw (ne-eqb (m / 100) v (omega arith)))
     go (yes a) (yes c) =
         begins-more v m a ∙ ap (λ t. eqb m v || t) (begins-more v (m / 10) (omega arith)
-          ∙ ap (λ t. eqb (m / 10) v || t) (begins-less v (m / 10 / 10) (omega arith) ∙ ap (λ w. eqb w v) (omega arith)))
+        ∙ ap (λ t. eqb (m / 10) v || t) (begins-less v (m / 10 / 10) (omega arith) ∙ ap (λ w. eqb w v) (omega arith)))
 
 -- Some unused leaf begins with v.
 pub begun-marks : (v : ℕ) (l : List ℕ) (a : ℕ) → 1 ≤ v → a + length l ≤ 1000 → begun (digits v) (unused a l) ≡ any-start v a l

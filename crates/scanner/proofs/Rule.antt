@@ -113,5 +113,5 @@ broken-least (node j i f) k m o s =
     cond-cases (is-p k && ltb (first i) m) _ _ (Least k m o (node j i f))
     (λ y. worst o s (node-less k j m o i f y) (λ q w. breaks-low w))
     (λ n. cond-cases (is-c j && ltb (first (rev i)) (first i)) _ _ (Least k m o (node j i f))
-      (λ y. worst (o + 2) (omega arith) (node-turned k j m o i f y) (λ q w. node-two n w))
-      (λ d. node-least j i f k m o n d _ _ (broken-least i j 0 (o + 2) (omega arith)) (broken-least f k (first i) (o + length (text i) + 4) (omega arith))))
+    (λ y. worst (o + 2) (omega arith) (node-turned k j m o i f y) (λ q w. node-two n w))
+    (λ d. node-least j i f k m o n d _ _ (broken-least i j 0 (o + 2) (omega arith)) (broken-least f k (first i) (o + length (text i) + 4) (omega arith))))

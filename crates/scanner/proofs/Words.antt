@@ -51,6 +51,7 @@ begun-true ds (m ∷ l) e = go (λ h. begun-true ds l h) (or-cases (begins ds (d
   where
     later : Begin ds l → Begin ds (m ∷ l)
     later r = record { m = r .m; tail = r .tail; k = m ∷ r .k; name = r .name; pick = there (r .pick) }
+
     go : (begun ds l ≡ true → Begin ds l) → (begins ds (digits m) ≡ true) ⊎ (begun ds l ≡ true) → Begin ds (m ∷ l)
     go rec (inl h) = let r = begins-true ds (digits m) h in record { m = m; tail = r .0; k = l; name = r .1; pick = here }
     go rec (inr h) = later (rec h)
@@ -74,7 +75,7 @@ first-alike ds l m h n k e here = perm-refl l
 first-alike ds l m h n k e (there {m = g} p) = subst (λ t. Perm l (t ∷ g)) (digits-injective n m (e ∙ h)) (next p (perm-refl g))
 
 not-first : (ds l : List ℕ) (m : ℕ) → same ds (digits m) ≡ false → (n : ℕ) (k : List ℕ) → digits n ≡ ds → Pick n (m ∷ l) k
-  → (j : List ℕ) × (k ≡ m ∷ j) × Pick n l j
+    → (j : List ℕ) × (k ≡ m ∷ j) × Pick n l j
 not-first ds l m h n k e here = absurd (let g = subst (λ t. same t (digits n) ≡ true) e (same-decides (digits n) (digits n) .1 refl) in let z : _≡_ {A = ℕ} 0 1 = cc in omega arith)
 not-first ds l m h n k e (there {m = g} p) = (g, refl, p)
 
@@ -86,5 +87,5 @@ pub seek-view : (ds l : List ℕ) → Seek ds l (seek ds l)
 unfolding seek
 seek-view ds [] = miss (λ m k e p. omega (arith, pick-length p))
 seek-view ds (m ∷ l) = cond-cases (same ds (digits m)) (some l) (put m (seek ds l)) (Seek ds (m ∷ l))
-  (λ y. let e = same-decides ds (digits m) .0 y in hit m (sym e) here (first-alike ds l m e))
-  (λ n. put-view ds l m n (seek ds l) (seek-view ds l))
+    (λ y. let e = same-decides ds (digits m) .0 y in hit m (sym e) here (first-alike ds l m e))
+    (λ n. put-view ds l m n (seek ds l) (seek-view ds l))
