@@ -187,3 +187,14 @@ not-digit used v b n = false-if _ (λ e.
     let r = begun-true (digits v ++ (b ∷ [])) (unused 0 used) e in
     let d = digit-byte (r .m) b (digits v) (r .tail) (r .name ∙ append-assoc (digits v) (b ∷ []) (r .tail)) in
     n (d .0) (d .1))
+
+-- A leaf that is used up is one unused leaf less.
+pub unused-set : (l : List ℕ) (a i : ℕ) → i < length l → getD l i 0 ≡ 0 → length (unused a l) ≡ suc (length (unused a (set l i 1)))
+unused-set [] a i n e = absurd (omega arith)
+unused-set (t ∷ l) a zero n e = rw (eq-eqb t 0 e)
+unused-set (t ∷ l) a (suc i) n e = go (eqb t 0) (unused-set l (suc a) i (omega arith) e)
+  where
+    go : (c : Bool) → length (unused (suc a) l) ≡ suc (length (unused (suc a) (set l i 1)))
+        → length (cond c (a ∷ unused (suc a) l) (unused (suc a) l)) ≡ suc (length (cond c (a ∷ unused (suc a) (set l i 1)) (unused (suc a) (set l i 1))))
+    go true h = ap suc h
+    go false h = h
