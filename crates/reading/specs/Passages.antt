@@ -5,7 +5,7 @@ use mathlib.Core.List.{List, [], _∷_, _++_}
 use Prim.Native.Nat.{ℕ, _+_, _*_, _-_, _≤_, _<_}
 use lib.Dec.{eqb}
 use lib.ListN.{length, drop, getD, set}
-use Rattle.orders.specs.Tree.{Kind, P, C, Forest}
+use Rattle.orders.specs.Tree.{Kind, P, C, Forest, items}
 use Rattle.orders.specs.TreeText.{digits, text}
 use Rattle.tokens.specs.Tokens.{plain, encode, Wrote}
 use Rattle.scanner.specs.Scan.{State, open-due, due, num, after, need, run-at, refused}
@@ -39,6 +39,7 @@ pub record Marks (many : ℕ) (used : List ℕ) : Type 0 where
 pub record Passage (x : List ℕ) (at : ℕ) (spell : Forest → List ℕ) (start : List ℕ → State) (end : List ℕ → List ℕ → State) (want many kept spared : ℕ)
     (used old new : List ℕ) (r : Reached) : Type 0 where
   pub forest : Forest
+  pub some-item : 1 ≤ length (items forest)
   pub wrote : Wrote (encode (plain forest)) old new (r .count)
   pub bytes : drop at x ≡ spell forest ++ drop (r .at) x
   pub moves : (cs : List ℕ) → need cs ≡ want → run-at x at (start cs) ≡ run-at x (r .at) (end cs (unused 0 used))

@@ -70,24 +70,48 @@ fn number(text: &[u8], at: usize, v: usize, used: &[u8]) -> Numeral
     ensures { λ r. ⌜ NumberRead (now (text .entry)) at v (now (used .entry)) r ⌝ }
 {
     if at >= text.len() {
-        return Numeral { ok: false, leaf: 0, at: at };
+        return Numeral {
+            ok: false,
+            leaf: 0,
+            at: at,
+        };
     }
     let b = text[at];
     if is_separator(b) {
         if used[v] != 0 {
-            return Numeral { ok: false, leaf: 0, at: at };
+            return Numeral {
+                ok: false,
+                leaf: 0,
+                at: at,
+            };
         }
-        return Numeral { ok: true, leaf: v, at: at };
+        return Numeral {
+            ok: true,
+            leaf: v,
+            at: at,
+        };
     }
     if b < 48 {
-        return Numeral { ok: false, leaf: 0, at: at };
+        return Numeral {
+            ok: false,
+            leaf: 0,
+            at: at,
+        };
     }
     if b > 57 {
-        return Numeral { ok: false, leaf: 0, at: at };
+        return Numeral {
+            ok: false,
+            leaf: 0,
+            at: at,
+        };
     }
     let w = 10 * v + (b - 48) as usize;
     if !any_start(used, w) {
-        return Numeral { ok: false, leaf: 0, at: at };
+        return Numeral {
+            ok: false,
+            leaf: 0,
+            at: at,
+        };
     }
     number(text, at + 1, w, used)
 }
@@ -109,23 +133,48 @@ fn leaf(text: &[u8], at: usize, many: usize, used: &mut [u8], out: &mut [u16]) -
 {
     let b = text[at];
     if b < 49 {
-        return Reached { ok: false, at: at, left: 0, count: 0 };
+        return Reached {
+            ok: false,
+            at: at,
+            left: 0,
+            count: 0,
+        };
     }
     if b > 57 {
-        return Reached { ok: false, at: at, left: 0, count: 0 };
+        return Reached {
+            ok: false,
+            at: at,
+            left: 0,
+            count: 0,
+        };
     }
     let v = (b - 48) as usize;
     if !any_start(used, v) {
-        return Reached { ok: false, at: at, left: 0, count: 0 };
+        return Reached {
+            ok: false,
+            at: at,
+            left: 0,
+            count: 0,
+        };
     }
     let r = number(text, at + 1, v, used);
     if !r.ok {
-        return Reached { ok: false, at: r.at, left: 0, count: 0 };
+        return Reached {
+            ok: false,
+            at: r.at,
+            left: 0,
+            count: 0,
+        };
     }
     let leaf = r.leaf;
     used[leaf] = 1;
     out[0] = (16 * leaf) as u16;
-    Reached { ok: true, at: r.at, left: many - 1, count: 1 }
+    Reached {
+        ok: true,
+        at: r.at,
+        left: many - 1,
+        count: 1,
+    }
 }
 
 // The token of a node whose items have m tokens; b is its letter.
@@ -147,4 +196,156 @@ fn less(few: usize) -> usize
         return 0;
     }
     few - 1
+}
+
+// Reads the item at byte `at` and writes its tokens. Its node wants `few` items, it among them, and the nodes round that want `want` leaves.
+fn item(
+    text: &[u8],
+    at: usize,
+    few: usize,
+    want: usize,
+    many: usize,
+    used: &mut [u8],
+    out: &mut [u16],
+) -> Reached
+    requires { ⌜ (at ≤ length (now text)) × (Marks many (now used)) × (many ≤ 255) × (few - 1 + want < many)
+        × (2 * many ≤ length (now out) + 1 + (few - 1) + 2 * want) ⌝ }
+    ensures { λ r. ⌜ ItemRead (now (text .entry)) at few want many (now (used .entry)) (now (used .exit)) (now (out .entry)) (now (out .exit)) r ⌝ }
+{
+    if at >= text.len() {
+        return Reached {
+            ok: false,
+            at: at,
+            left: 0,
+            count: 0,
+        };
+    }
+    let b = text[at];
+    if !is_letter(b) {
+        return leaf(text, at, many, used, out);
+    }
+    let more = less(few) + want;
+    if many < 2 + more {
+        return Reached {
+            ok: false,
+            at: at,
+            left: 0,
+            count: 0,
+        };
+    }
+    let r = opened(text, at + 1, more, many, used, &mut out[1..]);
+    if !r.ok {
+        return r;
+    }
+    let k = r.count;
+    out[0] = header(b, k);
+    Reached {
+        ok: true,
+        at: r.at + 1,
+        left: r.left,
+        count: 1 + k,
+    }
+}
+
+// Reads a node from the bracket at byte `at` on, up to the closing bracket, and writes the tokens of its items. The nodes round it want `want` leaves.
+fn opened(
+    text: &[u8],
+    at: usize,
+    want: usize,
+    many: usize,
+    used: &mut [u8],
+    out: &mut [u16],
+) -> Reached
+    requires { ⌜ (at ≤ length (now text)) × (Marks many (now used)) × (many ≤ 255) × (2 + want ≤ many)
+        × (2 * many ≤ length (now out) + 2 + 2 * want) ⌝ }
+    ensures { λ r. ⌜ OpenedRead (now (text .entry)) at want many (now (used .entry)) (now (used .exit)) (now (out .entry)) (now (out .exit)) r ⌝ }
+{
+    if at >= text.len() {
+        return Reached {
+            ok: false,
+            at: at,
+            left: 0,
+            count: 0,
+        };
+    }
+    if text[at] != 40 {
+        return Reached {
+            ok: false,
+            at: at,
+            left: 0,
+            count: 0,
+        };
+    }
+    items(text, at + 1, 2, want, many, used, out)
+}
+
+// Reads the items at byte `at` on, up to the closing bracket of their node, and writes their tokens. The node wants `few` of them, and the nodes
+// round it want `want` leaves.
+fn items(
+    text: &[u8],
+    at: usize,
+    few: usize,
+    want: usize,
+    many: usize,
+    used: &mut [u8],
+    out: &mut [u16],
+) -> Reached
+    requires { ⌜ (at ≤ length (now text)) × (Marks many (now used)) × (many ≤ 255) × (few - 1 + want < many)
+        × (2 * many ≤ length (now out) + 1 + (few - 1) + 2 * want) ⌝ }
+    ensures { λ r. ⌜ ItemsRead (now (text .entry)) at few want many (now (used .entry)) (now (used .exit)) (now (out .entry)) (now (out .exit)) r ⌝ }
+{
+    let r = item(text, at, few, want, many, used, out);
+    if !r.ok {
+        return r;
+    }
+    let to = r.at;
+    if to >= text.len() {
+        return Reached {
+            ok: false,
+            at: to,
+            left: 0,
+            count: 0,
+        };
+    }
+    let rest = less(few);
+    let b = text[to];
+    if b == 32 {
+        let left = r.left;
+        if left < 1 + (less(rest) + want) {
+            return Reached {
+                ok: false,
+                at: to,
+                left: 0,
+                count: 0,
+            };
+        }
+        let k = r.count;
+        let s = items(text, to + 1, rest, want, left, used, &mut out[k..]);
+        if !s.ok {
+            return s;
+        }
+        return Reached {
+            ok: true,
+            at: s.at,
+            left: s.left,
+            count: k + s.count,
+        };
+    }
+    if b != 41 {
+        return Reached {
+            ok: false,
+            at: to,
+            left: 0,
+            count: 0,
+        };
+    }
+    if rest != 0 {
+        return Reached {
+            ok: false,
+            at: to,
+            left: 0,
+            count: 0,
+        };
+    }
+    r
 }

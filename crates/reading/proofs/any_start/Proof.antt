@@ -37,12 +37,13 @@ loop-less : tie.Need-loop-less Inv-loop μ-loop
 loop-less c = omega arith
 
 loop-again : tie.Need-loop-again Inv-loop μ-loop
-loop-again c = 
-    (omega arith,
-      ⊎-elim
+loop-again c = (
+  omega arith,
+  ⊎-elim
       (λ w. c .before .before .before .loop .inv .1 ∙ test _ _ _ (c .before .before .loop-test .taken) (w .0 .taken) ∙ rw (sym (w .1 .ensures) ∙ w .2 .left))
       (λ w. c .before .before .before .loop .inv .1 ∙ skip _ _ _ (c .before .before .loop-test .taken) (w .left))
-      (c .if1 .came))
+      (c .if1 .came),
+)
 
 returns-2 : tie.Need-returns-2 Inv-loop μ-loop
 returns-2 c = sym (c .before .loop .inv .1 ∙ rw (drop-of-length-le _ (c .loop-test .left)))
