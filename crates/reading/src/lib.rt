@@ -1,11 +1,16 @@
 // The tree text, read: the tokens of the tree that it spells, or the byte at which it is refused.
 ghost use mathlib.Core.Path.{_≡_};
-ghost use mathlib.Core.Bool.{true, false};
+ghost use mathlib.Core.Bool.{true, false, _&&_};
 ghost use Prim.Native.Nat.{ℕ, _+_, _-_, _*_, _≤_, _<_};
+ghost use lib.Dec.{ltb};
 ghost use lib.ListN.{length, getD};
+ghost use Rattle.orders.specs.Tree.{Kind};
+ghost use Rattle.orders.specs.TreeText.{digits, text as text?};
 ghost use Rattle.scanner.specs.Scan.{letter?, sep?};
 ghost use Rattle.scanner.specs.Unused.{starts as starts?, any-start};
-ghost use Rattle.tokens.specs.Tokens.{E, node-token};
+ghost use Rattle.scanner.specs.Rule.{is-p, broken-at};
+ghost use Rattle.tokens.specs.Tokens.{E, node-token, Judged, tree, encode, Tokens};
+ghost use Rattle.tokens.specs.Views.{first-of};
 ghost use Rattle.reading.specs.Passages.{NumberRead, Marks, ItemRead, ItemsRead, OpenedRead, kind-of};
 
 // Whether the byte is `P` or `C`.
@@ -348,4 +353,61 @@ fn items(
         };
     }
     r
+}
+
+// How many digits b has.
+fn digit_count(b: u16) -> usize
+    ensures { λ r. ⌜ (r ≤ 5) × (r ≡ length (digits b)) ⌝ }
+{
+    if b < 10 {
+        return 1;
+    }
+    if b < 100 {
+        return 2;
+    }
+    if b < 1000 {
+        return 3;
+    }
+    if b < 10000 {
+        return 4;
+    }
+    5
+}
+
+// How many bytes the text of the items has.
+fn text_length(toks: &[u16]) -> usize
+    requires { ⌜ (Tokens (now toks)) × (length (now toks) ≤ 512) ⌝ }
+    ensures { λ r. ⌜ (r ≤ 6 * length (now (toks .entry)))
+        × ((j : Judged) → now (toks .entry) ≡ encode j → r ≡ length (text? (tree j))) ⌝ }
+{
+    if toks.len() == 0 {
+        return 0;
+    }
+    let after = tokens::rest(toks);
+    let k = item_length(toks);
+    if after.len() == 0 {
+        return k;
+    }
+    k + (1 + text_length(after))
+}
+
+// How many bytes the text of the first item has.
+fn item_length(toks: &[u16]) -> usize
+    requires { ⌜ (Tokens (now toks)) × (0 < length (now toks)) × (length (now toks) ≤ 512) ⌝ }
+    ensures { λ r. ⌜ ((j : Judged) → now (toks .entry) ≡ encode j → (r < 6 * length (encode (first-of j))) × (r ≡ length (text? (tree (first-of j))))) ⌝ }
+{
+    if tokens::shape(toks) == 1 {
+        return digit_count(tokens::leaf(toks));
+    }
+    3 + text_length(tokens::items(toks))
+}
+
+// Whether the rule asks that b is not below m, and it is.
+fn falls(rule: bool, b: u16, m: u16) -> bool
+    ensures { λ r. ⌜ r ≡ rule && ltb b m ⌝ }
+{
+    if rule {
+        return b < m;
+    }
+    false
 }
