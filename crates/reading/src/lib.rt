@@ -411,3 +411,32 @@ fn falls(rule: bool, b: u16, m: u16) -> bool
     }
     false
 }
+
+// The least byte at which the items break a rule, 0 where they break none. Their text starts at byte o; they stand in a P-node if `rising`, after an
+// item whose first leaf is m.
+fn broken(toks: &[u16], rising: bool, m: u16, o: usize) -> usize
+    requires { ⌜ (Tokens (now toks)) × (length (now toks) ≤ 512) × (o + 6 * length (now toks) ≤ 10000) ⌝ }
+    ensures { λ r. ⌜ ((j : Judged) (k : Kind) → now (toks .entry) ≡ encode j → rising ≡ is-p k → r ≡ broken-at k m o (tree j)) ⌝ }
+{
+    if toks.len() == 0 {
+        return 0;
+    }
+    let b = tokens::first_leaf(toks);
+    if falls(rising, b, m) {
+        return o;
+    }
+    let after = tokens::rest(toks);
+    let s = tokens::shape(toks);
+    if s == 1 {
+        return broken(after, rising, b, o + digit_count(b) + 1);
+    }
+    let inner = tokens::items(toks);
+    if falls(s == 3, tokens::last_leaf(inner), b) {
+        return o + 2;
+    }
+    let p = broken(inner, s == 2, 0, o + 2);
+    if p != 0 {
+        return p;
+    }
+    broken(after, rising, b, o + text_length(inner) + 4)
+}

@@ -71,9 +71,10 @@ item-length-add-result t c = omega (arith, c .text-length .ensures .0, c .before
 
 item-length-returns-2 : (t : ℕ) → item-length-lts.Need-returns-2 (item-length-calls t) (item-length-at t) item-length.Post
 item-length-returns-2 t c = λ j e.
-    let no : (shape-of j ≡ 1 → ⊥) = λ h. c .before .before .if1 .left (c .before .before .before .shape .ensures j e ∙ h) in
-    (omega (arith, c .text-length .ensures .0, node-some j (rw e at (c .before .before .before .before .before .pre .1 .1)) no, ap length (c .before .items .ensures .1 j e)),
-      ap (λ n. 3 + n) (c .text-length .ensures .1 _ (c .before .items .ensures .1 j e)) ∙ sym (node-length j (rw e at (c .before .before .before .before .before .pre .1 .1)) no))
+    let no : (shape-of j ≡ 1 → ⊥) = λ h. c .before .before .if1 .left (c .before .before .before .shape .ensures j e ∙ h) in (
+      omega (arith, c .text-length .ensures .0, node-some j (rw e at (c .before .before .before .before .before .pre .1 .1)) no, ap length (c .before .items .ensures .1 j e)),
+      ap (λ n. 3 + n) (c .text-length .ensures .1 _ (c .before .items .ensures .1 j e)) ∙ sym (node-length j (rw e at (c .before .before .before .before .before .pre .1 .1)) no),
+    )
 
 abbrev text-length-calls : ℕ → text-length-lts.Claims
 text-length-calls t = (rest-reads.Asked, rest-reads.Learnt, item-length-below t, item-length.Post, text-length-below t, text-length.Post)
@@ -88,9 +89,10 @@ text-length-item-length-requires : (t : ℕ) → text-length-lts.Need-item-lengt
 text-length-item-length-requires t c κs = (omega arith, (c .before .before .before .pre .1 .0, omega arith, omega arith))
 
 text-length-returns-2 : (t : ℕ) → text-length-lts.Need-returns-2 (text-length-calls t) (text-length-at t) text-length.Post
-text-length-returns-2 t c = let p = c .before .before .before .before .before .pre .1 .0 in
-    (omega (arith, c .before .item-length .ensures (p .0) (p .1) .0, sizes (p .0) (p .1)),
-      λ j e. c .before .item-length .ensures j e .1 ∙ sym (last-length j (at-end (rest-of j) (c .before .before .rest .ensures .1 j e) (c .if2 .taken))))
+text-length-returns-2 t c = let p = c .before .before .before .before .before .pre .1 .0 in (
+  omega (arith, c .before .item-length .ensures (p .0) (p .1) .0, sizes (p .0) (p .1)),
+  λ j e. c .before .item-length .ensures j e .1 ∙ sym (last-length j (at-end (rest-of j) (c .before .before .rest .ensures .1 j e) (c .if2 .taken))),
+)
 
 text-length-text-length-requires : (t : ℕ) → text-length-lts.Need-text-length-requires (text-length-calls t) (text-length-at t) text-length.Post
 text-length-text-length-requires t c κs = let p = c .before .before .before .before .before .pre .1 .0 in (omega (arith, c .before .before .rest .ensures .0), ((_, c .before .before .rest .ensures .1 (p .0) (p .1)), omega (arith, c .before .before .rest .ensures .0)))
@@ -102,10 +104,11 @@ text-length-add-result-2 : (t : ℕ) → text-length-lts.Need-add-result-2 (text
 text-length-add-result-2 t c = let p = c .before .before .before .before .before .before .pre .1 .0 in omega (arith, c .text-length .ensures .0, c .before .before .before .rest .ensures .0, c .before .before .item-length .ensures (p .0) (p .1) .0, sizes (p .0) (p .1))
 
 text-length-returns-3 : (t : ℕ) → text-length-lts.Need-returns-3 (text-length-calls t) (text-length-at t) text-length.Post
-text-length-returns-3 t c = let p = c .before .before .before .before .before .before .pre .1 .0 in
-    (omega (arith, c .text-length .ensures .0, ap length (c .before .before .before .rest .ensures .1 (p .0) (p .1)), c .before .before .item-length .ensures (p .0) (p .1) .0, sizes (p .0) (p .1)),
-      λ j e. ap₂ (λ a b. a + (1 + b)) (c .before .before .item-length .ensures j e .1) (c .text-length .ensures .1 _ (c .before .before .before .rest .ensures .1 j e))
-      ∙ sym (rest-length j (omega (arith, ap length (c .before .before .before .rest .ensures .1 j e), c .before .if2 .left))))
+text-length-returns-3 t c = let p = c .before .before .before .before .before .before .pre .1 .0 in (
+  omega (arith, c .text-length .ensures .0, ap length (c .before .before .before .rest .ensures .1 (p .0) (p .1)), c .before .before .item-length .ensures (p .0) (p .1) .0, sizes (p .0) (p .1)),
+  λ j e. ap₂ (λ a b. a + (1 + b)) (c .before .before .item-length .ensures j e .1) (c .text-length .ensures .1 _ (c .before .before .before .rest .ensures .1 j e))
+      ∙ sym (rest-length j (omega (arith, ap length (c .before .before .before .rest .ensures .1 j e), c .before .if2 .left))),
+)
 
 pub +item-length+text-length-spec : {M : Type 1} → statement M
 +item-length+text-length-spec = close μ-item-length μ-text-length (λ t. item-length-lts.spec (item-length-calls t)
