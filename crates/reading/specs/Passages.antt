@@ -6,9 +6,9 @@ use Prim.Native.Nat.{ℕ, _+_, _*_, _-_, _≤_, _<_}
 use lib.Dec.{eqb}
 use lib.ListN.{length, drop, getD, set}
 use Rattle.orders.specs.Tree.{Kind, P, C, Forest, items}
-use Rattle.orders.specs.TreeText.{digits, text}
+use Rattle.orders.specs.TreeText.{digits, text, tree-text}
 use Rattle.tokens.specs.Tokens.{plain, encode, Wrote}
-use Rattle.scanner.specs.Scan.{State, open-due, due, num, after, need, run-at, refused}
+use Rattle.scanner.specs.Scan.{State, open-due, due, num, after, need, run-at, accepted, refused, lit, pre, letter?}
 use Rattle.scanner.specs.Unused.{unused}
 use Rattle.reading.specs.declared.Numeral.{Numeral}
 use Rattle.reading.specs.declared.Reached.{Reached}
@@ -77,3 +77,31 @@ OpenedRead x at want many before used old new r =
 -- The kind that a letter names.
 abbrev pub kind-of : ℕ → Kind
 kind-of b = cond (eqb b 80) P C
+
+-- The text against one word.
+pub record WordRead (x word : List ℕ) (r : Reached) : Type 0 where
+  pub stops : r .ok ≡ false → run-at x 0 (lit word) ≡ refused (r .at)
+  pub goes : r .ok ≡ true → run-at x 0 (lit word) ≡ accepted
+
+-- `1`, a space and a letter; or the byte at which the text is refused.
+pub record Begins (x : List ℕ) : Type 0 where
+  pub long : 3 ≤ length x
+  pub one : getD x 0 0 ≡ 49
+  pub space : getD x 1 0 ≡ 32
+  pub kind : letter? (getD x 2 0) ≡ true
+
+pub record Opening (x : List ℕ) (r : ℕ) : Type 0 where
+  pub stops : r < 3 → (l : List ℕ) → run-at x 0 (pre (49 ∷ 32 ∷ []) l) ≡ refused r
+  pub goes : 3 ≤ r → Begins x
+
+-- The whole text: the tree that it spells, whose tokens were written.
+pub record Whole (x l old new : List ℕ) (r : Reached) : Type 0 where
+  pub spelled : Forest
+  pub bytes : x ≡ tree-text spelled
+  pub wrote : Wrote (encode (plain spelled)) old new (r .count)
+  pub all-used : run-at x 0 (pre (49 ∷ 32 ∷ []) l) ≡ accepted
+  pub few : r .count ≤ 512
+
+pub record WholeRead (x l old new : List ℕ) (r : Reached) : Type 0 where
+  pub stops : r .ok ≡ false → run-at x 0 (pre (49 ∷ 32 ∷ []) l) ≡ refused (r .at)
+  pub goes : r .ok ≡ true → Whole x l old new r

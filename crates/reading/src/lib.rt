@@ -7,11 +7,12 @@ ghost use lib.ListN.{length, getD};
 ghost use Rattle.orders.specs.Tree.{Kind};
 ghost use Rattle.orders.specs.TreeText.{digits, text as text?};
 ghost use Rattle.scanner.specs.Scan.{letter?, sep?};
-ghost use Rattle.scanner.specs.Unused.{starts as starts?, any-start};
+ghost use Rattle.scanner.specs.Unused.{unused, starts as starts?, any-start};
 ghost use Rattle.scanner.specs.Rule.{is-p, broken-at};
 ghost use Rattle.tokens.specs.Tokens.{E, node-token, Judged, tree, encode, Tokens};
 ghost use Rattle.tokens.specs.Views.{first-of};
-ghost use Rattle.reading.specs.Passages.{NumberRead, Marks, ItemRead, ItemsRead, OpenedRead, kind-of};
+ghost use Rattle.reading.specs.Passages.{NumberRead, Marks, ItemRead, ItemsRead, OpenedRead, kind-of, WordRead, Opening, WholeRead};
+ghost use Rattle.reading.specs.ReadText.{ReadText, ShapeRead};
 
 // Whether the byte is `P` or `C`.
 fn is_letter(b: u8) -> bool
@@ -439,4 +440,165 @@ fn broken(toks: &[u16], rising: bool, m: u16, o: usize) -> usize
         return p;
     }
     broken(after, rising, b, o + text_length(inner) + 4)
+}
+
+// Whether the text is the word; where not `ok`, the byte at which it is refused.
+fn word_read(text: &[u8], word: &[u8]) -> Reached
+    ensures { λ r. ⌜ WordRead (now (text .entry)) (now (word .entry)) r ⌝ }
+{
+    let mut i = 0;
+    while i < word.len() {
+        if i >= text.len() {
+            return Reached {
+                ok: false,
+                at: i,
+                left: 0,
+                count: 0,
+            };
+        }
+        if text[i] != word[i] {
+            return Reached {
+                ok: false,
+                at: i,
+                left: 0,
+                count: 0,
+            };
+        }
+        i += 1;
+    }
+    if i < text.len() {
+        return Reached {
+            ok: false,
+            at: i,
+            left: 0,
+            count: 0,
+        };
+    }
+    Reached {
+        ok: true,
+        at: i,
+        left: 0,
+        count: 0,
+    }
+}
+
+// How many bytes of `1`, a space and a letter the text begins with.
+fn opening(text: &[u8]) -> usize
+    ensures { λ r. ⌜ Opening (now (text .entry)) r ⌝ }
+{
+    if text.len() == 0 {
+        return 0;
+    }
+    if text[0] != 49 {
+        return 0;
+    }
+    if text.len() == 1 {
+        return 1;
+    }
+    if text[1] != 32 {
+        return 1;
+    }
+    if text.len() == 2 {
+        return 2;
+    }
+    let b = text[2];
+    if !is_letter(b) {
+        return 2;
+    }
+    3
+}
+
+// Reads the whole text, from three leaves on, and writes its tokens.
+fn whole(text: &[u8], many: usize, used: &mut [u8], out: &mut [u16]) -> Reached
+    requires { ⌜ (Marks many (now used)) × (2 ≤ many) × (many ≤ 255) × (512 ≤ length (now out)) ⌝ }
+    ensures { λ r. ⌜ WholeRead (now (text .entry)) (unused 0 (now (used .entry))) (now (out .entry)) (now (out .exit)) r ⌝ }
+{
+    let p = opening(text);
+    if p < 3 {
+        return Reached {
+            ok: false,
+            at: p,
+            left: 0,
+            count: 0,
+        };
+    }
+    let r = opened(text, 3, 0, many, used, &mut out[1..]);
+    if !r.ok {
+        return r;
+    }
+    let to = r.at;
+    if r.left != 0 {
+        return Reached {
+            ok: false,
+            at: to,
+            left: 0,
+            count: 0,
+        };
+    }
+    if to + 1 < text.len() {
+        return Reached {
+            ok: false,
+            at: to + 1,
+            left: 0,
+            count: 0,
+        };
+    }
+    let k = r.count;
+    out[0] = header(text[2], k);
+    Reached {
+        ok: true,
+        at: to + 1,
+        left: 0,
+        count: 1 + k,
+    }
+}
+
+// Reads the shape of the text, from three leaves on, and writes its tokens.
+fn shape(text: &[u8], n: usize, out: &mut [u16]) -> Reached
+    requires { ⌜ (3 ≤ n) × (n ≤ 256) × (512 ≤ length (now out)) ⌝ }
+    ensures { λ r. ⌜ ShapeRead n (now (text .entry)) (now (out .entry)) (now (out .exit)) r ⌝ }
+{
+    let mut used = [0u8; 257];
+    used[0] = 1;
+    used[1] = 1;
+    whole(text, n - 1, &mut used[0..n + 1], out)
+}
+
+// What the reader finds: a tree, in this many tokens; or the byte at which the text is refused.
+pub enum Read {
+    Tree(usize),
+    Refused(usize),
+}
+
+// Reads the text for one or two leaves.
+fn short(text: &[u8], n: usize, out: &mut [u16]) -> Read
+    requires { ⌜ (1 ≤ n) × (n ≤ 2) × (512 ≤ length (now out)) ⌝ }
+    ensures { λ r. ⌜ ReadText n (now (text .entry)) (now (out .entry)) (now (out .exit)) r ⌝ }
+{
+    let word = [49u8, 32, 50];
+    let r = word_read(text, &word[0..2 * n - 1]);
+    if !r.ok {
+        return Read::Refused(r.at);
+    }
+    Read::Tree(tokens::fresh(n, out))
+}
+
+// Writes the tokens of the tree that the text spells for n leaves to the start of out.
+pub fn read_text(text: &[u8], n: usize, out: &mut [u16]) -> Read
+    requires { ⌜ (1 ≤ n) × (n ≤ 256) × (512 ≤ length (now out)) ⌝ }
+    ensures { λ r. ⌜ ReadText n (now (text .entry)) (now (out .entry)) (now (out .exit)) r ⌝ }
+{
+    if n <= 2 {
+        return short(text, n, out);
+    }
+    let r = shape(text, n, out);
+    if !r.ok {
+        return Read::Refused(r.at);
+    }
+    let k = r.count;
+    let p = broken(&out[0..k], false, 0, 2);
+    if p != 0 {
+        return Read::Refused(p);
+    }
+    Read::Tree(k)
 }

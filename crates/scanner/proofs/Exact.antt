@@ -3,7 +3,7 @@ use mathlib.Core.Path.{_≡_, refl, sym, _∙_, ap, ap₂, subst}
 use mathlib.Core.Bool.{true, false, cond}
 use mathlib.Core.Option.{Option, none, some}
 use mathlib.Core.List.{List, [], _∷_, _++_, append-assoc}
-use Prim.Native.Nat.{ℕ, zero, suc, _+_, _-_, _≤_, _<_}
+use Prim.Native.Nat.{ℕ, zero, suc, _+_, _*_, _-_, _≤_, _<_}
 use native.Mathlib.Omega.{arith}
 use lib.ListN.{length, take, length-append}
 use Rattle.orders.specs.Lists.{Perm, done, next, here, there, range}
@@ -11,12 +11,13 @@ use Rattle.orders.specs.CircularOrder.{others}
 use Rattle.orders.specs.Tree.{Forest, nil, leaf, node, items, frontier}
 use Rattle.orders.specs.Form.{Single}
 use Rattle.orders.specs.TreeText.{digits-in, digits, letter, text, more, tree-text, Shaped, ShapeText, ShapeRefused, at-byte, at-end}
+use Rattle.orders.specs.Join.{fresh}
 use Rattle.orders.proofs.ListLaws.{cons-head, cond-cases}
 use Rattle.orders.proofs.Perm.{perm-length, perm-refl, short-perm}
 use Rattle.orders.proofs.Ranges.{range-length}
 use Rattle.orders.proofs.Laws.{Forked}
 use Rattle.orders.proofs.Forms.{nodes-bound}
-use Rattle.scanner.specs.Scan.{State, lit, pre, open-due, due, num, after, final, step, run, start, scan, Answer, accepted, refused}
+use Rattle.scanner.specs.Scan.{State, lit, pre, open-due, due, num, after, final, step, run, run-at, start, scan, Answer, accepted, refused}
 use Rattle.scanner.proofs.Language.{bytes, frontiers, Fits, Tail, Due, Lang, Viable}
 use Rattle.scanner.proofs.Completion.{finish}
 use Rattle.scanner.proofs.Derivative.{Deriv, stop, goes, deriv}
@@ -178,3 +179,40 @@ scan-exact n x = go (run x 0 (start n)) (run-right x 0 (start n) (start-viable n
     go : (a : Answer) → Right (start n) x 0 a → Exact n x a
     go accepted (ok h) = is-text (start-to n x h)
     go (refused _) (bad r q e f) = at r (subst (ShapeRefused n x) (sym (e ∙ omega arith)) (fails q f))
+
+-- The answer from the text's start on.
+pub refused-shape : (n : ℕ) (x : List ℕ) (p : ℕ) → run-at x 0 (start n) ≡ refused p → ShapeRefused n x p
+unfolding run-at scan
+refused-shape n x p = go (scan n x) (scan-exact n x)
+  where
+    go : (a : Answer) → Exact n x a → a ≡ refused p → ShapeRefused n x p
+    go accepted (is-text t) e = absurd (let z : _≡_ {A = ℕ} 0 1 = cc in omega arith)
+    go (refused _) (at q r) e = let z : q ≡ p = cc in subst (ShapeRefused n x) z r
+
+pub accepted-shape : (n : ℕ) (x : List ℕ) → run-at x 0 (start n) ≡ accepted → ShapeText n x
+unfolding run-at scan
+accepted-shape n x = go (scan n x) (scan-exact n x)
+  where
+    go : (a : Answer) → Exact n x a → a ≡ accepted → ShapeText n x
+    go accepted (is-text t) e = t
+    go (refused _) (at q r) e = absurd (let z : _≡_ {A = ℕ} 0 1 = cc in omega arith)
+
+pub start-pre : (n : ℕ) → 3 ≤ n → start n ≡ pre (49 ∷ 32 ∷ []) (others n)
+start-pre zero h = absurd (omega arith)
+start-pre (suc zero) h = absurd (omega arith)
+start-pre (suc (suc zero)) h = absurd (omega arith)
+start-pre (suc (suc (suc k))) h = refl
+
+-- For n = 1 and n = 2 there is one text.
+pub start-word : (n : ℕ) → 1 ≤ n → n ≤ 2 → start n ≡ lit (take (2 * n - 1) (49 ∷ 32 ∷ 50 ∷ []))
+start-word zero h g = absurd (omega arith)
+start-word (suc zero) h g = refl
+start-word (suc (suc zero)) h g = refl
+start-word (suc (suc (suc k))) h g = absurd (omega arith)
+
+pub short-tree : (n : ℕ) → 1 ≤ n → n ≤ 2 → (t : Forest) → Shaped n t → t ≡ fresh n
+unfolding fresh
+short-tree zero h g t s = absurd (omega arith)
+short-tree (suc zero) h g t s = one-text 1 (omega arith) t s
+short-tree (suc (suc zero)) h g t s = two-text t s
+short-tree (suc (suc (suc k))) h g t s = absurd (omega arith)
