@@ -1,24 +1,22 @@
 -- What the reader finds, from the scanner's answer and the byte of a broken rule.
-use mathlib.Core.Path.{_≡_, refl, sym, _∙_, ap}
+use mathlib.Core.Path.{_≡_, refl, _∙_, ap}
 use mathlib.Core.Bool.{true, false}
 use mathlib.Core.List.{List, [], _∷_}
-use Prim.Native.Nat.{ℕ, _+_, _*_, _-_, _≤_}
+use Prim.Native.Nat.{ℕ, _*_, _-_, _≤_}
 use native.Mathlib.Omega.{arith}
 use lib.ListN.{take}
-use Rattle.orders.specs.CircularOrder.{others}
 use Rattle.orders.specs.Tree.{C, Forest}
 use Rattle.orders.specs.TreeText.{tree-text, Shaped, tree, refused, Reads, accepted, no-shape, breaks-rule}
 use Rattle.orders.specs.Join.{fresh}
-use Rattle.orders.proofs.TextTree.{text-injective}
 use Rattle.orders.proofs.Fresh.{fresh-form}
-use Rattle.scanner.specs.Scan.{lit, pre, start, run-at}
+use Rattle.scanner.specs.Scan.{lit, start, run-at}
 use Rattle.scanner.specs.Rule.{broken-at}
-use Rattle.scanner.proofs.Exact.{refused-shape, accepted-shape, start-pre, start-word, short-tree}
+use Rattle.scanner.proofs.Exact.{refused-shape, accepted-shape, start-word, short-tree}
 use Rattle.scanner.proofs.Rule.{Least, fine, worst, broken-least}
 use Rattle.scanner.proofs.Canonical.{keeps-form}
-use Rattle.reading.specs.declared.Reached.{Reached}
-use Rattle.reading.specs.Passages.{WordRead, Whole, WholeRead}
-use Rattle.reading.specs.ReadText.{Spelled, ShapeRead}
+use Rattle.shape.specs.declared.Reached.{Reached}
+use Rattle.shape.specs.Texts.{WordRead}
+use Rattle.shape.specs.Texts.{Spelled}
 
 -- One leaf or two.
 module _ (n : ℕ) (h : 1 ≤ n) (g : n ≤ 2) (x : List ℕ) (r : Reached) where
@@ -35,20 +33,6 @@ module _ (n : ℕ) (h : 1 ≤ n) (g : n ≤ 2) (x : List ℕ) (r : Reached) wher
   short-read w f =
       let s = accepted-shape n x (begins ∙ w .goes f) in
       accepted (fresh-form n) (s .bytes ∙ ap tree-text (short-tree n h g (s .tree) (s .shaped)))
-
--- The shape, from three leaves on: the tree that was spelled is the one of the shape.
-pub shape-read : (n : ℕ) → 3 ≤ n → (x l old new : List ℕ) (r : Reached) → l ≡ others n → WholeRead x l old new r → ShapeRead n x old new r
-shape-read n h x l old new r e w = record {
-  stops = λ f. refused-shape n x (r .at) (begin ∙ w .stops f);
-  goes = λ f.
-      let v = w .goes f in
-      let s = accepted-shape n x (begin ∙ v .all-used) in
-      let same : s .tree ≡ v .spelled = text-injective (s .tree) (v .spelled) (sym (s .bytes) ∙ v .bytes) in
-      record { shown = v .spelled; shaped = rw (sym same) (s .shaped); bytes = v .bytes; wrote = v .wrote; few = v .few };
-}
-  where
-    begin : run-at x 0 (start n) ≡ run-at x 0 (pre (49 ∷ 32 ∷ []) l)
-    begin = ap (run-at x 0) (start-pre n h ∙ ap (pre (49 ∷ 32 ∷ [])) (sym e))
 
 -- The rules.
 judged : (n : ℕ) (x : List ℕ) (t : Forest) → Shaped n t → x ≡ tree-text t → (p : ℕ) → Least C 0 2 t p → ((p ≡ 0 → ⊥) → Reads n x (refused p)) × (p ≡ 0 → Reads n x (tree t))

@@ -1,12 +1,11 @@
 -- A tree of the shape in which no rule is broken is in form.
-use mathlib.Core.Path.{_≡_, refl, sym, subst}
+use mathlib.Core.Path.{refl, sym, subst}
 use mathlib.Core.Logic.{inl, _≢_}
 use Prim.Native.Nat.{ℕ, _+_, _≤_, _<_}
 use native.Mathlib.Omega.{arith}
 use native.Mathlib.Decide.{decLe}
 use lib.ListN.{length}
 use Rattle.orders.specs.Lists.{Distinct, In}
-use Rattle.orders.specs.CircularOrder.{others}
 use Rattle.orders.specs.Tree.{Kind, P, C, Forest, nil, leaf, node, items, rev, frontier}
 use Rattle.orders.specs.Form.{first, Rises, Rising, TwoItems, Sorted, Canonical, InForm}
 use Rattle.orders.specs.TreeText.{digits, text, Shaped, Breaks, leaf-falls, node-falls, wrong-way, inside, after-leaf, after-node}

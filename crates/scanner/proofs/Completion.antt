@@ -5,7 +5,7 @@ use Prim.Native.Nat.{ℕ, suc, _+_, _-_, _≤_}
 use native.Mathlib.Omega.{arith}
 use lib.ListN.{length, take, drop, length-take, length-drop, take-append-drop}
 use Rattle.orders.specs.Lists.{Perm, done, next, here}
-use Rattle.orders.specs.Tree.{P, Forest, nil, leaf, node, items, frontier}
+use Rattle.orders.specs.Tree.{P, Forest, leaf, items, frontier}
 use Rattle.orders.specs.TreeText.{text}
 use Rattle.orders.specs.Join.{leaf-items}
 use Rattle.orders.proofs.Perm.{perm-refl, pick-length}

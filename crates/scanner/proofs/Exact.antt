@@ -1,12 +1,12 @@
 -- The scanner's answer is right: accepted texts are those of the shape, and the byte of a refusal is the one asked for.
-use mathlib.Core.Path.{_≡_, refl, sym, _∙_, ap, ap₂, subst}
+use mathlib.Core.Path.{_≡_, refl, sym, _∙_, ap, subst}
 use mathlib.Core.Bool.{true, false, cond}
 use mathlib.Core.Option.{Option, none, some}
 use mathlib.Core.List.{List, [], _∷_, _++_, append-assoc}
 use Prim.Native.Nat.{ℕ, zero, suc, _+_, _*_, _-_, _≤_, _<_}
 use native.Mathlib.Omega.{arith}
-use lib.ListN.{length, take, length-append}
-use Rattle.orders.specs.Lists.{Perm, done, next, here, there, range}
+use lib.ListN.{length, take}
+use Rattle.orders.specs.Lists.{Perm, done}
 use Rattle.orders.specs.CircularOrder.{others}
 use Rattle.orders.specs.Tree.{Forest, nil, leaf, node, items, frontier}
 use Rattle.orders.specs.Form.{Single}
@@ -91,7 +91,7 @@ run-right [] p s v = at-the-end s v p
 run-right (b ∷ x) p s v = after-step s v b x p (λ t w. run-right x (suc p) t w) (step s b) (deriv s v b)
 
 -- The start: what hangs at leaf 1 is nothing (n = 1), leaf 2 (n = 2), or a node.
-others-length : (n : ℕ) → length (others n) ≡ n - 1
+pub others-length : (n : ℕ) → length (others n) ≡ n - 1
 others-length zero = refl
 others-length (suc n) = omega (arith, range-length 2 n)
 

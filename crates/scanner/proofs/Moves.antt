@@ -1,17 +1,16 @@
 -- One byte of a text: each way the scanner goes, as a test on the byte tells it.
-use mathlib.Core.Path.{_≡_, refl, sym, _∙_, ap}
-use mathlib.Core.Bool.{Bool, true, false, _&&_}
-use mathlib.Core.Option.{Option, none, some}
+use mathlib.Core.Path.{_≡_, refl, sym, _∙_}
+use mathlib.Core.Bool.{true, false}
+use mathlib.Core.Option.{none, some}
 use mathlib.Core.List.{List, [], _∷_, _++_}
 use Prim.Native.Nat.{ℕ, suc, _+_, _-_, _≤_, _<_}
 use native.Mathlib.Omega.{arith}
 use native.Mathlib.Numerals.{add-one}
 use borrow.Author.Tests.{eq-eqb, ne-eqb, le-leb, lt-leb}
-use lib.Dec.{eqb}
-use lib.ListN.{length, drop, getD, set, drop-of-length-le}
+use lib.ListN.{length, getD, set, drop-of-length-le}
 use lib.Seq.{drop-cons}
 use Rattle.orders.specs.TreeText.{digits}
-use Rattle.scanner.specs.Scan.{State, lit, pre, open-due, due, num, after, need, closes, begun, seek, letter?, sep?, step, step-after, step-leaf, final, run, run-at, Answer, accepted, refused}
+use Rattle.scanner.specs.Scan.{State, lit, pre, open-due, due, num, after, need, closes, begun, letter?, sep?, step, final, run, run-at, accepted, refused}
 use Rattle.scanner.specs.Unused.{unused}
 use Rattle.scanner.proofs.Numbers.{seek-marks}
 

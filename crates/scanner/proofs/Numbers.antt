@@ -18,7 +18,7 @@ use Rattle.orders.proofs.FormTests.{same-decides}
 use Rattle.orders.proofs.Digits.{Lead, digits-injective, digits-nonempty, digits-lead, digits-one, digits-step, digits-more}
 use Rattle.scanner.specs.Scan.{begins, begun, seek, put}
 use Rattle.scanner.specs.Unused.{unused, starts, any-start}
-use Rattle.scanner.proofs.Words.{begun-true, begins-of}
+use Rattle.scanner.proofs.Words.{begun-true}
 use Rattle.scanner.proofs.Derivative.{digit-byte}
 
 -- Two tests that are true together.

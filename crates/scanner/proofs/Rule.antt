@@ -1,16 +1,16 @@
 -- The walk along the tree finds the least byte at which a rule is broken.
 use mathlib.Core.Path.{_≡_, ap}
 use mathlib.Core.Logic.{_⊎_, inl, inr}
-use mathlib.Core.Bool.{Bool, true, false, cond, _&&_}
+use mathlib.Core.Bool.{true, false, _&&_}
 use mathlib.Core.List.{_∷_}
-use Prim.Native.Nat.{ℕ, suc, _+_, _≤_, _<_}
+use Prim.Native.Nat.{ℕ, suc, _+_, _≤_}
 use native.Mathlib.Omega.{arith}
 use borrow.Author.Tests.{ltb-true, ltb-false, ne-eqb}
 use lib.Dec.{ltb}
 use lib.ListN.{length, length-append}
 use Rattle.orders.specs.Tree.{Kind, P, C, Forest, nil, leaf, node, items, rev}
 use Rattle.orders.specs.Form.{first}
-use Rattle.orders.specs.TreeText.{digits, letter, text, more, Breaks, leaf-falls, node-falls, wrong-way, inside, after-leaf, after-node}
+use Rattle.orders.specs.TreeText.{digits, text, more, Breaks, leaf-falls, node-falls, wrong-way, inside, after-leaf, after-node}
 use Rattle.orders.proofs.ListLaws.{cond-cases}
 use Rattle.scanner.specs.Rule.{is-p, is-c, or-else, broken-at}
 use Rattle.scanner.proofs.Language.{more-text}
