@@ -1,4 +1,4 @@
-// How many cases had each outcome: 4n + 1 the tree of the file, 4n + 2 impossible as in the file, 4n + 3 another answer.
+// How many cases had each outcome: 4n + 1 done as in the file, 4n + 2 refused as in the file, 4n + 3 another answer.
 ghost use Prim.Native.Nat.{_≤_, _*_};
 
 // One more at i, where there is room.
@@ -65,7 +65,7 @@ fn numbers(all: u64, none: u64, bad: u64) {
     number(all);
     say(b" cases, ");
     number(none);
-    say(b" impossible, ");
+    say(b" refused, ");
     number(bad);
     say(b" bad\n");
 }

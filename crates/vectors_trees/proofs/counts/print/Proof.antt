@@ -1,8 +1,8 @@
 use native.Mathlib.Omega.{arith}
 use borrow.Author.Needs.{needs}
 use Prim.Native.Nat.{_≤_, _-_, _*_}
-use Rattle.vectors_join.proofs.counts.print.Statement.{statement}
-use Rattle.vectors_join.proofs.counts.print.Tie as tie
+use Rattle.vectors_trees.proofs.counts.print.Statement.{statement}
+use Rattle.vectors_trees.proofs.counts.print.Tie as tie
 
 abbrev Inv-loop : tie.InvT-loop
 Inv-loop sums n₀ kept₀ none₀ bad₀ t9 n kept none bad = (n ≤ 257) × (kept ≤ 1000000 * n) × (none ≤ 1000000 * n) × (bad ≤ 1000000 * n)

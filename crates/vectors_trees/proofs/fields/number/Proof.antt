@@ -2,11 +2,11 @@ use native.Mathlib.Omega.{arith}
 use borrow.Author.Needs.{needs}
 use Prim.Native.Nat.{_≤_, _-_}
 use lib.ListN.{length}
-use Rattle.vectors_join.proofs.text.number.Statement.{statement}
-use Rattle.vectors_join.proofs.text.number.Tie as tie
+use Rattle.vectors_trees.proofs.fields.number.Statement.{statement}
+use Rattle.vectors_trees.proofs.fields.number.Tie as tie
 
 abbrev Inv-loop : tie.InvT-loop
-Inv-loop text v₀ i₀ v i = (i ≤ length text) × (v ≤ 3000)
+Inv-loop text v₀ i₀ v i = (i ≤ length text) × (v ≤ 10000)
 
 abbrev μ-loop : tie.MeasureT-loop
 μ-loop text v₀ i₀ v i = length text - i

@@ -3,14 +3,14 @@ use borrow.Author.Needs.{needs}
 use Prim.Native.Nat.{_≤_, _+_, _-_}
 use lib.ListN.{length}
 use mathlib.Core.Path.{_≡_}
-use Rattle.vectors_join.proofs.run.Statement.{statement}
-use Rattle.vectors_join.proofs.run.Tie as tie
+use Rattle.vectors_trees.proofs.run.Statement.{statement}
+use Rattle.vectors_trees.proofs.run.Tie as tie
 
 abbrev Inv-loop : tie.InvT-loop
-Inv-loop text sums₀ at₀ sums at = (at ≤ length text + 1) × (length sums ≡ length sums₀)
+Inv-loop text joins sums₀ at₀ sums at = (at ≤ length text + 1) × (length sums ≡ length sums₀)
 
 abbrev μ-loop : tie.MeasureT-loop
-μ-loop text sums₀ at₀ sums at = length text - at
+μ-loop text joins sums₀ at₀ sums at = length text - at
 
 loop-holds : tie.Need-loop-holds Inv-loop μ-loop
 loop-holds c = omega arith
