@@ -14,11 +14,14 @@ use Rattle.ringfile.specs.declared.Scanned.the-variants.{Ring, Refused}
 unfoldable pub alphabet : List ℕ
 alphabet = range 65 26 ++ (range 97 26 ++ range 48 10)
 
+abbrev pub NameByte : ℕ → Type 0
+NameByte b = In b alphabet
+
 -- "Names are 1 to 8 bytes out of" these.
 pub record Name (w : List ℕ) : Type 0 where
   pub some-byte : 1 ≤ length w
   pub few-bytes : length w ≤ 8
-  pub each : All (λ b. In b alphabet) w
+  pub each : All NameByte w
 
 -- "All different, for bins 1 to n"; n is 1 to 256.
 pub record Names (ns : List (List ℕ)) : Type 0 where
