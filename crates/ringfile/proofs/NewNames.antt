@@ -15,7 +15,7 @@ use Rattle.ringfile.specs.Scanner.{spare, longer, room, New}
 use Rattle.ringfile.proofs.Lists.{in-map, map-in, distinct-map, each, in-each, length-each, distinct-each, pigeonhole}
 use Rattle.ringfile.proofs.Words.{Spare, spare-true, true-spare, no-spare, distinct-alphabet, length-alphabet}
 
--- t with one value-byte further, and with two bytes further.
+-- t with one byte more, and with two bytes more.
 abbrev pub one-more : List ℕ → List (List ℕ)
 one-more t = map (λ c. t ++ (c ∷ [])) alphabet
 

@@ -35,7 +35,7 @@ file-snoc ns vss vs = ap (λ l. line ns ++ l) (lines-snoc vss vs) ∙ sym (appen
 values-parts : (vs : List Value) (v : Value) (us : List Value) → line (map value-word (vs ++ (v ∷ us))) ≡ spaced (map value-word vs) ++ (value-word v ++ further (map value-word us))
 values-parts vs v us = ap line (map-append value-word vs (v ∷ us)) ∙ line-parts (map value-word vs) (value-word v) (map value-word us)
 
--- A step adds its value-byte.
+-- A step adds its byte.
 pub text-step : {s : State} {b : ℕ} {t : State} → Step s b t → text t ≡ text s ++ (b ∷ [])
 text-step (name-byte {ns = ns} {w = w} {b = b} h r) = sym (append-assoc (spaced ns) w (b ∷ []))
 text-step (name-space {ns = ns} {w = w} {b = b} e h n f) =

@@ -22,7 +22,7 @@ pub data Step : State → ℕ → State → Type 0 where
   value-space : {ns : List (List ℕ)} {vss : List (List Value)} {vs : List Value} {v : Value} {b : ℕ} → b ≡ 32 → suc (length vs) < length ns → Step (got ns vss vs v) b (due ns vss (vs ++ (v ∷ [])))
   value-end : {ns : List (List ℕ)} {vss : List (List Value)} {vs : List Value} {v : Value} {b : ℕ} → b ≡ 10 → suc (length vs) ≡ length ns → Step (got ns vss vs v) b (due ns (vss ++ ((vs ++ (v ∷ [])) ∷ [])) [])
 
--- What the sort of a value-byte says.
+-- What the sort of a byte says.
 abbrev Sorted : ℕ → Sort → Type 0
 Sorted b letter = NameByte b
 Sorted b space = b ≡ 32
