@@ -87,4 +87,3 @@ module _ (x : List ℕ) (ns : List (List ℕ)) (vss : List (List Value)) (l i n 
       go off s = absurd (omega arith)
       go on s = absurd (omega arith)
       go hyphen s = absurd (omega arith)
-
