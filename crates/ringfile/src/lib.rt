@@ -165,14 +165,14 @@ fn is_new(x: &[u8], w: &[u8]) -> bool
     true
 }
 
-// The cursor of a refusal.
-fn refused() -> Cursor
-    ensures { λ r. ⌜ (r .phase ≡ 3) × (r .names ≡ 0) × (r .start ≡ 0) × (r .got ≡ 0) × (r .lines ≡ 0) ⌝ }
+// The cursor in this phase, before any value; phase 3 with zeros is that of a refusal.
+fn at_phase(phase: u8, names: usize, start: usize) -> Cursor
+    ensures { λ r. ⌜ (r .phase ≡ phase) × (r .names ≡ names) × (r .start ≡ start) × (r .got ≡ 0) × (r .lines ≡ 0) ⌝ }
 {
     Cursor {
-        phase: 3,
-        names: 0,
-        start: 0,
+        phase: phase,
+        names: names,
+        start: start,
         got: 0,
         lines: 0,
     }
@@ -188,47 +188,29 @@ fn on_name(file: &[u8], at: usize, names: usize, start: usize) -> Cursor
     let next = at + 1;
     if letter(b) {
         if has_room(&file[0..start], &file[start..next]) {
-            return Cursor {
-                phase: 0,
-                names: names,
-                start: start,
-                got: 0,
-                lines: 0,
-            };
+            return at_phase(0, names, start);
         }
-        return refused();
+        return at_phase(3, 0, 0);
     }
     if b == 32 {
         if 255 <= names {
-            return refused();
+            return at_phase(3, 0, 0);
         }
         if is_new(&file[0..start], &file[start..at]) {
-            return Cursor {
-                phase: 0,
-                names: names + 1,
-                start: next,
-                got: 0,
-                lines: 0,
-            };
+            return at_phase(0, names + 1, next);
         }
-        return refused();
+        return at_phase(3, 0, 0);
     }
     if b == 10 {
         if 256 <= names {
-            return refused();
+            return at_phase(3, 0, 0);
         }
         if is_new(&file[0..start], &file[start..at]) {
-            return Cursor {
-                phase: 1,
-                names: names + 1,
-                start: next,
-                got: 0,
-                lines: 0,
-            };
+            return at_phase(1, names + 1, next);
         }
-        return refused();
+        return at_phase(3, 0, 0);
     }
-    refused()
+    at_phase(3, 0, 0)
 }
 
 // A byte where a value is due.
@@ -237,34 +219,18 @@ fn on_value(b: u8, at: usize, c: Cursor) -> Cursor
     ensures { λ r. ⌜ Within r (at + 1) ⌝ }
     ensures { λ r. ⌜ ((ns : List (List ℕ)) (vss : List (List Value)) (vs : List Value) → Stands c (due ns vss vs) → Stepped r (step (due ns vss vs) b)) ⌝ }
 {
+    let mut next = c;
+    next.phase = 2;
     if b == 48 {
-        return Cursor {
-            phase: 2,
-            names: c.names,
-            start: c.start,
-            got: c.got,
-            lines: c.lines,
-        };
+        return next;
     }
     if b == 49 {
-        return Cursor {
-            phase: 2,
-            names: c.names,
-            start: c.start,
-            got: c.got,
-            lines: c.lines,
-        };
+        return next;
     }
     if b == 45 {
-        return Cursor {
-            phase: 2,
-            names: c.names,
-            start: c.start,
-            got: c.got,
-            lines: c.lines,
-        };
+        return next;
     }
-    refused()
+    at_phase(3, 0, 0)
 }
 
 // A byte after a value.
@@ -285,7 +251,7 @@ fn on_got(b: u8, at: usize, c: Cursor) -> Cursor
                 lines: c.lines,
             };
         }
-        return refused();
+        return at_phase(3, 0, 0);
     }
     if b == 10 {
         if more == names {
@@ -297,9 +263,9 @@ fn on_got(b: u8, at: usize, c: Cursor) -> Cursor
                 lines: c.lines + 1,
             };
         }
-        return refused();
+        return at_phase(3, 0, 0);
     }
-    refused()
+    at_phase(3, 0, 0)
 }
 
 // One byte.
@@ -319,7 +285,7 @@ fn advance(file: &[u8], at: usize, c: Cursor) -> Cursor
     if phase == 2 {
         return on_got(b, at, c);
     }
-    refused()
+    at_phase(3, 0, 0)
 }
 
 // Reads the file: what it holds, or the byte at which it is refused.
@@ -330,13 +296,7 @@ pub fn scan(file: &[u8]) -> Scanned
     if 65536 < n {
         return Scanned::Refused(Refusal::RingFile(65536));
     }
-    let mut c = Cursor {
-        phase: 0,
-        names: 0,
-        start: 0,
-        got: 0,
-        lines: 0,
-    };
+    let mut c = at_phase(0, 0, 0);
     let mut i = 0;
     while i < n {
         c = advance(file, i, c);

@@ -3,7 +3,7 @@ use Rattle.ringfile.proofs.on_value.Statement.{statement}
 use Rattle.ringfile.proofs.on_value.Tie as tie
 use Rattle.ringfile.proofs.on_value.Reads as reads
 use Rattle.ringfile.proofs.on_value.Lts as lts
-use Rattle.ringfile.proofs.refused.Reads as refused-reads
+use Rattle.ringfile.proofs.at_phase.Reads as at-phase-reads
 use mathlib.Core.Path.{refl, sym, _∙_, ap}
 use mathlib.Core.List.{[], _∷_, _++_}
 use native.Mathlib.Omega.{arith}
@@ -21,11 +21,11 @@ returns-2 c = (omega arith, λ ns vss vs q. value-goes (record { phase = 2; name
 returns-3 : tie.Need-returns-3
 returns-3 c = (omega arith, λ ns vss vs q. value-goes (record { phase = 2; names = c .before .before .before .args .c .names; start = c .before .before .before .args .c .start; got = c .before .before .before .args .c .got; lines = c .before .before .before .args .c .lines }) ns vss vs (c .before .before .before .args .b) hyphen (c .if3 .taken) (refl, q .1, q .2, q .3, q .4))
 
-refused-requires : tie.Need-refused-requires
-refused-requires c κs = search needs
+at-phase-requires : tie.Need-at-phase-requires
+at-phase-requires c κs = search needs
 
 returns-4 : tie.Need-returns-4
-returns-4 c = (omega (arith, c .refused .ensures), λ ns vss vs q. value-odd (c .refused .result) ns vss vs (c .before .before .before .before .args .b) (c .before .before .before .if1 .left) (c .before .before .if2 .left) (c .before .if3 .left) (c .refused .ensures .0))
+returns-4 c = (omega (arith, c .at-phase .ensures), λ ns vss vs q. value-odd (c .at-phase .result) ns vss vs (c .before .before .before .before .args .b) (c .before .before .before .if1 .left) (c .before .before .if2 .left) (c .before .if3 .left) (c .at-phase .ensures .0))
 
 pub on-value-spec : {M : Type 1} → statement M
-on-value-spec = tie.close (tie.spec returns returns-2 returns-3 refused-requires returns-4)
+on-value-spec = tie.close (tie.spec returns returns-2 returns-3 at-phase-requires returns-4)
