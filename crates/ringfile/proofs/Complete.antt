@@ -1,5 +1,5 @@
 -- The scanner runs through every file that keeps the rules.
-use mathlib.Core.Path.{_≡_, refl, sym, ap, subst}
+use mathlib.Core.Path.{_≡_, refl, sym, subst}
 use mathlib.Core.Logic.{inl}
 use mathlib.Core.List.{List, [], _∷_, _++_, map, append-assoc, append-nil}
 use Prim.Native.Nat.{ℕ, suc, _+_, _≤_, _<_}
@@ -9,7 +9,7 @@ use Rattle.orders.specs.Lists.{All, Distinct, In}
 use Rattle.orders.proofs.ListLaws.{all-right}
 use Rattle.orders.proofs.Members.{apart}
 use Rattle.ringfile.specs.RingFile.{NameByte, Name, Value, value-word, line, value-lines, file-bytes, Rules}
-use Rattle.ringfile.specs.Scanner.{State, naming, due, got, start}
+use Rattle.ringfile.specs.Scanner.{naming, due, start}
 use Rattle.ringfile.proofs.NewNames.{new-room}
 use Rattle.ringfile.proofs.Steps.{name-byte, name-space, name-end, a-value, value-space, value-end, Run, done, then, run-append}
 

@@ -1,14 +1,14 @@
 -- The scanner's answer is the right one: an accepted file with its parts, or the byte of the refusal; and the bytes decide both.
 use mathlib.Core.Path.{_≡_, refl, sym, _∙_, ap, subst}
 use mathlib.Core.List.{List, [], _∷_, _++_, append-assoc, append-nil}
-use mathlib.Core.Option.{Option, none, some}
+use mathlib.Core.Option.{none, some}
 use Prim.Native.Nat.{ℕ, suc, _≤_, _<_}
 use native.Mathlib.Omega.{arith}
 use lib.ListN.{length, length-append, take, drop, take-append-drop}
 use lib.Seq.{take-at, take-all, take-append-seam, take-take}
-use Rattle.ringfile.specs.RingFile.{Value, line, file-bytes, Rules, Accepted, Begun, RefusedAt, at-byte, at-end}
-use Rattle.ringfile.specs.Scanner.{State, naming, due, got, start, step}
-use Rattle.ringfile.proofs.Steps.{Step, relation-steps, Run, done, then, run-after, run-ends}
+use Rattle.ringfile.specs.RingFile.{Value, file-bytes, Rules, Accepted, Begun, RefusedAt, at-byte, at-end}
+use Rattle.ringfile.specs.Scanner.{State, due, start, step}
+use Rattle.ringfile.proofs.Steps.{relation-steps, Run, then, run-after, run-ends}
 use Rattle.ringfile.proofs.Reached.{ok-start, run-text, run-ok, ok-begun, fewer-begun}
 use Rattle.ringfile.proofs.Complete.{file-run}
 

@@ -6,7 +6,7 @@ use mathlib.Core.List.{List, [], _∷_, _++_, map}
 use Prim.Native.Nat.{ℕ, suc, _≤_, _*_}
 use native.Mathlib.Omega.{arith}
 use lib.ListN.{length, length-append}
-use Rattle.orders.specs.Lists.{All, Distinct, In, filter}
+use Rattle.orders.specs.Lists.{Distinct, In, filter}
 use Rattle.orders.proofs.ListLaws.{all-append}
 use Rattle.orders.proofs.Members.{all-in, in-all, in-append}
 

@@ -1,6 +1,6 @@
 -- A begun name can become a new name: exactly where the scanner's test says so.
 use mathlib.Core.Path.{_≡_, refl, sym, _∙_, ap, subst}
-use mathlib.Core.Logic.{_⊎_, inl, inr}
+use mathlib.Core.Logic.{inl, inr}
 use mathlib.Core.Bool.{Bool, true, false, cond}
 use mathlib.Core.List.{List, [], _∷_, _++_, map, append-nil, append-cancel-left}
 use Prim.Native.Nat.{ℕ, _+_, _*_, _≤_}

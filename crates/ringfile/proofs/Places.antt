@@ -9,31 +9,15 @@ use native.Mathlib.Numerals.{add-one}
 use lib.Dec.{eqb}
 use lib.ListN.{length, length-append, length-take, take, drop, getD, drop-of-length-le}
 use lib.Seq.{drop-cons, take-append-seam, drop-append-add}
-use borrow.Author.Tests.{eq-eqb, ne-eqb}
+use borrow.Author.Tests.{ne-eqb}
 use Rattle.orders.specs.Lists.{All}
 use Rattle.ringfile.specs.RingFile.{NameByte, Name, Value, further, line, value-lines, file-bytes, Rules}
 use Rattle.ringfile.specs.Words.{word-length, word-end, Word, place-of}
 use Rattle.ringfile.proofs.Words.{no-space, no-end}
 use Rattle.ringfile.proofs.Slices.{word-at, rest-is, after-space, part-len}
 
-pub end-none : (x : List ℕ) → length x ≡ 0 → 0 ≡ word-end x
-end-none [] h = refl
-end-none (b ∷ x) h = absurd (omega arith)
-
-pub end-space : (x : List ℕ) → 1 ≤ length x → getD x 0 0 ≡ 32 → 0 ≡ word-end x
-end-space [] h e = absurd (omega arith)
-end-space (b ∷ x) h e = sym (ap (λ c. cond c 0 (cond (eqb b 10) 0 (1 + word-end x))) (eq-eqb b 32 e))
-
-pub end-line : (x : List ℕ) → 1 ≤ length x → (getD x 0 0 ≡ 32 → ⊥) → getD x 0 0 ≡ 10 → 0 ≡ word-end x
-end-line [] h n e = absurd (omega arith)
-end-line (b ∷ x) h n e = sym (ap (λ c. cond c 0 (cond (eqb b 10) 0 (1 + word-end x))) (ne-eqb b 32 n) ∙ ap (λ c. cond c 0 (1 + word-end x)) (eq-eqb b 10 e))
-
 end-cons : (b : ℕ) (x : List ℕ) → (b ≡ 32 → ⊥) → (b ≡ 10 → ⊥) → word-end (b ∷ x) ≡ 1 + word-end x
 end-cons b x n m = ap (λ c. cond c 0 (cond (eqb b 10) 0 (1 + word-end x))) (ne-eqb b 32 n) ∙ ap (λ c. cond c 0 (1 + word-end x)) (ne-eqb b 10 m)
-
-pub end-next : (x : List ℕ) → 1 ≤ length x → (getD x 0 0 ≡ 32 → ⊥) → (getD x 0 0 ≡ 10 → ⊥) → 1 + word-end (take (length x - 1) (drop 1 x)) ≡ word-end x
-end-next [] h n m = absurd (omega arith)
-end-next (b ∷ x) h n m = ap (λ l. 1 + word-end l) (rest-is 1 (b ∷ x)) ∙ sym (end-cons b x n m)
 
 pub end-le : (x : List ℕ) → word-end x ≤ length x
 end-le [] = omega arith

@@ -35,23 +35,6 @@ same-cons [] b h k = absurd (omega arith)
 same-cons (x ∷ a) [] h k = absurd (omega arith)
 same-cons (x ∷ a) (y ∷ b) h k = refl
 
--- word-length, from the front.
-pub word-none : (x : List ℕ) → length x ≡ 0 → word-length x ≡ 0
-word-none [] h = refl
-word-none (b ∷ x) h = absurd (omega arith)
-
-pub word-cons : (x : List ℕ) → 1 ≤ length x → word-length x ≡ cond (eqb (getD x 0 0) 32) 0 (1 + word-length (drop 1 x))
-word-cons [] h = absurd (omega arith)
-word-cons (b ∷ x) h = refl
-
-pub word-le : (x : List ℕ) → word-length x ≤ length x
-word-le [] = omega arith
-word-le (b ∷ x) = go (eqb b 32) (word-le x)
-  where
-    go : (c : Bool) → word-length x ≤ length x → cond c 0 (1 + word-length x) ≤ suc (length x)
-    go true h = omega arith
-    go false h = omega arith
-
 pub word-at : (v x : List ℕ) → Word v → word-length (v ++ (32 ∷ x)) ≡ length v
 word-at [] x h = refl
 word-at (b ∷ v) x h = ap (λ c. cond c 0 (1 + word-length (v ++ (32 ∷ x)))) (ne-eqb b 32 (h .0)) ∙ omega (arith, word-at v x (h .1))
@@ -83,12 +66,6 @@ equal-next a b h k e = ap₂ same (rest-is 1 a) (rest-is 1 b) ∙ sym (same-cons
 
 pub equal-not : (a b : List ℕ) → 1 ≤ length a → 1 ≤ length b → (getD a 0 0 ≡ getD b 0 0 → ⊥) → same a b ≡ false
 equal-not a b h k n = same-cons a b h k ∙ ap (λ c. c && same (drop 1 a) (drop 1 b)) (ne-eqb (getD a 0 0) (getD b 0 0) n)
-
-pub word-stop : (x : List ℕ) → 1 ≤ length x → getD x 0 0 ≡ 32 → word-length x ≡ 0
-word-stop x h e = word-cons x h ∙ ap (λ c. cond c 0 (1 + word-length (drop 1 x))) (eq-eqb (getD x 0 0) 32 e)
-
-pub word-next : (x : List ℕ) → 1 ≤ length x → (getD x 0 0 ≡ 32 → ⊥) → 1 + word-length (take (length x - 1) (drop 1 x)) ≡ word-length x
-word-next x h n = ap (λ l. 1 + word-length l) (rest-is 1 x) ∙ sym (word-cons x h ∙ ap (λ c. cond c 0 (1 + word-length (drop 1 x))) (ne-eqb (getD x 0 0) 32 n))
 
 -- The words of x, one step: k bytes, a space, and the rest.
 pub record Front (x : List ℕ) (k : ℕ) (v : List ℕ) (ns : List (List ℕ)) : Type 0 where

@@ -5,7 +5,7 @@ use Rattle.ringfile.proofs.is_new.Reads as reads
 use Rattle.ringfile.proofs.is_new.Lts as lts
 use Rattle.ringfile.proofs.is_among.Reads as is-among-reads
 use denote.Ref.{now}
-use mathlib.Core.Path.{sym, _∙_, ap}
+use mathlib.Core.Path.{sym, _∙_}
 use native.Mathlib.Omega.{arith}
 use mathlib.Core.Bool.{true, false}
 use Rattle.ringfile.proofs.NamesLine.{name-words, new-empty, new-is}

@@ -4,10 +4,10 @@ use Rattle.ringfile.proofs.on_got.Tie as tie
 use Rattle.ringfile.proofs.on_got.Reads as reads
 use Rattle.ringfile.proofs.on_got.Lts as lts
 use Rattle.ringfile.proofs.at_phase.Reads as at-phase-reads
-use mathlib.Core.Path.{refl, sym, _∙_, ap}
+use mathlib.Core.Path.{refl}
 use mathlib.Core.List.{[], _∷_, _++_}
 use native.Mathlib.Omega.{arith}
-use lib.ListN.{length, length-append}
+use lib.ListN.{length-append}
 use Prim.Native.Nat.{_+_}
 use Rattle.ringfile.proofs.Scanning.{space-on, space-off, end-on, end-off, got-odd}
 

@@ -8,10 +8,10 @@ use Rattle.ringfile.proofs.is_new.Reads as is-new-reads
 use Rattle.ringfile.proofs.letter.Reads as letter-reads
 use Rattle.ringfile.proofs.at_phase.Reads as at-phase-reads
 use denote.Ref.{now}
-use mathlib.Core.Path.{refl, sym, _∙_, ap}
+use mathlib.Core.Path.{sym, _∙_, ap}
 use native.Mathlib.Omega.{arith}
 use lib.ListN.{length, getD}
-use Prim.Native.Nat.{_+_, _<_}
+use Prim.Native.Nat.{_<_}
 use Rattle.ringfile.specs.Scanner.{room, is-new}
 use Rattle.ringfile.proofs.NamesLine.{earlier, begun-word, word-more, next-name, next-line, one-more-name, name-goes, name-full, space-goes, space-old, space-many, end-goes, end-old, end-many, name-odd}
 

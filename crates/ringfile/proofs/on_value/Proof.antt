@@ -4,11 +4,8 @@ use Rattle.ringfile.proofs.on_value.Tie as tie
 use Rattle.ringfile.proofs.on_value.Reads as reads
 use Rattle.ringfile.proofs.on_value.Lts as lts
 use Rattle.ringfile.proofs.at_phase.Reads as at-phase-reads
-use mathlib.Core.Path.{refl, sym, _∙_, ap}
-use mathlib.Core.List.{[], _∷_, _++_}
+use mathlib.Core.Path.{refl}
 use native.Mathlib.Omega.{arith}
-use lib.ListN.{length, length-append}
-use Prim.Native.Nat.{_+_}
 use Rattle.ringfile.specs.RingFile.{off, on, hyphen}
 use Rattle.ringfile.proofs.Scanning.{value-goes, value-odd}
 

@@ -9,7 +9,6 @@ use Prim.Native.Nat.{_≤_, _-_}
 use mathlib.Core.Path.{_≡_, refl}
 use denote.Ref.{now}
 use lib.ListN.{length}
-use borrow.Author.Needs.{needs}
 use Rattle.ringfile.specs.RingFile.{too-long}
 use Rattle.ringfile.specs.Cursors.{Within}
 use Rattle.ringfile.proofs.Scanning.{Reach, reach-start, reach-next, says-bad, says-ring, says-short}
