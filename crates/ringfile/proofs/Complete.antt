@@ -24,7 +24,8 @@ name-run ns w (b ∷ r) k n =
     (subst (λ v. Run (naming ns (w ++ (b ∷ []))) r (naming ns v)) e (name-run ns (w ++ (b ∷ [])) r k′ n′))
 
 -- The names w, ws, where a is read.
-names-run : (a : List (List ℕ)) (w : List ℕ) (ws : List (List ℕ)) → All Name (w ∷ ws) → Distinct (a ++ (w ∷ ws)) → length a + length (w ∷ ws) ≤ 256 → Run (naming a []) (line (w ∷ ws)) (due (a ++ (w ∷ ws)) [] [])
+names-run : (a : List (List ℕ)) (w : List ℕ) (ws : List (List ℕ)) → All Name (w ∷ ws) → Distinct (a ++ (w ∷ ws)) → length a + length (w ∷ ws) ≤ 256
+    → Run (naming a []) (line (w ∷ ws)) (due (a ++ (w ∷ ws)) [] [])
 names-run a w [] k d m =
     let n : In w a → ⊥ = λ i. apart w a (w ∷ []) d i (inl refl) in
     run-append (name-run a [] w (k .0) n) (then (name-end refl (k .0 .some-byte) n) done)
@@ -49,7 +50,8 @@ values-run ns vss vs v (u ∷ us) h =
     (subst (λ l. Run (due ns vss (vs ++ (v ∷ []))) (line (map value-word (u ∷ us))) (due ns (vss ++ (l ∷ [])) [])) e
     (values-run ns vss (vs ++ (v ∷ [])) u us (omega (arith, length-append vs (v ∷ []))))))
 
-lines-run : (ns : List (List ℕ)) (a vss : List (List Value)) → 1 ≤ length ns → All (λ vs. length vs ≡ length ns) vss → Run (due ns a []) (value-lines vss) (due ns (a ++ vss) [])
+lines-run : (ns : List (List ℕ)) (a vss : List (List Value)) → 1 ≤ length ns → All (λ vs. length vs ≡ length ns) vss
+    → Run (due ns a []) (value-lines vss) (due ns (a ++ vss) [])
 lines-run ns a [] h k = subst (λ l. Run (due ns a []) [] (due ns l [])) (sym (append-nil a)) done
 lines-run ns a ([] ∷ vss) h k = absurd (omega (arith, k .0))
 lines-run ns a ((v ∷ vs) ∷ vss) h k =

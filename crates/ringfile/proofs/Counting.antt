@@ -21,7 +21,8 @@ use Rattle.ringfile.proofs.NewNames.{longer-7, longer-8, longer-0, one-
 
 module _ (t : List ℕ) where
   -- Seven bytes, eight, or neither.
-  three : (P : List (List ℕ) → Type 0) → (length t ≡ 7 → P (t ∷ one-more t)) → (length t ≡ 8 → P (t ∷ [])) → ((length t ≡ 7 → ⊥) → (length t ≡ 8 → ⊥) → P []) → P (longer t)
+  three : (P : List (List ℕ) → Type 0) → (length t ≡ 7 → P (t ∷ one-more t)) → (length t ≡ 8 → P (t ∷ []))
+      → ((length t ≡ 7 → ⊥) → (length t ≡ 8 → ⊥) → P []) → P (longer t)
   three P f g h = go (eqb (length t) 7) (eqb (length t) 8) refl refl
     where
       go : (c d : Bool) → eqb (length t) 7 ≡ c → eqb (length t) 8 ≡ d → P (longer t)

@@ -80,7 +80,9 @@ module _ (x t : List ℕ) (n k : ℕ) (q : n ≡ word-length x) (k1 : 1 ≤ k) w
           let m : n + 1 ≡ length w + 1 + 0 = omega (arith, size) in
           rest-is (n + 1) x ∙ ap₂ (λ j l. drop j l) m e ∙ past w 0 (line (v ∷ ws)) t
 
-      go : (j : ℕ) → 1 ≤ j → j < length (w ∷ (v ∷ ws)) → ((vs : List (List ℕ)) → All Word vs → after-space n x ≡ line vs ++ t → j - 1 < length vs → r ≡ place-of vs (j - 1)) → n + 1 + r ≡ place-of (w ∷ (v ∷ ws)) j
+      go : (j : ℕ) → 1 ≤ j → j < length (w ∷ (v ∷ ws))
+          → ((vs : List (List ℕ)) → All Word vs → after-space n x ≡ line vs ++ t → j - 1 < length vs → r ≡ place-of vs (j - 1))
+          → n + 1 + r ≡ place-of (w ∷ (v ∷ ws)) j
       go zero j1 m f = absurd (omega arith)
       go (suc j) j1 m f =
           let p : suc j - 1 ≡ j = omega arith in
@@ -95,7 +97,8 @@ module _ (x t : List ℕ) (n k : ℕ) (q : n ≡ word-length x) (k1 : 1 ≤ k) w
       absurd (omega (arith, q, ap word-length u, word-at w (line (v ∷ ws) ++ t) (h .0), ap length u, length-append w (32 ∷ (line (v ∷ ws) ++ t))))
 
 -- The name that the code cuts out.
-pub name-there : (x : List ℕ) (ns : List (List ℕ)) (vss : List (List Value)) (k s n : ℕ) → Rules ns vss → x ≡ file-bytes ns vss → k < length ns → s ≡ place-of ns k
+pub name-there : (x : List ℕ) (ns : List (List ℕ)) (vss : List (List Value)) (k s n : ℕ) → Rules ns vss → x ≡ file-bytes ns vss → k < length ns
+    → s ≡ place-of ns k
     → n ≡ word-end (take (length x - s) (drop s x)) → take (s + n - s) (drop s x) ≡ getD ns k []
 name-there x ns vss k s n r e l p q =
     let d = at-place ns k (value-lines vss) (r .names .each) l in
@@ -107,7 +110,8 @@ pub end-inside : (x : List ℕ) (s n : ℕ) → s ≤ length x → n ≡ word-en
 end-inside x s n h q = omega (arith, q, end-le (take (length x - s) (drop s x)), length-take (length x - s) (drop s x))
 
 -- word-end, by a loop.
-pub end-on-loop : (x : List ℕ) (i : ℕ) → i < length x → (getD x i 0 ≡ 32 → ⊥) → (getD x i 0 ≡ 10 → ⊥) → word-end x ≡ i + word-end (drop i x) → word-end x ≡ (i + 1) + word-end (drop (i + 1) x)
+pub end-on-loop : (x : List ℕ) (i : ℕ) → i < length x → (getD x i 0 ≡ 32 → ⊥) → (getD x i 0 ≡ 10 → ⊥) → word-end x ≡ i + word-end (drop i x)
+    → word-end x ≡ (i + 1) + word-end (drop (i + 1) x)
 end-on-loop x i h n m e =
     let s : word-end (drop i x) ≡ 1 + word-end (drop (suc i) x) = ap word-end (drop-cons x i 0 h) ∙ end-cons (getD x i 0) (drop (suc i) x) n m in
     let t : word-end (drop (suc i) x) ≡ word-end (drop (i + 1) x) = ap (λ j. word-end (drop j x)) (sym (add-one i)) in

@@ -106,7 +106,7 @@ fn is_among(x: &[u8], w: &[u8]) -> bool
     is_among(&x[k + 1..], w)
 }
 
-// How many of the words of x begin with t.
+// How many of the words of x, a space after each, begin with t.
 fn begin_with(x: &[u8], t: &[u8]) -> usize
     ensures { λ r. ⌜ ((ns : List (List ℕ)) → All Word ns → now (x .entry) ≡ spaced ns → r ≡ length (filter (begins (now (t .entry))) ns)) ⌝ }
     ensures { λ r. ⌜ r ≤ length (now (x .entry)) ⌝ }
@@ -152,7 +152,7 @@ fn has_room(x: &[u8], t: &[u8]) -> bool
     false
 }
 
-// Whether w is a new name.
+// Whether w is a new name. x: the earlier names, a space after each.
 fn is_new(x: &[u8], w: &[u8]) -> bool
     ensures { λ r. ⌜ ((ns : List (List ℕ)) → All Name ns → now (x .entry) ≡ spaced ns → r ≡ is-new ns (now (w .entry))) ⌝ }
 {
@@ -178,11 +178,12 @@ fn at_phase(phase: u8, names: usize, start: usize) -> Cursor
     }
 }
 
-// A byte of the names line.
+// The cursor after byte number `at`, in the names line.
 fn on_name(file: &[u8], at: usize, names: usize, start: usize) -> Cursor
     requires { ⌜ (at < length (now file)) × (start ≤ at) × (names ≤ 256) ⌝ }
     ensures { λ r. ⌜ Within r (at + 1) ⌝ }
-    ensures { λ r. ⌜ ((ns : List (List ℕ)) (w : List ℕ) → Naming ns w → take at (now (file .entry)) ≡ spaced ns ++ w → names ≡ length ns → start ≡ length (spaced ns) → Stepped r (step (naming ns w) (getD (now (file .entry)) at 0))) ⌝ }
+    ensures { λ r. ⌜ ((ns : List (List ℕ)) (w : List ℕ) → Naming ns w → take at (now (file .entry)) ≡ spaced ns ++ w
+        → names ≡ length ns → start ≡ length (spaced ns) → Stepped r (step (naming ns w) (getD (now (file .entry)) at 0))) ⌝ }
 {
     let b = file[at];
     let next = at + 1;
@@ -213,11 +214,12 @@ fn on_name(file: &[u8], at: usize, names: usize, start: usize) -> Cursor
     at_phase(3, 0, 0)
 }
 
-// A byte where a value is due.
+// The cursor after the byte b, number `at`, where a value is due.
 fn on_value(b: u8, at: usize, c: Cursor) -> Cursor
     requires { ⌜ Within c at ⌝ }
     ensures { λ r. ⌜ Within r (at + 1) ⌝ }
-    ensures { λ r. ⌜ ((ns : List (List ℕ)) (vss : List (List Value)) (vs : List Value) → Stands c (due ns vss vs) → Stepped r (step (due ns vss vs) b)) ⌝ }
+    ensures { λ r. ⌜ ((ns : List (List ℕ)) (vss : List (List Value)) (vs : List Value) → Stands c (due ns vss vs)
+        → Stepped r (step (due ns vss vs) b)) ⌝ }
 {
     let mut next = c;
     next.phase = 2;
@@ -233,11 +235,12 @@ fn on_value(b: u8, at: usize, c: Cursor) -> Cursor
     at_phase(3, 0, 0)
 }
 
-// A byte after a value.
+// The cursor after the byte b, number `at`, where a value was read.
 fn on_got(b: u8, at: usize, c: Cursor) -> Cursor
     requires { ⌜ (Within c at) × (at < 65536) ⌝ }
     ensures { λ r. ⌜ Within r (at + 1) ⌝ }
-    ensures { λ r. ⌜ ((ns : List (List ℕ)) (vss : List (List Value)) (vs : List Value) (v : Value) → Stands c (got ns vss vs v) → Stepped r (step (got ns vss vs v) b)) ⌝ }
+    ensures { λ r. ⌜ ((ns : List (List ℕ)) (vss : List (List Value)) (vs : List Value) (v : Value) → Stands c (got ns vss vs v)
+        → Stepped r (step (got ns vss vs v) b)) ⌝ }
 {
     let more = c.got + 1;
     let names = c.names;
@@ -268,7 +271,7 @@ fn on_got(b: u8, at: usize, c: Cursor) -> Cursor
     at_phase(3, 0, 0)
 }
 
-// One byte.
+// The cursor after byte number `at`.
 fn advance(file: &[u8], at: usize, c: Cursor) -> Cursor
     requires { ⌜ (Within c at) × (at < length (now file)) × (length (now file) ≤ 65536) ⌝ }
     ensures { λ r. ⌜ Within r (at + 1) ⌝ }
@@ -338,7 +341,7 @@ fn word_end(x: &[u8]) -> usize
     i
 }
 
-// Where name number k, from 0, starts.
+// Where name number k, from 0, of the names line that x begins with starts.
 fn place(x: &[u8], k: usize) -> usize
     ensures { λ r. ⌜ ((ns : List (List ℕ)) (t : List ℕ) → All Word ns → now (x .entry) ≡ line ns ++ t → k < length ns → r ≡ place-of ns k) ⌝ }
     ensures { λ r. ⌜ r ≤ length (now (x .entry)) ⌝ }
@@ -353,9 +356,10 @@ fn place(x: &[u8], k: usize) -> usize
     n + 1 + place(&x[n + 1..], k - 1)
 }
 
-// Name number k, from 0, of an accepted file: the part of the file that it fills.
+// Name number k, from 0, of an accepted file: the part of the file that it fills. Of another file or number it is some part of the file.
 pub fn name_of(file: &[u8], k: usize) -> &[u8]
-    ensures { λ r. ⌜ ((ns : List (List ℕ)) (vss : List (List Value)) → Rules ns vss → now (file .entry) ≡ file-bytes ns vss → k < length ns → now r ≡ getD ns k []) ⌝ }
+    ensures { λ r. ⌜ ((ns : List (List ℕ)) (vss : List (List Value)) → Rules ns vss → now (file .entry) ≡ file-bytes ns vss → k < length ns
+        → now r ≡ getD ns k []) ⌝ }
 {
     if 256 <= k {
         return &file[0..0];
@@ -366,9 +370,12 @@ pub fn name_of(file: &[u8], k: usize) -> &[u8]
     &file[start..end]
 }
 
-// Value number i of value line l, both from 0, of an accepted file with so many names and a names line of head bytes.
+// Whether value number i of value line l, both from 0, is `1`, in an accepted file with so many names and a names line of head bytes.
+// Of other numbers the answer means nothing.
 pub fn value_of(file: &[u8], names: usize, head: usize, l: usize, i: usize) -> bool
-    ensures { λ r. ⌜ ((ns : List (List ℕ)) (vss : List (List Value)) → Rules ns vss → now (file .entry) ≡ file-bytes ns vss → length (now (file .entry)) ≤ 65536 → names ≡ length ns → head ≡ length (line ns) → l < length vss → i < length ns → r ≡ in-group (getD (getD vss l []) i off)) ⌝ }
+    ensures { λ r. ⌜ ((ns : List (List ℕ)) (vss : List (List Value)) → Rules ns vss → now (file .entry) ≡ file-bytes ns vss
+        → length (now (file .entry)) ≤ 65536 → names ≡ length ns → head ≡ length (line ns) → l < length vss
+        → i < length ns → r ≡ in-group (getD (getD vss l []) i off)) ⌝ }
 {
     if 256 < names {
         return false;
@@ -392,7 +399,9 @@ pub fn value_of(file: &[u8], names: usize, head: usize, l: usize, i: usize) -> b
 // Writes the leaves from number i + 1 on that have the value `1` in value line l, rising, to the start of the list, and says how many.
 fn group_from(file: &[u8], names: usize, head: usize, l: usize, i: usize, list: &mut [u16]) -> usize
     requires { ⌜ (names ≤ 256) × (names ≤ i + length (now list)) ⌝ }
-    ensures { λ r. ⌜ ((ns : List (List ℕ)) (vss : List (List Value)) → Rules ns vss → now (file .entry) ≡ file-bytes ns vss → length (now (file .entry)) ≤ 65536 → names ≡ length ns → head ≡ length (line ns) → l < length vss → Wrote (leaves-after i (getD vss l [])) (now (list .entry)) (now (list .exit)) r) ⌝ }
+    ensures { λ r. ⌜ ((ns : List (List ℕ)) (vss : List (List Value)) → Rules ns vss → now (file .entry) ≡ file-bytes ns vss
+        → length (now (file .entry)) ≤ 65536 → names ≡ length ns → head ≡ length (line ns) → l < length vss
+        → Wrote (leaves-after i (getD vss l [])) (now (list .entry)) (now (list .exit)) r) ⌝ }
     ensures { λ r. ⌜ r ≤ 256 - i ⌝ }
 {
     if i >= names {
@@ -405,9 +414,12 @@ fn group_from(file: &[u8], names: usize, head: usize, l: usize, i: usize, list: 
     1 + group_from(file, names, head, l, i + 1, &mut list[1..])
 }
 
-// Writes the group of value line l, from 0, of an accepted file to the start of the list: its leaves, rising. Returns how many.
+// Writes the group of value line l, from 0, of an accepted file to the start of the list: its leaves, rising. Returns how many. The list has
+// a place for each leaf of the ring; with fewer places, nothing is written. Of other numbers the answer means nothing.
 pub fn group_of(file: &[u8], names: usize, head: usize, l: usize, list: &mut [u16]) -> usize
-    ensures { λ r. ⌜ ((ns : List (List ℕ)) (vss : List (List Value)) → Rules ns vss → now (file .entry) ≡ file-bytes ns vss → length (now (file .entry)) ≤ 65536 → names ≡ length ns → head ≡ length (line ns) → l < length vss → length ns ≤ length (now (list .entry)) → Wrote (leaves-on (getD vss l [])) (now (list .entry)) (now (list .exit)) r) ⌝ }
+    ensures { λ r. ⌜ ((ns : List (List ℕ)) (vss : List (List Value)) → Rules ns vss → now (file .entry) ≡ file-bytes ns vss
+        → length (now (file .entry)) ≤ 65536 → names ≡ length ns → head ≡ length (line ns) → l < length vss
+        → length ns ≤ length (now (list .entry)) → Wrote (leaves-on (getD vss l [])) (now (list .entry)) (now (list .exit)) r) ⌝ }
     ensures { λ r. ⌜ r ≤ 256 ⌝ }
 {
     if 256 < names {
