@@ -1,0 +1,96 @@
+// What is printed: a call's answer, and checksums of tables.
+ghost use Prim.Native.Nat.{_≤_};
+use calls::Answer;
+use calls::Refusal;
+
+// Prints a call's letter and what it returned: 0 and the value, or the refusal's number and its place.
+pub fn answer(letter: &[u8], got: Answer) {
+    io::write_all(1, letter);
+    match got {
+        Answer::Done(value) => done(value),
+        Answer::Refused(refusal) => refused(refusal),
+    }
+}
+
+fn done(value: usize) {
+    number(0);
+    number(value as u64);
+}
+
+fn refused(refusal: Refusal) {
+    let k = calls::number(refusal);
+    number(wide8(k));
+    if has_place(k) {
+        number(calls::place(refusal) as u64);
+    }
+}
+
+// Whether a place or byte is returned with a refusal's number.
+fn has_place(k: u8) -> bool {
+    match k {
+        5 => true,
+        6 => true,
+        11 => true,
+        12 => true,
+        _ => false,
+    }
+}
+
+// Prints the checksums of two tables, and ends the line.
+pub fn ring(nodes: &[u16], book: &[u64]) {
+    sums(sum16(nodes), sum64(book));
+}
+
+pub fn tables16(first: &[u16], second: &[u16]) {
+    sums(sum16(first), sum16(second));
+}
+
+fn sums(first: u64, second: u64) {
+    io::write_all(1, b" :");
+    number(first);
+    number(second);
+    io::write_all(1, b"\n");
+}
+
+// Prints a space and a number.
+fn number(x: u64) {
+    io::write_all(1, b" ");
+    io::print_decimal(1, x);
+}
+
+// The checksum of a table with one number more.
+fn mix(sum: u64, x: u64) -> u64
+    requires { ⌜ sum ≤ 4294967290 ⌝ }
+    ensures { λ r. ⌜ r ≤ 4294967290 ⌝ }
+{
+    (sum * 65599 + x % 4294967291) % 4294967291
+}
+
+fn wide8(x: u8) -> u64 {
+    x as u64
+}
+
+fn wide16(x: u16) -> u64 {
+    x as u64
+}
+
+// The checksum of a table.
+fn sum16(table: &[u16]) -> u64 {
+    let mut sum: u64 = 0;
+    let mut i = 0;
+    while i < table.len() {
+        sum = mix(sum, wide16(table[i]));
+        i += 1;
+    }
+    sum
+}
+
+fn sum64(table: &[u64]) -> u64 {
+    let mut sum: u64 = 0;
+    let mut i = 0;
+    while i < table.len() {
+        sum = mix(sum, table[i]);
+        i += 1;
+    }
+    sum
+}
