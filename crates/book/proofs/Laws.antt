@@ -8,8 +8,8 @@ use lib.Pow.{pow-pos}
 use native.Mathlib.Omega.{arith}
 use native.Mathlib.Numerals.{add-one}
 use native.Mathlib.Decide.{ℕ-discrete}
-use borrow.Author.Tests.{eq-eqb, eqb-true, ltb-true, ltb-false}
-use lib.Dec.{eqb, ltb}
+use borrow.Author.Tests.{eq-eqb, eqb-true, ltb-true, ltb-false, leb-true}
+use lib.Dec.{eqb, ltb, leb}
 use borrow.Rule.Slice.PartMut.{putMid}
 use lib.ListN.{length, getD, take, drop, replicate, length-take, length-drop, length-replicate, List·getD-eq-default}
 use lib.Seq.{getD-take, getD-drop, drop-drop}
@@ -21,7 +21,7 @@ use Rattle.marks.proofs.Words.{Words}
 use Rattle.marks.proofs.Word.{word-none}
 use Rattle.marks.proofs.Steps.{empty-all, empty-not}
 use Rattle.calls.specs.Tables.{over}
-use Rattle.calls.specs.Book.{group-words, group-in-form?, booked, emptied}
+use Rattle.calls.specs.Book.{group-words, group-in-form?, book-in-form?, booked, emptied}
 use Rattle.book.specs.Groups.{groups-in-form?}
 
 pub groups-done : (n : ℕ) (book : List ℕ) (k count : ℕ) → count ≤ k → groups-in-form? n book k count ≡ true
@@ -97,3 +97,8 @@ zeros-over k book new h e =
 pub emptied-is : (book new : List ℕ) → 384 ≤ length book → new ≡ words-of (length (take (384 - 0) (drop 0 book))) no-leaf → new ++ drop 384 book ≡ emptied book
 unfolding emptied
 emptied-is book new h e = zeros-over 384 book new h e
+
+-- A book in form has at most 96 groups.
+pub few-groups : (n : ℕ) (book : List ℕ) (count : ℕ) → book-in-form? n book count ≡ true → count ≤ 96
+unfolding book-in-form?
+few-groups n book count e = leb-true count 96 (both {a = leb count 96} Iff·rfl Iff·rfl .0 e .0)

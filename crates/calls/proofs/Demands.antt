@@ -33,7 +33,7 @@ use Rattle.calls.proofs.NodeTables.{tree-in-holds, table-length}
 -- ---- lists
 
 -- None of the leaves stands earlier.
-abbrev New : List ℕ → List ℕ → Type 0
+abbrev pub New : List ℕ → List ℕ → Type 0
 New seen = All (λ b. elem seen b ≡ false)
 
 new-more : (seen : List ℕ) (x : ℕ) (l : List ℕ) → New seen l → All (λ y. x ≢ y) l → New (x ∷ seen) l
@@ -62,8 +62,17 @@ new-less seen x (y ∷ l) a = let r = new-less seen x l (a .1) in let h = go (eq
     go true q e = absurd (true≢false e)
     go false q e = (e, λ p. eqb-false y x q (sym p))
 
-abbrev Fine : ℕ → List ℕ → List ℕ → Type 0
+-- Different leaves of the ring, none of them earlier.
+abbrev pub Fine : ℕ → List ℕ → List ℕ → Type 0
 Fine n seen l = All (λ b. (1 ≤ b) × (b ≤ n)) l × Distinct l × New seen l
+
+pub fine-more : (n : ℕ) (seen : List ℕ) (b : ℕ) (l : List ℕ) → eqb b 0 ≡ false → ltb n b ≡ false → elem seen b ≡ false → Fine n (b ∷ seen) l → Fine n seen (b ∷ l)
+fine-more n seen b l z q r m =
+    let f = new-less seen b l (m .2) in
+    (((pos b (eqb-false b 0 z), ltb-false n b q), m .0), (f .1, m .1), (r, f .0))
+  where
+    pos : (b : ℕ) → b ≢ 0 → 1 ≤ b
+    pos b h = omega arith
 
 leaves-are : (n : ℕ) (seen : List ℕ) (k : ℕ) (l : List ℕ) → bad-leaf n seen k l ≡ none → Fine n seen l
 unfolding bad-leaf
@@ -75,13 +84,7 @@ leaves-are n seen k (b ∷ l) e = go (leaves-are n (b ∷ seen) (suc k) l) (eqb 
     go more true z p q s r e = absurd (let i : _≡_ {A = ℕ} 0 1 = cc in omega arith)
     go more false z true q s r e = absurd (let i : _≡_ {A = ℕ} 0 1 = cc in omega arith)
     go more false z false q true r e = absurd (let i : _≡_ {A = ℕ} 0 1 = cc in omega arith)
-    go more false z false q false r e =
-        let m = more e in
-        let f = new-less seen b l (m .2) in
-        (((pos b (eqb-false b 0 z), ltb-false n b q), m .0), (f .1, m .1), (r, f .0))
-      where
-        pos : (b : ℕ) → b ≢ 0 → 1 ≤ b
-        pos b h = omega arith
+    go more false z false q false r e = fine-more n seen b l z q r (more e)
 
 pub passes-iff : (n : ℕ) (l : List ℕ) → (down (list-checks n l) ≡ none) ↔ WellFormed n l
 passes-iff n l = (from l, well-formed-passes n l)

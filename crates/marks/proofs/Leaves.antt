@@ -12,8 +12,9 @@ use lib.Arith.{lt-one}
 use lib.Pow.{shr-lt}
 use lib.Count.{ones, ones-step, ones-ones}
 use Rattle.orders.specs.Lists.{All, Distinct, In, filter, elem, range}
-use Rattle.orders.specs.CircularOrder.{Restriction}
+use Rattle.orders.specs.CircularOrder.{Restriction, WellFormed}
 use Rattle.marks.specs.Marks.{bit, marked, words-of, leaves-of}
+use Rattle.orders.proofs.ListLaws.{all-map}
 use Rattle.orders.proofs.Members.{false-if, elem-in, in-elem, all-in, in-all}
 use Rattle.orders.proofs.Ranges.{filter-different, in-filter, filter-in, in-range, range-in, range-append, filter-agree, count, count-cons, count-append, count-elem}
 use Rattle.marks.proofs.Word.{digit-times, bit-zero, bit-half}
@@ -131,3 +132,7 @@ marked-list k l r = λ i x. at x i
         go : Dec (suc x ≤ 64 * k) → marked (words-of k (elem l)) (suc x) ≡ elem l (suc x)
         go (yes h) = marked-words k (elem l) (suc x) (omega arith) h
         go (no h) = marked-past (words-of k (elem l)) (suc x) (omega (arith, length-words k (elem l))) ∙ sym (out (suc x) (λ p. h (p .1)))
+
+-- Four words hold a well-formed group of at most 256 leaves.
+pub marked-group : (n : ℕ) (l : List ℕ) → n ≤ 256 → WellFormed n l → marked (words-of 4 (elem l)) ≡ elem l
+marked-group n l h w = marked-list 4 l (all-map (λ b. (1 ≤ b) × (b ≤ n)) (λ b. (1 ≤ b) × (b ≤ 256)) (λ b r. (r .0, omega (arith, r .1))) l (w .in-range))

@@ -1,9 +1,12 @@
 -- Document 01, "Conflict list", over circular orders, without a tree. It computes: "impossible together" is tried on every circular order.
+use mathlib.Core.Path.{_≡_}
+use mathlib.Core.Logic.{_↔_, _≢_}
 use mathlib.Core.Bool.{Bool, true, false, cond}
 use mathlib.Core.List.{List, [], _∷_, _++_, map}
-use Prim.Native.Nat.{ℕ, suc}
+use Prim.Native.Nat.{ℕ, suc, _<_, _≤_}
+use lib.ListN.{length}
 use Rattle.orders.specs.Lists.{elem, some-of, all-of}
-use Rattle.orders.specs.CircularOrder.{Restriction, others}
+use Rattle.orders.specs.CircularOrder.{Restriction, others, Possible}
 
 module _ {A : Type 0} where
   -- x put at each place of the list; for each list of a list of lists; all rearrangements.
@@ -60,3 +63,16 @@ conflict-list n book new = elim (possible? n (new ∷ book)) [ true ↦ [] | fal
 abbrev pub named : ℕ → List Restriction → List ℕ → List Restriction
 named k [] ns = []
 named k (G ∷ Gs) ns = cond (elem ns k) (G ∷ named (suc k) Gs ns) (named (suc k) Gs ns)
+
+-- The numbers rise from k, and each is below m.
+abbrev pub Numbers : ℕ → ℕ → List ℕ → Type 0
+Numbers k m [] = Unit {0}
+Numbers k m (j ∷ ns) = (k ≤ j) × (j < m) × Numbers (suc j) m ns
+
+-- Demand 3 of a conflict list: it is empty iff the new group can hang together with the whole book; else the new group and those named are
+-- impossible together, and possible without any one of them. The numbers rise, from 1 to the book's count.
+pub record Demand-3 (n : ℕ) (book : List Restriction) (new : Restriction) (ns : List ℕ) : Type 0 where
+  pub empty-iff : (ns ≡ []) ↔ Possible n (new ∷ book)
+  pub impossible : ns ≢ [] → Possible n (new ∷ named 1 book ns) → ⊥
+  pub smallest : (a : List ℕ) (j : ℕ) (b : List ℕ) → ns ≡ a ++ (j ∷ b) → Possible n (new ∷ named 1 book (a ++ b))
+  pub numbers : Numbers 1 (suc (length book)) ns

@@ -1,0 +1,118 @@
+use mathlib.Core.Path.{_≡_, ap, _∙_}
+use mathlib.Core.List.{[], _∷_}
+use Prim.Native.Nat.{_-_}
+use native.Mathlib.Omega.{arith}
+use denote.Ref.{now}
+use lib.ListN.{take, drop}
+use Rattle.orders.specs.Lists.{elem}
+use Rattle.orders.specs.Join.{fresh}
+use Rattle.orders.proofs.Fresh.{fresh-form}
+use Rattle.marks.specs.Marks.{marked}
+use Rattle.marks.proofs.Leaves.{marked-group}
+use Rattle.tokens.proofs.Writes.{read-part}
+use Rattle.parts.specs.Writers.{flat}
+use Rattle.update.proofs.Updates.{wrote-as}
+use Rattle.conflict.proofs.Joined.{Next, next-tree, no-tree, next-published}
+use Rattle.conflict.proofs.Trees.{one-represented, one-joins}
+use Rattle.conflict.proofs.Call.{list-is}
+use borrow.Author.Needs.{needs}
+use Rattle.conflict.proofs.find.Statement.{statement}
+use Rattle.conflict.proofs.find.Tie as tie
+use Rattle.conflict.proofs.find.Reads as reads
+use Rattle.conflict.proofs.find.Lts as lts
+use Rattle.conflict.proofs.leave_out.Reads as leave-out-reads
+use Rattle.marks.proofs.mark_list.Reads as mark-list-reads
+use Rattle.tokens.proofs.fresh.Reads as fresh-reads
+use Rattle.update.proofs.join.Reads as join-reads
+
+slice-aggregate-mark-list : tie.Need-slice-aggregate-mark-list
+slice-aggregate-mark-list c = search needs
+
+mark-list-requires : tie.Need-mark-list-requires
+mark-list-requires c κs = search needs
+
+slice-aggregate-fresh : tie.Need-slice-aggregate-fresh
+slice-aggregate-fresh c = search needs
+
+fresh-requires : tie.Need-fresh-requires
+fresh-requires c κs = search needs
+
+sub-join : tie.Need-sub-join
+sub-join c = search needs
+
+part-join-start : tie.Need-part-join-start
+part-join-start c = search needs
+
+part-join-end : tie.Need-part-join-end
+part-join-end c = search needs
+
+slice-aggregate-join : tie.Need-slice-aggregate-join
+slice-aggregate-join c = search needs
+
+slice-aggregate-join-2 : tie.Need-slice-aggregate-join-2
+slice-aggregate-join-2 c = search needs
+
+-- The fresh tree; the tree of the new group.
+started : (c : tie.After-fresh) → take (c .fresh .result - 0) (drop 0 (c .fresh .last .1 .0)) ≡ flat (fresh (c .before .before .before .before .before .before .before .before .args .n))
+unfolding flat
+started c = read-part (c .fresh .ensures .1)
+
+after : (c : tie.After-known-told) → Next (elem (now (c .before .before .before .before .before .before .before .before .before .before .before .before .before .before .before .before .before .before .args .list))) (fresh (c .before .before .before .before .before .before .before .before .before .before .before .before .before .before .before .before .before .before .args .n)) (c .before .before .before .before .join .last .1 .1 .1 .0) (c .before .got .given .0 .0)
+after c = next-tree (fresh (c .before .before .before .before .before .before .before .before .before .before .before .before .before .before .before .before .before .before .args .n)) (ap marked (c .before .before .before .before .before .before .before .before .before .before .before .before .before .mark-list .ensures) ∙ marked-group (c .before .before .before .before .before .before .before .before .before .before .before .before .before .before .before .before .before .before .args .n) (now (c .before .before .before .before .before .before .before .before .before .before .before .before .before .before .before .before .before .before .args .list)) (c .before .before .before .before .before .before .before .before .before .before .before .before .before .before .before .before .before .before .pre .0) (c .before .before .before .before .before .before .before .before .before .before .before .before .before .before .before .before .before .before .pre .4)) (c .before .got .given .1) (c .before .before .before .before .join .ensures (fresh (c .before .before .before .before .before .before .before .before .before .before .before .before .before .before .before .before .before .before .args .n)) (started (c .before .before .before .before .before .before .before .before .before .before)))
+
+join-requires : tie.Need-join-requires
+join-requires c κs = ((fresh (c .before .before .before .before .before .before .before .before .before .before .before .before .before .args .n), started (c .before .before .before .before .before), fresh-form (c .before .before .before .before .before .before .before .before .before .before .before .before .before .args .n), c .before .before .before .before .before .before .before .before .before .before .before .before .before .pre .0), c .before .before .before .before .before .before .before .before .mark-list .kept .1 .0, omega arith)
+
+enum-known-got : tie.Need-enum-known-got
+enum-known-got c = search needs
+
+enum-told : tie.Need-enum-told
+enum-told c = search needs
+
+returns : tie.Need-returns
+returns c = absurd (one-joins (c .before .before .before .before .before .before .before .before .before .before .before .before .before .before .before .before .before .args .n) (elem (now (c .before .before .before .before .before .before .before .before .before .before .before .before .before .before .before .before .before .args .list))) (no-tree (fresh (c .before .before .before .before .before .before .before .before .before .before .before .before .before .before .before .before .before .args .n)) (ap marked (c .before .before .before .before .before .before .before .before .before .before .before .before .mark-list .ensures) ∙ marked-group (c .before .before .before .before .before .before .before .before .before .before .before .before .before .before .before .before .before .args .n) (now (c .before .before .before .before .before .before .before .before .before .before .before .before .before .before .before .before .before .args .list)) (c .before .before .before .before .before .before .before .before .before .before .before .before .before .before .before .before .before .pre .0) (c .before .before .before .before .before .before .before .before .before .before .before .before .before .before .before .before .before .pre .4)) (c .enum-told .given .1) (c .before .before .before .join .ensures (fresh (c .before .before .before .before .before .before .before .before .before .before .before .before .before .before .before .before .before .args .n)) (started (c .before .before .before .before .before .before .before .before .before)))))
+
+sub-leave-out : tie.Need-sub-leave-out
+sub-leave-out c = search needs
+
+part-leave-out-start : tie.Need-part-leave-out-start
+part-leave-out-start c = search needs
+
+part-leave-out-end : tie.Need-part-leave-out-end
+part-leave-out-end c = omega (arith, (after (c .before)) .room)
+
+returns-2 : tie.Need-returns-2
+returns-2 c =
+    let x = after (c .before .before .before .before .before .before) in
+    wrote-as (list-is (c .before .before .before .before .before .before .before .before .before .before .before .before .before .before .before .before .before .before .before .before .before .before .before .before .args .n) (now (c .before .before .before .before .before .before .before .before .before .before .before .before .before .before .before .before .before .before .before .before .before .before .before .before .args .book)) (c .before .before .before .before .before .before .before .before .before .before .before .before .before .before .before .before .before .before .before .before .before .before .before .before .args .count) (now (c .before .before .before .before .before .before .before .before .before .before .before .before .before .before .before .before .before .before .before .before .before .before .before .before .args .list)))
+    (c .before .before .leave-out .ensures .1 (x .tree) (elem (now (c .before .before .before .before .before .before .before .before .before .before .before .before .before .before .before .before .before .before .before .before .before .before .before .before .args .list))) [] (x .text) (one-represented (c .before .before .before .before .before .before .before .before .before .before .before .before .before .before .before .before .before .before .before .before .before .before .before .before .args .n) (elem (now (c .before .before .before .before .before .before .before .before .before .before .before .before .before .before .before .before .before .before .before .before .before .before .before .before .args .list))) (x .is)))
+
+leave-out-requires : tie.Need-leave-out-requires
+leave-out-requires c κs = (next-published (fresh (c .before .before .before .before .before .before .before .before .before .before .before .before .before .before .before .before .before .before .before .before .before .args .n), started (c .before .before .before .before .before .before .before .before .before .before .before .before .before), fresh-form (c .before .before .before .before .before .before .before .before .before .before .before .before .before .before .before .before .before .before .before .before .before .args .n), c .before .before .before .before .before .before .before .before .before .before .before .before .before .before .before .before .before .before .before .before .before .pre .0) (after (c .before .before .before)), c .before .before .before .before .before .before .before .before .before .before .before .before .before .before .before .before .before .before .before .before .before .pre .1, omega arith, c .before .before .before .before .before .before .before .before .before .before .before .before .before .before .before .before .before .before .before .before .before .pre .2, omega (arith, c .before .before .before .before .before .before .before .before .before .before .before .before .before .before .before .before .before .before .before .before .before .pre .3))
+
+same-length : tie.Need-same-length
+same-length c = search needs
+
+pub find-spec : {M : Type 1} → statement M
+find-spec =
+    tie.close
+    (tie.spec
+    slice-aggregate-mark-list
+    mark-list-requires
+    slice-aggregate-fresh
+    fresh-requires
+    sub-join
+    part-join-start
+    part-join-end
+    slice-aggregate-join
+    slice-aggregate-join-2
+    join-requires
+    enum-known-got
+    enum-told
+    returns
+    sub-leave-out
+    part-leave-out-start
+    part-leave-out-end
+    leave-out-requires
+    same-length
+    returns-2)
