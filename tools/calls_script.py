@@ -14,10 +14,10 @@ HERE = os.path.dirname(os.path.dirname(os.path.abspath(__file__)))
 sys.path.insert(0, sys.argv[1] if len(sys.argv) > 1 else os.path.join(HERE, "..", "shared", "oracle"))
 import oracle  # noqa: E402
 
-CALLS = "OJTS"  # the calls that the program knows
+CALLS = "OJTSC"  # the calls that the program knows
 ROW, ROWS, WORDS, LARGEST = 257, 65792, 384, 2 ** 64 - 1
 SIZES = dict(nodes=65793, book=385, order=257, conflicts=97, bytes=2049)
-PRIME, BASE = 4294967291, 65599
+BASE, MODULUS = 65599, 2 ** 32
 
 
 class Random:
@@ -42,22 +42,24 @@ class Random:
 
 
 class Table:
-    """A local table of the program, with its checksum."""
+    """A local table of the program, with its checksum: a polynomial in BASE, a word of the book as its high and its low half."""
 
-    def __init__(self, size):
+    def __init__(self, size, halves):
         self.cells = [7] * size
-        self.powers = [1] * size
-        for i in range(size - 2, -1, -1):
-            self.powers[i] = self.powers[i + 1] * BASE % PRIME
-        self.sum = 7 * sum(self.powers) % PRIME
+        self.powers = [pow(BASE, halves * i, MODULUS) for i in range(size - 1, -1, -1)]
+        self.halves = halves
+        self.sum = 7 * sum(self.powers) % MODULUS
+
+    def weight(self, x):
+        return x if self.halves == 1 else x // 2 ** 32 * BASE + x % 2 ** 32
 
     def write(self, start, values):
         old = self.cells[start:start + len(values)]
         if old == values:
             return
         for i, (a, b) in enumerate(zip(old, values), start):
-            self.sum += (b - a) * self.powers[i]
-        self.sum %= PRIME
+            self.sum += (self.weight(b) - self.weight(a)) * self.powers[i]
+        self.sum %= MODULUS
         self.cells[start:start + len(values)] = values
 
 
@@ -85,7 +87,7 @@ class Script:
     def __init__(self):
         self.lines, self.out = [], []
         self.seen = collections.Counter()
-        self.tables = {name: Table(size) for name, size in SIZES.items()}
+        self.tables = {name: Table(size, 2 if name == "book" else 1) for name, size in SIZES.items()}
         self.nodes, self.book = self.tables["nodes"], self.tables["book"]
 
     # ---- tables
@@ -248,37 +250,39 @@ SHORT = [dict(have=255), dict(a=ROWS - 1), dict(b=WORDS - 1)]
 E = [[1, 3], [3, 5]]
 
 
+def pairs(*causes):
+    """Whether at most two of the causes are there, or all of them."""
+    return sum(map(bool, causes)) <= 2 or all(causes)
+
+
 def sequence(s):
-    """Every combination of causes, so all pairs of them: the first down the table counts."""
-    for full in (False, True):
+    """Calls with several causes at once: the first down the table counts."""
+    for full, damage in itertools.product((False, True), (None, "nodes", "book", "both")):
         s.ring(5, E + [whole(5)] * (94 if full else 0))
         count = 96 if full else 2
         kept = s.kept()
-        for damage in (None, "nodes", "book", "both"):
-            if damage in ("nodes", "both"):
-                s.node(ROW + 3, 5)
-            if damage in ("book", "both"):
-                s.word(4, kept[1][4] + 32)
-            for n, short, much in itertools.product([5] + BAD_N, [{}] + SHORT, (count, 97)):
-                # a fault of the list alone, or any list under another cause
-                for group in ([2, 4], [1, 5], [], [9], [2, 2]):
-                    s.trial(n, much, group, **short)
-                    answer = s.join(n, much, group, **short)
-                    if answer[0] == 0:
-                        s.restore(kept)
-                    if "have" not in short and "a" not in short and damage != "both":
-                        s.conflict(n, much, group, **short)
-                        if not short:
-                            s.conflict(n, much, group, c=95)
-                for k in (1, 0, much + 1, LARGEST):
-                    s.aim(n, much, k, **short)
-            for n, short in itertools.product([5] + BAD_N, [{}, dict(have=255), dict(a=ROWS - 1)]):
-                if not full and damage != "both":
-                    s.order(n, c=5, **short)
-                    s.order(n, c=4, **short)
-                    s.text(n, c=2048, **short)
-                    s.text(n, c=2047, **short)
-            s.restore(kept)
+        if damage in ("nodes", "both"):
+            s.node(ROW + 3, 5)
+        if damage in ("book", "both"):
+            s.word(4, kept[1][4] + 32)
+        for n, short, much, group in itertools.product([5] + BAD_N, [{}] + SHORT, (count, 97), ([2, 4], [1, 5], [], [9], [2, 2])):
+            if not pairs(n != 5, short, damage or much == 97, group != [2, 4], full):
+                continue
+            s.trial(n, much, group, **short)
+            if s.join(n, much, group, **short)[0] == 0:
+                s.restore(kept)
+            if not short or "b" in short:
+                s.conflict(n, much, group, **short)
+                s.conflict(n, much, group, c=95, **short)
+        for n, short, much, k in itertools.product([5] + BAD_N, [{}] + SHORT, (count, 97), (1, 0, 3, 98, LARGEST)):
+            if pairs(n != 5, short, damage or much == 97, k != 1):
+                s.aim(n, much, k, **short)
+        for n, short in itertools.product([5] + BAD_N, [{}, dict(have=255), dict(a=ROWS - 1)]):
+            if damage in (None, "nodes") and not full:
+                s.order(n, c=5, **short)
+                s.order(n, c=4, **short)
+                s.text(n, c=2048, **short)
+                s.text(n, c=2047, **short)
     for n, short in itertools.product([5] + BAD_N, [{}] + SHORT):
         for t in (b"1 C(P(2 4) 5 3)", b"1 C(P(2 4) 5 3", b"", b"1 C(P(2 4) 3 5)", b"1 C(P(4 2) 5 3)"):
             s.read(n, t, **short)

@@ -29,6 +29,10 @@ pub fn obey(
         standard(numbers, nodes, order);
         return;
     }
+    if letter == b'C' {
+        conflict_list(numbers, book, conflicts);
+        return;
+    }
     if letter == b'N' {
         set_node(numbers, nodes);
         return;
@@ -124,7 +128,28 @@ fn standard(numbers: &[usize], nodes: &[u16], order: &mut [u16]) {
     }
     let got = planner::order(n, &nodes[0..a], have, &mut order[0..c]);
     print::answer(b"S", got);
-    print::tables16(nodes, order);
+    print::nodes_and(nodes, order);
+}
+
+fn conflict_list(numbers: &[usize], book: &[u64], conflicts: &mut [u16]) {
+    if numbers.len() < 4 {
+        return;
+    }
+    let n = numbers[0];
+    let b = numbers[1];
+    let count = numbers[2];
+    let c = numbers[3];
+    if b > book.len() {
+        return;
+    }
+    if c > conflicts.len() {
+        return;
+    }
+    let mut list = [0u16; 512];
+    let k = leaves(&numbers[4..], &mut list);
+    let got = conflict::conflict(n, &book[0..b], count, &list[0..k], &mut conflicts[0..c]);
+    print::answer(b"C", got);
+    print::book_and(book, conflicts);
 }
 
 fn set_node(numbers: &[usize], nodes: &mut [u16]) {

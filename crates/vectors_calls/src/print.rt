@@ -41,8 +41,12 @@ pub fn ring(nodes: &[u16], book: &[u64]) {
     sums(sum16(nodes), sum64(book));
 }
 
-pub fn tables16(first: &[u16], second: &[u16]) {
-    sums(sum16(first), sum16(second));
+pub fn nodes_and(nodes: &[u16], order: &[u16]) {
+    sums(sum16(nodes), sum16(order));
+}
+
+pub fn book_and(book: &[u64], conflicts: &[u16]) {
+    sums(sum64(book), sum16(conflicts));
 }
 
 fn sums(first: u64, second: u64) {
@@ -60,17 +64,27 @@ fn number(x: u64) {
 
 // The checksum of a table with one number more.
 fn mix(sum: u64, x: u64) -> u64
-    requires { ⌜ sum ≤ 4294967290 ⌝ }
-    ensures { λ r. ⌜ r ≤ 4294967290 ⌝ }
+    requires { ⌜ (sum ≤ 4294967295) × (x ≤ 4294967295) ⌝ }
+    ensures { λ r. ⌜ r ≤ 4294967295 ⌝ }
 {
-    (sum * 65599 + x % 4294967291) % 4294967291
+    (sum * 65599 + x) % 4294967296
+}
+
+// With both halves of a word more.
+fn mix_word(sum: u64, x: u64) -> u64
+    requires { ⌜ sum ≤ 4294967295 ⌝ }
+    ensures { λ r. ⌜ r ≤ 4294967295 ⌝ }
+{
+    mix(mix(sum, x / 4294967296), x % 4294967296)
 }
 
 fn wide8(x: u8) -> u64 {
     x as u64
 }
 
-fn wide16(x: u16) -> u64 {
+fn wide16(x: u16) -> u64
+    ensures { λ r. ⌜ r ≤ 65535 ⌝ }
+{
     x as u64
 }
 
@@ -89,7 +103,7 @@ fn sum64(table: &[u64]) -> u64 {
     let mut sum: u64 = 0;
     let mut i = 0;
     while i < table.len() {
-        sum = mix(sum, table[i]);
+        sum = mix_word(sum, table[i]);
         i += 1;
     }
     sum

@@ -6,7 +6,7 @@ use Rattle.vectors_calls.proofs.print.sum16.Statement.{statement}
 use Rattle.vectors_calls.proofs.print.sum16.Tie as tie
 
 abbrev Inv-loop : tie.InvT-loop
-Inv-loop table sum₀ i₀ sum i = (i ≤ length table) × (sum ≤ 4294967290)
+Inv-loop table sum₀ i₀ sum i = (i ≤ length table) × (sum ≤ 4294967295)
 
 abbrev μ-loop : tie.MeasureT-loop
 μ-loop table sum₀ i₀ sum i = length table - i

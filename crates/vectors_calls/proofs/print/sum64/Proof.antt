@@ -6,7 +6,7 @@ use Rattle.vectors_calls.proofs.print.sum64.Statement.{statement}
 use Rattle.vectors_calls.proofs.print.sum64.Tie as tie
 
 abbrev Inv-loop : tie.InvT-loop
-Inv-loop table sum₀ i₀ sum i = (i ≤ length table) × (sum ≤ 4294967290)
+Inv-loop table sum₀ i₀ sum i = (i ≤ length table) × (sum ≤ 4294967295)
 
 abbrev μ-loop : tie.MeasureT-loop
 μ-loop table sum₀ i₀ sum i = length table - i
@@ -14,14 +14,14 @@ abbrev μ-loop : tie.MeasureT-loop
 loop-holds : tie.Need-loop-holds Inv-loop μ-loop
 loop-holds c = omega arith
 
-mul-mix : tie.Need-mul-mix Inv-loop μ-loop
-mul-mix c = omega arith
+mul-mix-word : tie.Need-mul-mix-word Inv-loop μ-loop
+mul-mix-word c = omega arith
 
-shared-slice-read-mix : tie.Need-shared-slice-read-mix Inv-loop μ-loop
-shared-slice-read-mix c = omega arith
+shared-slice-read-mix-word : tie.Need-shared-slice-read-mix-word Inv-loop μ-loop
+shared-slice-read-mix-word c = omega arith
 
-mix-requires : tie.Need-mix-requires Inv-loop μ-loop
-mix-requires c κs = search needs
+mix-word-requires : tie.Need-mix-word-requires Inv-loop μ-loop
+mix-word-requires c κs = search needs
 
 add-i : tie.Need-add-i Inv-loop μ-loop
 add-i c = omega arith
@@ -42,9 +42,9 @@ sum64-spec =
     Inv-loop
     μ-loop
     loop-holds
-    mul-mix
-    shared-slice-read-mix
-    mix-requires
+    mul-mix-word
+    shared-slice-read-mix-word
+    mix-word-requires
     add-i
     loop-less
     loop-again
