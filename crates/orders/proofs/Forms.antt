@@ -19,7 +19,7 @@ pub not-one : (n y : ℕ) → In y (others n) → 1 < y
 not-one zero y i = absurd i
 not-one (suc n) y i = in-range 2 n y i .0
 
-others-distinct : (n : ℕ) → Distinct (others n)
+pub others-distinct : (n : ℕ) → Distinct (others n)
 others-distinct zero = tt
 others-distinct (suc n) = range-distinct 2 n
 

@@ -35,7 +35,7 @@ forest-leaves : (l : List ℕ) → forest (map leaf-item l) ≡ leaf-items l
 forest-leaves [] = refl
 forest-leaves (b ∷ l) = ap (leaf b) (forest-leaves l)
 
-frontier-leaves : (l : List ℕ) → frontier (leaf-items l) ≡ l
+pub frontier-leaves : (l : List ℕ) → frontier (leaf-items l) ≡ l
 frontier-leaves [] = refl
 frontier-leaves (b ∷ l) = ap (λ m. b ∷ m) (frontier-leaves l)
 
@@ -57,7 +57,7 @@ pack-leaves l xs = Iff·trans (gives-pack (leaf-items l) xs) (to, from)
     from p = node-in {j = leaf-items xs} (rw (items-leaves l, items-leaves xs) (perm-map leaf-item p)) (subst (Consistent (leaf-items xs)) (frontier-leaves xs) (frontier-allowed (leaf-items xs)))
 
 -- The fresh ring is in form, for every n.
-leaves-canonical : (l : List ℕ) → Canonical (leaf-items l)
+pub leaves-canonical : (l : List ℕ) → Canonical (leaf-items l)
 leaves-canonical [] = tt
 leaves-canonical (b ∷ l) = leaves-canonical l
 

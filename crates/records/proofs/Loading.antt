@@ -1,11 +1,10 @@
 -- The checks that decide what tree a table holds.
-use mathlib.Core.Path.{_≡_, ap, subst}
+use mathlib.Core.Path.{_≡_, subst}
 use mathlib.Core.Bool.{true, false}
 use mathlib.Core.Option.{none, some}
 use mathlib.Core.List.{List}
-use Prim.Native.Nat.{ℕ, _≤_}
-use native.Mathlib.Omega.{arith}
-use lib.ListN.{length, take, drop, length-append}
+use Prim.Native.Nat.{ℕ}
+use lib.ListN.{take}
 use Rattle.orders.specs.Lists.{same}
 use Rattle.orders.specs.Tree.{Forest}
 use Rattle.orders.specs.Form.{in-form?}
@@ -22,9 +21,6 @@ spells-found n table old new e s = subst (Spells n table old new) e s
 
 pub spells-bad : (n : ℕ) (table old new : List ℕ) {r : Walked} → r ≡ Bad → Spells n table old new r → (t : Forest) → Holds n table t → ⊥
 spells-bad n table old new e s = subst (Spells n table old new) e s
-
-pub wrote-most : {xs old new : List ℕ} {k : ℕ} → Wrote xs old new k → k ≤ length new
-wrote-most {xs} {old} w = omega (arith, w .many, ap length (w .text), length-append xs (drop (length xs) old))
 
 -- What the table holds, by the two checks of what it spells.
 pub not-in-form : (n : ℕ) (table : List ℕ) → in-form? n (spelled-tree n table) ≡ false → tree-in n table ≡ none

@@ -1,7 +1,7 @@
 -- Writing to the start of a slice: nothing, one value, and one text after another.
 use mathlib.Core.Path.{_≡_, refl, sym, ap, _∙_}
 use mathlib.Core.List.{List, [], _∷_, _++_, append-assoc, append-nil}
-use Prim.Native.Nat.{ℕ, suc, _+_, _-_, _<_}
+use Prim.Native.Nat.{ℕ, suc, _+_, _-_, _≤_, _<_}
 use native.Mathlib.Omega.{arith}
 use native.Mathlib.Numerals.{add-one}
 use lib.ListN.{length, take, drop, getD, set, length-append, length-drop, drop-of-length-le}
@@ -71,3 +71,6 @@ pub read-part : {xs old new : List ℕ} {k : ℕ} → Wrote xs old new k → tak
 read-part {xs} {old} {new} {k} w =
     let n : k - 0 ≡ k = omega arith in
     rw n (read-back w)
+
+pub wrote-most : {xs old new : List ℕ} {k : ℕ} → Wrote xs old new k → k ≤ length new
+wrote-most {xs} {old} w = omega (arith, w .many, ap length (w .text), length-append xs (drop (length xs) old))

@@ -8,8 +8,8 @@ use Rattle.calls.specs.NodeTable.{spelled-tree}
 use Rattle.calls.proofs.NodeTables.{tree-in-none}
 use Rattle.tokens.specs.Tokens.{plain, encode, Wrote}
 use Rattle.tokens.proofs.Sequences.{tree-plain}
-use Rattle.tokens.proofs.Writes.{read-part}
-use Rattle.records.proofs.Loading.{spells-found, spells-bad, wrote-most, not-in-form, not-the-table, held-there}
+use Rattle.tokens.proofs.Writes.{read-part, wrote-most}
+use Rattle.records.proofs.Loading.{spells-found, spells-bad, not-in-form, not-the-table, held-there}
 use borrow.Author.Needs.{needs}
 use Rattle.records.proofs.load.Statement.{statement}
 use Rattle.records.proofs.load.Tie as tie

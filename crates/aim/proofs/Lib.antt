@@ -1,0 +1,7 @@
+-- What the proofs of several functions use.
+pub mod Circle
+pub mod Laws
+pub mod Sizes
+pub mod Calls
+pub mod Runs
+pub mod Aims

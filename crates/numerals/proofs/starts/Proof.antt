@@ -1,0 +1,18 @@
+use mathlib.Core.Path.{refl}
+use borrow.Author.Tests.{eq-eqb, ne-eqb}
+use Rattle.numerals.proofs.starts.Statement.{statement}
+use Rattle.numerals.proofs.starts.Tie as tie
+use Rattle.numerals.proofs.starts.Reads as reads
+use Rattle.numerals.proofs.starts.Lts as lts
+
+returns : tie.Need-returns
+returns c = simp (eq-eqb _ _ (c .if1 .taken))
+
+returns-2 : tie.Need-returns-2
+returns-2 c = simp (ne-eqb _ _ (c .before .if1 .left), eq-eqb _ _ (c .if2 .taken))
+
+returns-3 : tie.Need-returns-3
+returns-3 c = simp (ne-eqb _ _ (c .before .if1 .left), ne-eqb _ _ (c .if2 .left))
+
+pub starts-spec : {M : Type 1} → statement M
+starts-spec = tie.close (tie.spec returns returns-2 returns-3)

@@ -1,0 +1,97 @@
+// The P and C rules of a tree text, on its tokens: the least byte at which one is broken.
+ghost use mathlib.Core.Path.{_≡_};
+ghost use mathlib.Core.Bool.{_&&_};
+ghost use Prim.Native.Nat.{_+_, _*_, _≤_, _<_};
+ghost use lib.Dec.{ltb};
+ghost use lib.ListN.{length};
+ghost use Rattle.orders.specs.Tree.{Kind};
+ghost use Rattle.orders.specs.TreeText.{digits, text};
+ghost use Rattle.tokens.specs.Tokens.{Judged, tree, encode, Tokens};
+ghost use Rattle.tokens.specs.Views.{first-of};
+ghost use Rattle.scanner.specs.Rule.{is-p, broken-at};
+
+// How many digits b has.
+fn digit_count(b: u16) -> usize
+    ensures { λ r. ⌜ (r ≤ 5) × (r ≡ length (digits b)) ⌝ }
+{
+    if b < 10 {
+        return 1;
+    }
+    if b < 100 {
+        return 2;
+    }
+    if b < 1000 {
+        return 3;
+    }
+    if b < 10000 {
+        return 4;
+    }
+    5
+}
+
+// How many bytes the text of the items has.
+fn text_length(toks: &[u16]) -> usize
+    requires { ⌜ (Tokens (now toks)) × (length (now toks) ≤ 512) ⌝ }
+    ensures { λ r. ⌜ (r ≤ 6 * length (now (toks .entry)))
+        × ((j : Judged) → now (toks .entry) ≡ encode j → r ≡ length (text (tree j))) ⌝ }
+{
+    if toks.len() == 0 {
+        return 0;
+    }
+    let after = tokens::rest(toks);
+    let k = item_length(toks);
+    if after.len() == 0 {
+        return k;
+    }
+    k + (1 + text_length(after))
+}
+
+// How many bytes the text of the first item has.
+fn item_length(toks: &[u16]) -> usize
+    requires { ⌜ (Tokens (now toks)) × (0 < length (now toks)) × (length (now toks) ≤ 512) ⌝ }
+    ensures { λ r. ⌜ ((j : Judged) → now (toks .entry) ≡ encode j → (r < 6 * length (encode (first-of j))) × (r ≡ length (text (tree (first-of j))))) ⌝ }
+{
+    if tokens::shape(toks) == 1 {
+        return digit_count(tokens::leaf(toks));
+    }
+    3 + text_length(tokens::items(toks))
+}
+
+// Whether the rule asks that b is not below m, and it is.
+fn falls(rule: bool, b: u16, m: u16) -> bool
+    ensures { λ r. ⌜ r ≡ rule && ltb b m ⌝ }
+{
+    if rule {
+        return b < m;
+    }
+    false
+}
+
+// The least byte at which the items break a rule, 0 where they break none. Their text starts at byte o; they stand in a P-node if `rising`, after an
+// item whose first leaf is m.
+pub fn broken(toks: &[u16], rising: bool, m: u16, o: usize) -> usize
+    requires { ⌜ (Tokens (now toks)) × (length (now toks) ≤ 512) × (o + 6 * length (now toks) ≤ 10000) ⌝ }
+    ensures { λ r. ⌜ ((j : Judged) (k : Kind) → now (toks .entry) ≡ encode j → rising ≡ is-p k → r ≡ broken-at k m o (tree j)) ⌝ }
+{
+    if toks.len() == 0 {
+        return 0;
+    }
+    let b = tokens::first_leaf(toks);
+    if falls(rising, b, m) {
+        return o;
+    }
+    let after = tokens::rest(toks);
+    let s = tokens::shape(toks);
+    if s == 1 {
+        return broken(after, rising, b, o + digit_count(b) + 1);
+    }
+    let inner = tokens::items(toks);
+    if falls(s == 3, tokens::last_leaf(inner), b) {
+        return o + 2;
+    }
+    let p = broken(inner, s == 2, 0, o + 2);
+    if p != 0 {
+        return p;
+    }
+    broken(after, rising, b, o + text_length(inner) + 4)
+}

@@ -1,0 +1,3 @@
+pub mod Scan
+pub mod Rule
+pub mod Unused
