@@ -13,8 +13,9 @@ import sys
 HERE = os.path.dirname(os.path.dirname(os.path.abspath(__file__)))
 sys.path.insert(0, sys.argv[1] if len(sys.argv) > 1 else os.path.join(HERE, "..", "shared", "oracle"))
 import oracle  # noqa: E402
+import rooted  # noqa: E402
 
-CALLS = "OJTSC"  # the calls that the program knows
+CALLS = "OJTSACW"  # the calls that the program knows
 ROW, ROWS, WORDS, LARGEST = 257, 65792, 384, 2 ** 64 - 1
 SIZES = dict(nodes=65793, book=385, order=257, conflicts=97, bytes=2049)
 BASE, MODULUS = 65599, 2 ** 32
@@ -112,6 +113,13 @@ class Script:
         for i, w in enumerate(oracle.words_of_mask(oracle.list_mask(group))):
             if self.book.cells[4 * k + i] != w:
                 self.word(4 * k + i, w)
+
+    def tree(self, n, text):
+        """The node table holds the tree of this text."""
+        for r, record in enumerate(oracle.table_of(n, rooted.from_text(n, text))):
+            for i, v in enumerate(row_of(record), ROW * r):
+                if self.nodes.cells[i] != v:
+                    self.node(i, v)
 
     def kept(self):
         return list(self.nodes.cells), list(self.book.cells)
@@ -275,8 +283,13 @@ def sequence(s):
                 s.conflict(n, much, group, **short)
                 s.conflict(n, much, group, c=95, **short)
         for n, short, much, k in itertools.product([5] + BAD_N, [{}] + SHORT, (count, 97), (1, 0, 3, 98, LARGEST)):
-            if pairs(n != 5, short, damage or much == 97, k != 1):
+            if not full and pairs(n != 5, short, damage or much == 97, k != 1):
                 s.aim(n, much, k, **short)
+        if not full:
+            s.words(0, [2, 5])  # not consecutive in the standard order, 1 2 4 5 3
+            for n, short, much in itertools.product([5] + BAD_N, [{}] + SHORT, (count, 97)):
+                s.aim(n, much, 1, **short)
+            s.words(0, E[0])
         for n, short in itertools.product([5] + BAD_N, [{}, dict(have=255), dict(a=ROWS - 1)]):
             if damage in (None, "nodes") and not full:
                 s.order(n, c=5, **short)
@@ -428,6 +441,40 @@ def other_books(s, r):
         s.trial(n, count - 1, whole(n))
 
 
+# ---- large trees
+
+def large(s):
+    # nested groups: 96 nodes in each other; neighbours: one long C-node
+    for n, groups in ((256, [list(range(256 - k, 257)) for k in range(1, 97)]), (97, [[k, k + 1] for k in range(1, 97)])):
+        s.ring(n, groups[:95])
+        for g in ([1, n], [1, n // 2], [2, n], [n - 1, n], whole(n)[:50], groups[95]):
+            s.trial(n, 95, g)
+            s.conflict(n, 95, g)
+        s.join(n, 95, groups[95])
+        s.order(n)
+        s.text(n)
+        for k in range(1, 97, 5):
+            s.aim(n, 96, k)
+    # as many nodes as there can be, 254
+    n = 256
+    s.open(n)
+    s.tree(n, "1 " + "".join("%s(%d " % ("PC"[k % 2], k) for k in range(2, n)) + str(n) + ")" * (n - 2))
+    kept = s.kept()
+    for g in ([255, 256], [2, 3], [1, 2], [1, 256], [1, 100, 256], list(range(100, 257))):
+        s.trial(n, 0, g)
+    s.order(n)
+    s.text(n)
+    for i in (0, 1, 2, 3, 4, 5, 256, 257):
+        for r in (252, 253, 254, 255):
+            s.node(ROW * r + i % ROW, s.nodes.cells[ROW * r + i % ROW] + 1)
+            s.order(n)
+            s.restore(kept)
+    s.join(n, 0, [2, 4])
+    s.join(n, 1, [1, 256])
+    s.order(n)
+    s.text(n)
+
+
 # ---- random rings
 
 def random_groups(r, n, many):
@@ -463,7 +510,7 @@ def random_rings(s, r):
                 s.order(n, c=n + r.below(258 - n))
         s.order(n)
         s.text(n)
-        for k in range(1, count + 1):
+        for k in range(1, count + 1, 1 + n % 3):
             s.aim(n, count, k)
         if "R" in CALLS and n <= 64:
             read_back(s, r, n)
@@ -493,7 +540,7 @@ def read_back(s, r, n):
 def main():
     s = Script()
     r = Random(20260101)
-    for part in (circles, sequence, sizes, lists, full_book, damage):
+    for part in (circles, sequence, sizes, lists, full_book, damage, large):
         part(s)
     for part in (random_damage, other_books, random_rings):
         part(s, r)

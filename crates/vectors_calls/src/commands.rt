@@ -29,6 +29,14 @@ pub fn obey(
         standard(numbers, nodes, order);
         return;
     }
+    if letter == b'A' {
+        aim_of(numbers, nodes, book);
+        return;
+    }
+    if letter == b'W' {
+        tree_text(numbers, nodes, bytes);
+        return;
+    }
     if letter == b'C' {
         conflict_list(numbers, book, conflicts);
         return;
@@ -129,6 +137,46 @@ fn standard(numbers: &[usize], nodes: &[u16], order: &mut [u16]) {
     let got = planner::order(n, &nodes[0..a], have, &mut order[0..c]);
     print::answer(b"S", got);
     print::nodes_and(nodes, order);
+}
+
+fn aim_of(numbers: &[usize], nodes: &[u16], book: &[u64]) {
+    if numbers.len() < 6 {
+        return;
+    }
+    let n = numbers[0];
+    let have = numbers[1];
+    let a = numbers[2];
+    let b = numbers[3];
+    let count = numbers[4];
+    let k = numbers[5];
+    if a > nodes.len() {
+        return;
+    }
+    if b > book.len() {
+        return;
+    }
+    let got = aim::aim(n, &nodes[0..a], have, &book[0..b], count, k);
+    print::answer(b"A", got);
+    print::ring(nodes, book);
+}
+
+fn tree_text(numbers: &[usize], nodes: &[u16], bytes: &mut [u8]) {
+    if numbers.len() < 4 {
+        return;
+    }
+    let n = numbers[0];
+    let have = numbers[1];
+    let a = numbers[2];
+    let c = numbers[3];
+    if a > nodes.len() {
+        return;
+    }
+    if c > bytes.len() {
+        return;
+    }
+    let got = text::write(n, &nodes[0..a], have, &mut bytes[0..c]);
+    print::answer(b"W", got);
+    print::nodes_and_text(nodes, bytes);
 }
 
 fn conflict_list(numbers: &[usize], book: &[u64], conflicts: &mut [u16]) {

@@ -45,6 +45,10 @@ pub fn nodes_and(nodes: &[u16], order: &[u16]) {
     sums(sum16(nodes), sum16(order));
 }
 
+pub fn nodes_and_text(nodes: &[u16], bytes: &[u8]) {
+    sums(sum16(nodes), sum8(bytes));
+}
+
 pub fn book_and(book: &[u64], conflicts: &[u16]) {
     sums(sum64(book), sum16(conflicts));
 }
@@ -78,7 +82,9 @@ fn mix_word(sum: u64, x: u64) -> u64
     mix(mix(sum, x / 4294967296), x % 4294967296)
 }
 
-fn wide8(x: u8) -> u64 {
+fn wide8(x: u8) -> u64
+    ensures { λ r. ⌜ r ≤ 255 ⌝ }
+{
     x as u64
 }
 
@@ -104,6 +110,16 @@ fn sum64(table: &[u64]) -> u64 {
     let mut i = 0;
     while i < table.len() {
         sum = mix_word(sum, table[i]);
+        i += 1;
+    }
+    sum
+}
+
+fn sum8(table: &[u8]) -> u64 {
+    let mut sum: u64 = 0;
+    let mut i = 0;
+    while i < table.len() {
+        sum = mix(sum, wide8(table[i]));
         i += 1;
     }
     sum
