@@ -11,11 +11,11 @@ import os
 import sys
 
 HERE = os.path.dirname(os.path.dirname(os.path.abspath(__file__)))
-sys.path.insert(0, sys.argv[1] if len(sys.argv) > 1 else os.path.join(HERE, "..", "shared", "oracle"))
+ORACLE = sys.argv[1] if len(sys.argv) > 1 else os.path.join(HERE, "..", "shared", "oracle")
+sys.path.insert(0, ORACLE)
 import oracle  # noqa: E402
 import rooted  # noqa: E402
 
-CALLS = "OJTSACW"  # the calls that the program knows
 ROW, ROWS, WORDS, LARGEST = 257, 65792, 384, 2 ** 64 - 1
 SIZES = dict(nodes=65793, book=385, order=257, conflicts=97, bytes=2049)
 BASE, MODULUS = 65599, 2 ** 32
@@ -179,37 +179,29 @@ class Script:
         return self.command("S", [n, have, a, c], answer, n, ("nodes", "order"))
 
     def aim(self, n, count, k, have=256, a=ROWS, b=WORDS):
-        if "A" not in CALLS:
-            return
         answer = oracle.aim(n, self.lent(have, a), self.book.cells[:b], count, k)
-        self.command("A", [n, have, a, b, count, k], answer, None, ("nodes", "book"))
+        return self.command("A", [n, have, a, b, count, k], answer, None, ("nodes", "book"))
 
     def conflict(self, n, count, group, b=WORDS, c=96):
-        if "C" not in CALLS:
-            return
         conflicts = self.tables["conflicts"].cells[:c]
         answer = oracle.conflict(n, self.book.cells[:b], count, group, conflicts)
         self.tables["conflicts"].write(0, conflicts)
-        self.command("C", [n, b, count, c] + group, answer, None, ("book", "conflicts"))
+        return self.command("C", [n, b, count, c] + group, answer, None, ("book", "conflicts"))
 
     def text(self, n, c=2048, have=256, a=ROWS):
-        if "W" not in CALLS:
-            return
         data = self.tables["bytes"].cells[:c]
         answer = oracle.write_text(n, self.lent(have, a), data)
         self.tables["bytes"].write(0, data)
-        self.command("W", [n, have, a, c], answer, None, ("nodes", "bytes"))
+        return self.command("W", [n, have, a, c], answer, None, ("nodes", "bytes"))
 
     def read(self, n, text, have=256, a=ROWS, b=WORDS):
-        if "R" not in CALLS:
-            return
         nodes, book = self.lent(have, a), self.book.cells[:b]
         before = list(nodes)
         answer = oracle.read_text(n, bytes(text), nodes, book)
         if not answer[0]:
             before = [None] * 256
         self.store(answer, nodes, before, b, book)
-        self.command("R", [n, have, a, b] + list(text), answer, 0, ("nodes", "book"))
+        return self.command("R", [n, have, a, b] + list(text), answer, 0, ("nodes", "book"))
 
     def ring(self, n, groups, **lent):
         """Opens, and joins groups that can be kept."""
@@ -266,9 +258,11 @@ def pairs(*causes):
 def sequence(s):
     """Calls with several causes at once: the first down the table counts."""
     for full, damage in itertools.product((False, True), (None, "nodes", "book", "both")):
-        s.ring(5, E + [whole(5)] * (94 if full else 0))
+        if damage is None:
+            s.ring(5, E + [whole(5)] * (94 if full else 0))
+            kept = s.kept()
         count = 96 if full else 2
-        kept = s.kept()
+        s.restore(kept)
         if damage in ("nodes", "both"):
             s.node(ROW + 3, 5)
         if damage in ("book", "both"):
@@ -349,12 +343,17 @@ def lists(s):
 
 def full_book(s):
     for n, first in ((5, E), (256, [])):
-        s.ring(n, first + [whole(n)] * (96 - len(first)))
+        s.ring(n, first)
+        for k in range(len(first), 94):
+            s.words(k, whole(n))
+        for count in (94, 95):
+            assert s.join(n, count, whole(n)) == (0, count + 1)
         for g in (whole(n), [1, 5], [1], [], [n + 1], [3, 3]):
             for count in (96, 97, 95, LARGEST):
-                s.trial(n, count, g)
-                s.join(n, count, g)
-                s.conflict(n, count, g)
+                if len(g) < 256 or count == 96:
+                    s.trial(n, count, g)
+                    s.join(n, count, g)
+                    s.conflict(n, count, g)
         for k in (1, 2, 3, 95, 96, 97):
             s.aim(n, 96, k)
     # 97 groups, one entry past the words
@@ -441,6 +440,22 @@ def other_books(s, r):
         s.trial(n, count - 1, whole(n))
 
 
+# ---- texts
+
+def texts(s):
+    """The texts of the oracle's vectors: the short ones, and some of the long ones."""
+    with open(os.path.join(ORACLE, "vectors", "texts.txt")) as f:
+        rows = [line.rstrip("\n").split("\t") for line in f if not line.startswith("#")]
+    for i, (n, text, expected, *_) in enumerate(rows):
+        if len(text) > 200 and i % 12:
+            continue
+        answer = s.read(int(n), bytes.fromhex(text))
+        assert answer == ((0,) if expected == "ok" else tuple(map(int, expected.split())))
+        if answer[0] == 0:
+            s.order(int(n))
+            s.text(int(n))
+
+
 # ---- large trees
 
 def large(s):
@@ -512,7 +527,7 @@ def random_rings(s, r):
         s.text(n)
         for k in range(1, count + 1, 1 + n % 3):
             s.aim(n, count, k)
-        if "R" in CALLS and n <= 64:
+        if n <= 64 and r.below(2):
             read_back(s, r, n)
 
 
@@ -520,7 +535,7 @@ def read_back(s, r, n):
     """The tree's text read into a fresh ring, whole and damaged."""
     text = s.tree_text(n)
     s.open(n)
-    for _ in range(3):
+    for _ in range(2):
         t = list(text)
         i = r.below(len(t))
         kind = r.below(4)
@@ -540,7 +555,7 @@ def read_back(s, r, n):
 def main():
     s = Script()
     r = Random(20260101)
-    for part in (circles, sequence, sizes, lists, full_book, damage, large):
+    for part in (circles, sequence, sizes, lists, full_book, damage, texts, large):
         part(s)
     for part in (random_damage, other_books, random_rings):
         part(s, r)

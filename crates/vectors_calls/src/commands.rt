@@ -37,6 +37,10 @@ pub fn obey(
         tree_text(numbers, nodes, bytes);
         return;
     }
+    if letter == b'R' {
+        read(numbers, nodes, book);
+        return;
+    }
     if letter == b'C' {
         conflict_list(numbers, book, conflicts);
         return;
@@ -179,6 +183,27 @@ fn tree_text(numbers: &[usize], nodes: &[u16], bytes: &mut [u8]) {
     print::nodes_and_text(nodes, bytes);
 }
 
+fn read(numbers: &[usize], nodes: &mut [u16], book: &mut [u64]) {
+    if numbers.len() < 4 {
+        return;
+    }
+    let n = numbers[0];
+    let have = numbers[1];
+    let a = numbers[2];
+    let b = numbers[3];
+    if a > nodes.len() {
+        return;
+    }
+    if b > book.len() {
+        return;
+    }
+    let mut bytes = [0u8; 2304];
+    let k = text_of(&numbers[4..], &mut bytes);
+    let got = text::read(n, &mut nodes[0..a], have, &mut book[0..b], &bytes[0..k]);
+    print::answer(b"R", got);
+    print::ring(nodes, book);
+}
+
 fn conflict_list(numbers: &[usize], book: &[u64], conflicts: &mut [u16]) {
     if numbers.len() < 4 {
         return;
@@ -240,6 +265,29 @@ fn leaves(numbers: &[usize], list: &mut [u16]) -> usize
             return i;
         }
         set_leaf(list, i, numbers[i]);
+        i += 1;
+    }
+    i
+}
+
+// The text's byte i, where there is room.
+fn set_byte(text: &mut [u8], i: usize, byte: usize) {
+    if i >= text.len() {
+        return;
+    }
+    text[i] = (byte % 256) as u8;
+}
+
+// Writes the numbers to a text, as many as there is room for, and answers how many.
+fn text_of(numbers: &[usize], text: &mut [u8]) -> usize
+    ensures { λ r. ⌜ r ≤ length (now (text .entry)) ⌝ }
+{
+    let mut i = 0;
+    while i < numbers.len() {
+        if i >= text.len() {
+            return i;
+        }
+        set_byte(text, i, numbers[i]);
         i += 1;
     }
     i

@@ -5,6 +5,7 @@
 //   S n have a c               the standard order, into the first c places of the order
 //   A n have a b count k       the aim of the book's group k
 //   W n have a c               the tree text, into the first c bytes
+//   R n have a b bytes         read the tree text of these bytes
 //   C n b count c list         the conflict list of a group, into the first c places of the conflicts
 //   N i v, B i v               the node table's number i, or the book's word i, is v
 use crate::commands;

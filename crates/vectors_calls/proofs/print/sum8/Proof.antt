@@ -14,9 +14,6 @@ abbrev μ-loop : tie.MeasureT-loop
 loop-holds : tie.Need-loop-holds Inv-loop μ-loop
 loop-holds c = omega arith
 
-mul-wide8 : tie.Need-mul-wide8 Inv-loop μ-loop
-mul-wide8 c = omega arith
-
 shared-slice-read-wide8 : tie.Need-shared-slice-read-wide8 Inv-loop μ-loop
 shared-slice-read-wide8 c = omega arith
 
@@ -45,7 +42,6 @@ sum8-spec =
     Inv-loop
     μ-loop
     loop-holds
-    mul-wide8
     shared-slice-read-wide8
     wide8-requires
     mix-requires
