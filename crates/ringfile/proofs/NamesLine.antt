@@ -44,20 +44,14 @@ module _ (ns : List (List ℕ)) (t : List ℕ) (k : All Name ns) (d : Distinct n
   limit-0 h =
       ap (λ c. cond c 63 (cond (eqb (length t) 8) 1 0)) (ne-eqb (length t) 7 (omega arith)) ∙ ap (λ c. cond c 1 0) (ne-eqb (length t) 8 (omega arith))
 
-  pub room-7 : length t ≡ 7 → n < 63 → true ≡ room ns t
-  room-7 h l = sym (room-count (omega arith) 63 (limit-7 h) ∙ lt-ltb n 63 l)
+  pub room-7 : length t ≡ 7 → ltb n 63 ≡ room ns t
+  room-7 h = sym (room-count (omega arith) 63 (limit-7 h))
 
-  pub full-7 : length t ≡ 7 → 63 ≤ n → false ≡ room ns t
-  full-7 h l = sym (room-count (omega arith) 63 (limit-7 h) ∙ le-ltb n 63 l)
+  pub room-8 : length t ≡ 8 → ltb n 1 ≡ room ns t
+  room-8 h = sym (room-count (omega arith) 1 (limit-8 h))
 
-  pub room-8 : length t ≡ 8 → n < 1 → true ≡ room ns t
-  room-8 h l = sym (room-count (omega arith) 1 (limit-8 h) ∙ lt-ltb n 1 l)
-
-  pub full-8 : length t ≡ 8 → 1 ≤ n → false ≡ room ns t
-  full-8 h l = sym (room-count (omega arith) 1 (limit-8 h) ∙ le-ltb n 1 l)
-
-  pub full-9 : 9 ≤ length t → false ≡ room ns t
-  full-9 h = sym (room-count (omega arith) 0 (limit-0 h) ∙ le-ltb n 0 (omega arith))
+  pub room-9 : 9 ≤ length t → false ≡ room ns t
+  room-9 h = sym (room-count (omega arith) 0 (limit-0 h) ∙ le-ltb n 0 (omega arith))
 
 pub new-empty : (ns : List (List ℕ)) (w : List ℕ) → length w ≡ 0 → false ≡ is-new ns w
 new-empty ns [] h = refl

@@ -35,25 +35,12 @@ struct Cursor {
 fn letter(b: u8) -> bool
     ensures { λ r. ⌜ r ≡ elem alphabet b ⌝ }
 {
-    if b < 48 {
-        return false;
+    match b {
+        48..=57 => true,
+        65..=90 => true,
+        97..=122 => true,
+        _ => false,
     }
-    if b < 58 {
-        return true;
-    }
-    if b < 65 {
-        return false;
-    }
-    if b < 91 {
-        return true;
-    }
-    if b < 97 {
-        return false;
-    }
-    if b < 123 {
-        return true;
-    }
-    false
 }
 
 // Whether a and b hold the same bytes.
@@ -138,16 +125,10 @@ fn has_room(x: &[u8], t: &[u8]) -> bool
     }
     let taken = begin_with(x, t);
     if m == 7 {
-        if taken < 63 {
-            return true;
-        }
-        return false;
+        return taken < 63;
     }
     if m == 8 {
-        if taken < 1 {
-            return true;
-        }
-        return false;
+        return taken < 1;
     }
     false
 }
@@ -159,10 +140,7 @@ fn is_new(x: &[u8], w: &[u8]) -> bool
     if w.len() == 0 {
         return false;
     }
-    if is_among(x, w) {
-        return false;
-    }
-    true
+    !is_among(x, w)
 }
 
 // The cursor in this phase, before any value; phase 3 with zeros is that of a refusal.
@@ -223,16 +201,12 @@ fn on_value(b: u8, at: usize, c: Cursor) -> Cursor
 {
     let mut next = c;
     next.phase = 2;
-    if b == 48 {
-        return next;
+    match b {
+        48 => next,
+        49 => next,
+        45 => next,
+        _ => at_phase(3, 0, 0),
     }
-    if b == 49 {
-        return next;
-    }
-    if b == 45 {
-        return next;
-    }
-    at_phase(3, 0, 0)
 }
 
 // The cursor after the byte b, number `at`, where a value was read.
@@ -244,27 +218,20 @@ fn on_got(b: u8, at: usize, c: Cursor) -> Cursor
 {
     let more = c.got + 1;
     let names = c.names;
+    let mut next = c;
+    next.phase = 1;
     if b == 32 {
         if more < names {
-            return Cursor {
-                phase: 1,
-                names: names,
-                start: c.start,
-                got: more,
-                lines: c.lines,
-            };
+            next.got = more;
+            return next;
         }
         return at_phase(3, 0, 0);
     }
     if b == 10 {
         if more == names {
-            return Cursor {
-                phase: 1,
-                names: names,
-                start: c.start,
-                got: 0,
-                lines: c.lines + 1,
-            };
+            next.got = 0;
+            next.lines = c.lines + 1;
+            return next;
         }
         return at_phase(3, 0, 0);
     }

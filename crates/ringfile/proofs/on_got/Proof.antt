@@ -23,8 +23,8 @@ at-phase-requires c κs = search needs
 returns-2 : tie.Need-returns-2
 returns-2 c = (omega (arith, c .at-phase .ensures), λ ns vss vs v q. space-off (c .at-phase .result) ns vss vs (c .before .before .before .before .args .b) v (c .before .before .if1 .taken) (omega (arith, q .1, q .3)) (c .at-phase .ensures .0))
 
-add-t9 : tie.Need-add-t9
-add-t9 c = search needs
+add-next : tie.Need-add-next
+add-next c = search needs
 
 returns-3 : tie.Need-returns-3
 returns-3 c = (omega arith, λ ns vss vs v q. end-on (record { phase = 1; names = c .before .before .before .before .before .args .c .names; start = c .before .before .before .before .before .args .c .start; got = 0; lines = c .before .before .before .before .before .args .c .lines + 1 }) ns vss vs (c .before .before .before .before .before .args .b) v (c .before .before .if3 .taken) (omega (arith, q .1, q .3)) (refl, q .1, q .2, refl, omega (arith, q .4, length-append vss ((vs ++ (v ∷ [])) ∷ []))))
@@ -49,7 +49,7 @@ on-got-spec =
     returns
     at-phase-requires
     returns-2
-    add-t9
+    add-next
     returns-3
     at-phase-requires-2
     returns-4
