@@ -8,6 +8,8 @@
 //   R n have a b bytes         read the tree text of these bytes
 //   C n b count c list         the conflict list of a group, into the first c places of the conflicts
 //   N i v, B i v               the node table's number i, or the book's word i, is v
+ghost use Prim.Native.Nat.{_≤_};
+ghost use lib.ListN.{length};
 use crate::commands;
 
 // What is read of a line: its letter, how many numbers, and the value of the one at hand, if any digit of it was read.
@@ -43,12 +45,14 @@ fn longer(value: usize, digit: u8) -> usize {
 }
 
 // Keeps the number at hand, where there is one and room for it, and answers how many there are.
-fn keep(line: Line, numbers: &mut [usize]) -> usize {
+fn keep(line: Line, numbers: &mut [usize]) -> usize
+    ensures { λ r. ⌜ r ≤ length (now (numbers .entry)) ⌝ }
+{
     let at = line.many;
-    if !line.begun {
-        return at;
-    }
     if at >= numbers.len() {
+        return numbers.len();
+    }
+    if !line.begun {
         return at;
     }
     numbers[at] = line.value;
@@ -77,7 +81,15 @@ fn step(
     }
     let many = keep(line, numbers);
     if b == b'\n' {
-        obey(letter, many, numbers, nodes, book, order, conflicts, bytes);
+        commands::obey(
+            letter,
+            &numbers[0..many],
+            nodes,
+            book,
+            order,
+            conflicts,
+            bytes,
+        );
         return new_line();
     }
     if b == b' ' {
@@ -94,31 +106,6 @@ fn step(
         value: 0,
         begun: false,
     }
-}
-
-// Obeys a command with the first `many` numbers.
-fn obey(
-    letter: u8,
-    many: usize,
-    numbers: &[usize],
-    nodes: &mut [u16],
-    book: &mut [u64],
-    order: &mut [u16],
-    conflicts: &mut [u16],
-    bytes: &mut [u8],
-) {
-    if many > numbers.len() {
-        return;
-    }
-    commands::obey(
-        letter,
-        &numbers[0..many],
-        nodes,
-        book,
-        order,
-        conflicts,
-        bytes,
-    );
 }
 
 // Goes on with a part of the script, in which `line` is begun, and answers what is read of its last line.

@@ -7,13 +7,16 @@ use Rattle.vectors_calls.proofs.commands.leaves.Statement.{statement}
 use Rattle.vectors_calls.proofs.commands.leaves.Tie as tie
 
 abbrev Inv-loop : tie.InvT-loop
-Inv-loop numbers list₀ i₀ list i = (i ≤ length list) × (i ≤ length numbers) × (length list ≡ length list₀)
+Inv-loop numbers from list₀ i₀ list i = (i ≤ length list) × (i ≤ length numbers) × (length list ≡ length list₀)
 
 abbrev μ-loop : tie.MeasureT-loop
-μ-loop numbers list₀ i₀ list i = length numbers - i
+μ-loop numbers from list₀ i₀ list i = length numbers - i
 
 loop-holds : tie.Need-loop-holds Inv-loop μ-loop
 loop-holds c = omega arith
+
+add-if1 : tie.Need-add-if1 Inv-loop μ-loop
+add-if1 c = omega arith
 
 same-length : tie.Need-same-length Inv-loop μ-loop
 same-length c = search needs
@@ -21,14 +24,14 @@ same-length c = search needs
 returns : tie.Need-returns Inv-loop μ-loop
 returns c = search needs
 
-mul-set-leaf : tie.Need-mul-set-leaf Inv-loop μ-loop
-mul-set-leaf c = omega arith
+add-at : tie.Need-add-at Inv-loop μ-loop
+add-at c = omega arith
 
-shared-slice-read-set-leaf : tie.Need-shared-slice-read-set-leaf Inv-loop μ-loop
-shared-slice-read-set-leaf c = omega arith
+at-requires : tie.Need-at-requires Inv-loop μ-loop
+at-requires c κs = search needs
 
-set-leaf-requires : tie.Need-set-leaf-requires Inv-loop μ-loop
-set-leaf-requires c κs = search needs
+set-number-requires : tie.Need-set-number-requires Inv-loop μ-loop
+set-number-requires c κs = search needs
 
 add-i : tie.Need-add-i Inv-loop μ-loop
 add-i c = omega arith
@@ -52,11 +55,12 @@ leaves-spec =
     Inv-loop
     μ-loop
     loop-holds
+    add-if1
     same-length
     returns
-    mul-set-leaf
-    shared-slice-read-set-leaf
-    set-leaf-requires
+    add-at
+    at-requires
+    set-number-requires
     add-i
     loop-less
     loop-again

@@ -7,13 +7,16 @@ use Rattle.vectors_calls.proofs.commands.text_of.Statement.{statement}
 use Rattle.vectors_calls.proofs.commands.text_of.Tie as tie
 
 abbrev Inv-loop : tie.InvT-loop
-Inv-loop numbers text₀ i₀ text i = (i ≤ length text) × (i ≤ length numbers) × (length text ≡ length text₀)
+Inv-loop numbers from text₀ i₀ text i = (i ≤ length text) × (length text ≡ length text₀)
 
 abbrev μ-loop : tie.MeasureT-loop
-μ-loop numbers text₀ i₀ text i = length numbers - i
+μ-loop numbers from text₀ i₀ text i = length text - i
 
 loop-holds : tie.Need-loop-holds Inv-loop μ-loop
 loop-holds c = omega arith
+
+add-if1 : tie.Need-add-if1 Inv-loop μ-loop
+add-if1 c = omega arith
 
 same-length : tie.Need-same-length Inv-loop μ-loop
 same-length c = search needs
@@ -21,11 +24,11 @@ same-length c = search needs
 returns : tie.Need-returns Inv-loop μ-loop
 returns c = search needs
 
-mul-set-byte : tie.Need-mul-set-byte Inv-loop μ-loop
-mul-set-byte c = omega arith
+add-at : tie.Need-add-at Inv-loop μ-loop
+add-at c = omega arith
 
-shared-slice-read-set-byte : tie.Need-shared-slice-read-set-byte Inv-loop μ-loop
-shared-slice-read-set-byte c = omega arith
+at-requires : tie.Need-at-requires Inv-loop μ-loop
+at-requires c κs = search needs
 
 set-byte-requires : tie.Need-set-byte-requires Inv-loop μ-loop
 set-byte-requires c κs = search needs
@@ -52,10 +55,11 @@ text-of-spec =
     Inv-loop
     μ-loop
     loop-holds
+    add-if1
     same-length
     returns
-    mul-set-byte
-    shared-slice-read-set-byte
+    add-at
+    at-requires
     set-byte-requires
     add-i
     loop-less

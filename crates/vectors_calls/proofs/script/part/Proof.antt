@@ -8,7 +8,9 @@ use Rattle.vectors_calls.proofs.script.part.Tie as tie
 
 abbrev Inv-loop : tie.InvT-loop
 Inv-loop text numbers₀ nodes₀ book₀ order₀ conflicts₀ bytes₀ now₀ i₀ numbers nodes book order conflicts bytes now i =
-    (i ≤ length text) × (length numbers ≡ length numbers₀) × (length nodes ≡ length nodes₀) × (length book ≡ length book₀) × (length order ≡ length order₀) × (length conflicts ≡ length conflicts₀) × (length bytes ≡ length bytes₀)
+    (i ≤ length text) × (length numbers ≡ length numbers₀)
+    × (length nodes ≡ length nodes₀) × (length book ≡ length book₀) × (length order ≡ length order₀)
+    × (length conflicts ≡ length conflicts₀) × (length bytes ≡ length bytes₀)
 
 abbrev μ-loop : tie.MeasureT-loop
 μ-loop text numbers₀ nodes₀ book₀ order₀ conflicts₀ bytes₀ now₀ i₀ numbers nodes book order conflicts bytes now i =

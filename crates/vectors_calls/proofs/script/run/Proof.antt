@@ -8,7 +8,9 @@ use Rattle.vectors_calls.proofs.script.run.Tie as tie
 
 abbrev Inv-loop : tie.InvT-loop
 Inv-loop fd space₀ numbers₀ nodes₀ book₀ order₀ conflicts₀ bytes₀ line₀ k₀ space numbers nodes book order conflicts bytes line k =
-    (k ≤ 64) × (length space ≡ length space₀) × (length numbers ≡ length numbers₀) × (length nodes ≡ length nodes₀) × (length book ≡ length book₀) × (length order ≡ length order₀) × (length conflicts ≡ length conflicts₀) × (length bytes ≡ length bytes₀)
+    (k ≤ 64) × (length space ≡ length space₀) × (length numbers ≡ length numbers₀)
+    × (length nodes ≡ length nodes₀) × (length book ≡ length book₀) × (length order ≡ length order₀)
+    × (length conflicts ≡ length conflicts₀) × (length bytes ≡ length bytes₀)
 
 abbrev μ-loop : tie.MeasureT-loop
 μ-loop fd space₀ numbers₀ nodes₀ book₀ order₀ conflicts₀ bytes₀ line₀ k₀ space numbers nodes book order conflicts bytes line k =
