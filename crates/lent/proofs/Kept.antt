@@ -9,7 +9,7 @@ use mathlib.Core.List.{List, [], _∷_, _++_, append-assoc, append-nil}
 use lib.ListN.{length, getD, take, drop, take-append-drop}
 use lib.Seq.{take-at, take-suc, take-all, getD-drop, drop-append-add, drop-drop}
 use Rattle.lent.specs.declared.Node.{Node}
-use Rattle.lent.specs.Rows.{zero-node, row-of, rows-of, node-at, nodes-of, table-rows, with-rows, Sound}
+use Rattle.lent.specs.Rows.{zero-node, row-of, rows-of, node-at, nodes-of, node-rows, with-rows, Sound}
 
 -- the first row of a list that begins with a record's row is that record
 at-first : (n : Node) (l : List ℕ) → n .kind < 256 → length (n .items) ≡ 255 → node-at (row-of n ++ l) 0 ≡ n
@@ -43,10 +43,10 @@ of-rows ns l zero s h = refl
 of-rows ns l (suc i) s h = ap (λ (m : List Node). m ++ (node-at (rows-of ns ++ l) i ∷ [])) (of-rows ns l i s (omega arith)) ∙ ap (λ (m : Node). take i ns ++ (m ∷ [])) (at-row ns l i s (omega arith)) ∙ sym (take-suc ns i zero-node (omega arith))
 
 -- what was loaded comes back as it was
-pub kept : (ns : List Node) → Sound (take 256 ns) → with-rows (table-rows ns) ns ≡ ns
-unfolding table-rows with-rows
+pub kept : (ns : List Node) → Sound (take 256 ns) → with-rows (node-rows ns) ns ≡ ns
+unfolding node-rows with-rows
 kept ns s = ap (λ (m : List Node). m ++ drop 256 ns) (of-rows (take 256 ns) _ (length (take 256 ns)) s (omega arith) ∙ take-all (length (take 256 ns)) (take 256 ns) (omega arith)) ∙ take-append-drop 256 ns
 
 -- and so, where the core left the rows as they were
-pub same : (ns ns′ : List Node) (l : List ℕ) → Sound (take 256 ns) → ns′ ≡ with-rows l ns → l ≡ table-rows ns → ns′ ≡ ns
+pub same : (ns ns′ : List Node) (l : List ℕ) → Sound (take 256 ns) → ns′ ≡ with-rows l ns → l ≡ node-rows ns → ns′ ≡ ns
 same ns ns′ l s e h = e ∙ ap (λ (m : List ℕ). with-rows m ns) h ∙ kept ns s

@@ -9,7 +9,7 @@ use mathlib.Core.List.{List, [], _∷_, _++_, append-assoc, append-nil}
 use lib.ListN.{length, getD, take, drop, set, length-set, length-append, length-drop, length-take, drop-of-length-le}
 use lib.Seq.{take-at, drop-at, take-suc, drop-append-add, drop-drop, drop-cons, set-at, paste, paste-suc, length-paste, take-suc-set, take-all, drop-set-lt, getD-drop, length-take-le}
 use Rattle.lent.specs.declared.Node.{Node}
-use Rattle.lent.specs.Rows.{zero-node, row-of, rows-of, put-row, node-at, nodes-of, with-rows, table-rows, zero-rows, Sound}
+use Rattle.lent.specs.Rows.{zero-node, row-of, rows-of, put-row, node-at, nodes-of, with-rows, node-rows, zero-rows, Sound}
 
 -- what `cap` says: h of n records are copied
 abbrev pub Capped : ℕ → ℕ → Type 0
@@ -123,8 +123,8 @@ stored-all ys ns zs h i over c S =
     S .is ∙ ap (λ (m : ℕ). nodes-of ys i ++ drop m ns) e ∙ ap (λ (l : List Node). nodes-of ys i ++ l) (cap-drop ns h c) ∙ ap (λ (m : ℕ). nodes-of ys m ++ drop 256 ns) (e ∙ cap-length ns h c)
 
 -- what `load` makes of zeros
-pub flat-is : (ns : List Node) (ys zs : List ℕ) → ys ≡ zero-rows 65792 → zs ≡ rows-of (take 256 ns) ++ drop (length (take 256 ns) * 257) ys → zs ≡ table-rows ns
-unfolding table-rows
+pub flat-is : (ns : List Node) (ys zs : List ℕ) → ys ≡ zero-rows 65792 → zs ≡ rows-of (take 256 ns) ++ drop (length (take 256 ns) * 257) ys → zs ≡ node-rows ns
+unfolding node-rows
 flat-is ns ys zs b e = e ∙ ap (λ (l : List ℕ). rows-of (take 256 ns) ++ drop (length (take 256 ns) * 257) l) b
 
 -- ---- one row: what `put_row` writes
