@@ -37,7 +37,7 @@ unfolding rows-of Sound
 at-row (n ∷ ns) l zero s h = ap (λ (m : List ℕ). node-at m 0) (append-assoc (row-of n) (rows-of ns) l) ∙ at-first n (rows-of ns ++ l) (s .0 .0) (s .0 .1)
 at-row (n ∷ ns) l (suc i) s h = ap (λ (m : List ℕ). node-at m (suc i)) (append-assoc (row-of n) (rows-of ns) l) ∙ at-next n (rows-of ns ++ l) i (s .0 .1) ∙ at-row ns l i (s .1) (omega arith)
 
-of-rows : (ns : List Node) (l : List ℕ) (i : ℕ) → Sound ns → i ≤ length ns → nodes-of (rows-of ns ++ l) i ≡ take i ns
+pub of-rows : (ns : List Node) (l : List ℕ) (i : ℕ) → Sound ns → i ≤ length ns → nodes-of (rows-of ns ++ l) i ≡ take i ns
 unfolding nodes-of
 of-rows ns l zero s h = refl
 of-rows ns l (suc i) s h = ap (λ (m : List Node). m ++ (node-at (rows-of ns ++ l) i ∷ [])) (of-rows ns l i s (omega arith)) ∙ ap (λ (m : Node). take i ns ++ (m ∷ [])) (at-row ns l i s (omega arith)) ∙ sym (take-suc ns i zero-node (omega arith))

@@ -28,7 +28,7 @@ pub cap-length : (ns : List Node) (h : ℕ) → Capped (length ns) h → h ≡ l
 cap-length ns h c = sym (length-take-le h ns (c .1 .0)) ∙ ap length (cap-take ns h c)
 
 -- ---- Sound
-Sound-append : (a b : List Node) → Sound a → Sound b → Sound (a ++ b)
+pub Sound-append : (a b : List Node) → Sound a → Sound b → Sound (a ++ b)
 unfolding Sound
 Sound-append [] b x y = y
 Sound-append (n ∷ a) b x y = (x .0, Sound-append a b (x .1) y)
@@ -48,7 +48,7 @@ pub record Loaded (ns : List Node) (ys : List ℕ) (h i : ℕ) (zs : List ℕ) :
   pub long : length zs ≡ 65792
   pub sound : Sound (take i ns)
 
-rows-of-append : (a b : List Node) → rows-of (a ++ b) ≡ rows-of a ++ rows-of b
+pub rows-of-append : (a b : List Node) → rows-of (a ++ b) ≡ rows-of a ++ rows-of b
 unfolding rows-of
 rows-of-append [] b = refl
 rows-of-append (n ∷ a) b = ap (λ (l : List ℕ). row-of n ++ l) (rows-of-append a b) ∙ sym (append-assoc (row-of n) (rows-of a) (rows-of b))
@@ -97,7 +97,7 @@ pub record Stored (ys : List ℕ) (ns : List Node) (h i : ℕ) (zs : List Node) 
   pub is : zs ≡ nodes-of ys i ++ drop i ns
   pub long : length zs ≡ length ns
 
-length-nodes : (ys : List ℕ) (i : ℕ) → length (nodes-of ys i) ≡ i
+pub length-nodes : (ys : List ℕ) (i : ℕ) → length (nodes-of ys i) ≡ i
 unfolding nodes-of
 length-nodes ys zero = refl
 length-nodes ys (suc i) = length-append (nodes-of ys i) (node-at ys i ∷ []) ∙ ap (λ (m : ℕ). m + 1) (length-nodes ys i) ∙ add-one i
