@@ -6,8 +6,9 @@ ghost use Rattle.orders.specs.Lists.{elem};
 ghost use Rattle.orders.specs.CircularOrder.{WellFormed};
 ghost use Rattle.orders.specs.Tree.{Forest};
 ghost use Rattle.orders.specs.Form.{StandardOrder};
-ghost use Rattle.calls.specs.Calls.{ring, filled-as, open-call, join-call, trial-call, order-call, aim-call, write-call, ReadCall};
+ghost use Rattle.calls.specs.Calls.{ring, filled-as, open-call, join-call, trial-call, order-call, aim-call, write-call, ReadCall, conflict-call};
 ghost use Rattle.calls.specs.Demands.{LentTree, LentRing, ImpossibleIff, Joins};
+ghost use Rattle.conflict.specs.Demand.{LentBook, Named};
 ghost use Rattle.lent.specs.Rows.{node-rows};
 ghost use Rattle.ring.specs.Records.{Left};
 use calls::Answer;
@@ -95,4 +96,14 @@ pub fn read(n: usize, nodes: &mut [Node], book: &mut [u64], text: &[u8]) -> Answ
     let r = text::read(n, &mut flat, have, book, text);
     lent::store(&flat, nodes);
     r
+}
+
+// Writes the numbers of the book's groups that are in conflict with the list's group to the first 96 places of conflicts, rising, then zeros.
+// Answers their count; or refuses (1 to 6), and leaves the places as they were.
+pub fn conflict(n: usize, book: &[u64], count: usize, list: &[u16], conflicts: &mut [u16]) -> Answer
+    ensures { λ r. ⌜ (filled-as r (now (conflicts .exit)) ≡ conflict-call n (now (book .entry)) count (now (list .entry)) (now (conflicts .entry)))
+        × (LentBook n (now (book .entry)) count (now (list .entry)) (now (conflicts .entry))
+        → Named n (now (book .entry)) count (now (list .entry)) r (now (conflicts .exit))) ⌝ }
+{
+    conflict::conflict(n, book, count, list, conflicts)
 }
