@@ -76,7 +76,9 @@ fn cap(n: usize) -> usize
 // Writes the first 256 records to their rows. Returns how many records there are.
 pub fn load(nodes: &[Node], flat: &mut [u16]) -> usize
     requires { ⌜ length (now flat) ≡ 65792 ⌝ }
-    ensures { λ r. ⌜ (r ≡ length (now (nodes .entry))) × ((now (flat .exit) ≡ rows-of (take 256 (now (nodes .entry))) ++ drop (length (take 256 (now (nodes .entry))) * 257) (now (flat .entry))) × Sound (take 256 (now (nodes .entry)))) ⌝ }
+    ensures { λ r. ⌜ (r ≡ length (now (nodes .entry)))
+        × ((now (flat .exit) ≡ rows-of (take 256 (now (nodes .entry))) ++ drop (length (take 256 (now (nodes .entry))) * 257) (now (flat .entry)))
+        × Sound (take 256 (now (nodes .entry)))) ⌝ }
 {
     let all = nodes.len();
     let have = cap(all);

@@ -33,8 +33,8 @@ pub fn open(n: usize, nodes: &mut [Node], book: &mut [u64]) -> Answer
 pub fn join(n: usize, nodes: &mut [Node], book: &mut [u64], count: usize, list: &[u16]) -> Answer
     ensures { λ r. ⌜ (ring r (node-rows (now (nodes .exit))) (now (book .exit))
         ≡ join-call n (length (now (nodes .entry))) (node-rows (now (nodes .entry))) (now (book .entry)) count (now (list .entry)))
-        × ((t : Forest) → LentRing n (length (now (nodes .entry))) (node-rows (now (nodes .entry))) (now (book .entry)) count t → WellFormed n (now (list .entry))
-        → Joins n (elem (now (list .entry))) t r (node-rows (now (nodes .exit))))
+        × ((t : Forest) → LentRing n (length (now (nodes .entry))) (node-rows (now (nodes .entry))) (now (book .entry)) count t
+        → WellFormed n (now (list .entry)) → Joins n (elem (now (list .entry))) t r (node-rows (now (nodes .exit))))
         × Left r (now (nodes .entry)) (now (nodes .exit)) ⌝ }
 {
     let mut flat = [0u16; 65792];
@@ -47,8 +47,8 @@ pub fn join(n: usize, nodes: &mut [Node], book: &mut [u64], count: usize, list: 
 // Answers as joining the list's group would, and changes nothing.
 pub fn trial(n: usize, nodes: &[Node], book: &[u64], count: usize, list: &[u16]) -> Answer
     ensures { λ r. ⌜ (r ≡ trial-call n (length (now (nodes .entry))) (node-rows (now (nodes .entry))) (now (book .entry)) count (now (list .entry)))
-        × ((t : Forest) → LentRing n (length (now (nodes .entry))) (node-rows (now (nodes .entry))) (now (book .entry)) count t → WellFormed n (now (list .entry))
-        → ImpossibleIff (elem (now (list .entry))) t r) ⌝ }
+        × ((t : Forest) → LentRing n (length (now (nodes .entry))) (node-rows (now (nodes .entry))) (now (book .entry)) count t
+        → WellFormed n (now (list .entry)) → ImpossibleIff (elem (now (list .entry))) t r) ⌝ }
 {
     let mut flat = [0u16; 65792];
     let have = lent::load(nodes, &mut flat);
@@ -57,7 +57,8 @@ pub fn trial(n: usize, nodes: &[Node], book: &[u64], count: usize, list: &[u16])
 
 // Writes the standard order to the first n places of order. Answers n; or refuses (1, 2, 3), and leaves them as they were.
 pub fn order(n: usize, nodes: &[Node], order: &mut [u16]) -> Answer
-    ensures { λ r. ⌜ (filled-as r (now (order .exit)) ≡ order-call n (length (now (nodes .entry))) (node-rows (now (nodes .entry))) (now (order .entry)))
+    ensures { λ r. ⌜ (filled-as r (now (order .exit))
+        ≡ order-call n (length (now (nodes .entry))) (node-rows (now (nodes .entry))) (now (order .entry)))
         × ((t : Forest) → LentTree n (length (now (nodes .entry))) (node-rows (now (nodes .entry))) t → n ≤ length (now (order .entry))
         → StandardOrder t (take n (now (order .exit)))) ⌝ }
 {
@@ -66,7 +67,7 @@ pub fn order(n: usize, nodes: &[Node], order: &mut [u16]) -> Answer
     planner::order(n, &flat, have, order)
 }
 
-// The leaf at which the group with this number is aimed (document 01's aim), in the standard order.
+// Answers the leaf at which the book's group with this number is aimed (document 01's aim), in the standard order; or refuses (1, 2, 3, 9, 10).
 pub fn aim(n: usize, nodes: &[Node], book: &[u64], count: usize, group: usize) -> Answer
     ensures { λ r. ⌜ r ≡ aim-call n (length (now (nodes .entry))) (node-rows (now (nodes .entry))) (now (book .entry)) count group ⌝ }
 {
@@ -77,7 +78,8 @@ pub fn aim(n: usize, nodes: &[Node], book: &[u64], count: usize, group: usize) -
 
 // Writes the tree text to the first 2,048 bytes, zeros after it. Answers its length; or refuses (1, 2, 3), and leaves them as they were.
 pub fn write(n: usize, nodes: &[Node], bytes: &mut [u8]) -> Answer
-    ensures { λ r. ⌜ filled-as r (now (bytes .exit)) ≡ write-call n (length (now (nodes .entry))) (node-rows (now (nodes .entry))) (now (bytes .entry)) ⌝ }
+    ensures { λ r. ⌜ filled-as r (now (bytes .exit))
+        ≡ write-call n (length (now (nodes .entry))) (node-rows (now (nodes .entry))) (now (bytes .entry)) ⌝ }
 {
     let mut flat = [0u16; 65792];
     let have = lent::load(nodes, &mut flat);
