@@ -1,0 +1,119 @@
+-- The printed lines by their numbers, and the ring after so many group lines.
+use mathlib.Core.Path.{_≡_, refl, sym, ap, _∙_}
+use mathlib.Core.List.{List, [], _∷_, _++_, map, append-assoc}
+use Prim.Native.Nat.{ℕ, zero, suc, _+_, _-_, _≤_, _<_}
+use native.Mathlib.Omega.{arith}
+use native.Mathlib.Numerals.{add-one}
+use lib.ListN.{length, getD, take, drop, length-append, length-drop, List·getD-append}
+use lib.Seq.{take-length, take-suc, getD-append-add, getD-drop}
+use Rattle.orders.specs.Form.{standard}
+use Rattle.orders.specs.TreeText.{digits, tree-text}
+use Rattle.orders.specs.Circles.{bytes}
+use Rattle.listing.specs.Listing.{State, opened, outcome, next, run, spaces, name, fields, group-lines, listing, printed}
+use Rattle.listing.specs.Lists.{state-at}
+
+-- One group line more.
+module _ (n : ℕ) where
+  run-more : (s : State) (k : ℕ) (lists : List (List ℕ)) (l : ℕ) → l < length lists
+      → run n s k (take (suc l) lists)
+      ≡ next (run n s k (take l lists)) (k + l) (getD lists l []) (outcome n (run n s k (take l lists)) (getD lists l []))
+  unfolding run
+  run-more s k [] l h = absurd (omega arith)
+  run-more s k (list ∷ lists) zero h = let e : k + 0 ≡ k = omega arith in rw e
+  run-more s k (list ∷ lists) (suc l) h =
+      let e : k + suc l ≡ suc k + l = omega arith in
+      rw e (run-more (next s k list (outcome n s list)) (suc k) lists l (omega arith))
+
+  pub state-none : (lists : List (List ℕ)) → state-at n lists 0 ≡ opened n
+  unfolding state-at run
+  state-none lists = refl
+
+  pub state-more : (lists : List (List ℕ)) (l : ℕ) → l < length lists
+      → state-at n lists (l + 1) ≡ next (state-at n lists l) (l + 1) (getD lists l []) (outcome n (state-at n lists l) (getD lists l []))
+  unfolding state-at
+  state-more lists l h =
+      let e : 1 + l ≡ suc l = omega arith in
+      rw add-one (run-more (opened n) 1 lists l h ∙ rw e)
+
+  pub state-all : (lists : List (List ℕ)) (l : ℕ) → l ≡ length lists → state-at n lists l ≡ run n (opened n) 1 lists
+  unfolding state-at
+  state-all lists l e = rw (e, take-length)
+
+-- The group lines.
+module _ (names : List (List ℕ)) (ord : List ℕ) where
+  pub group-length : (s : State) (k : ℕ) (lists : List (List ℕ)) → length (group-lines names ord s k lists) ≡ length lists
+  unfolding group-lines
+  group-length s k [] = refl
+  group-length s k (list ∷ lists) = ap suc (group-length (next s k list (outcome (length names) s list)) (suc k) lists)
+
+  group-at : (s : State) (k : ℕ) (lists : List (List ℕ)) (l : ℕ) → l < length lists
+      → getD (group-lines names ord s k lists) l []
+      ≡ digits (k + l)
+      ++ fields names ord (run (length names) s k (take l lists)) (getD lists l []) (outcome (length names) (run (length names) s k (take l lists)) (getD lists l []))
+  unfolding group-lines run
+  group-at s k [] l h = absurd (omega arith)
+  group-at s k (list ∷ lists) zero h = let e : k + 0 ≡ k = omega arith in rw e
+  group-at s k (list ∷ lists) (suc l) h =
+      let e : k + suc l ≡ suc k + l = omega arith in
+      rw e (group-at (next s k list (outcome (length names) s list)) (suc k) lists l (omega arith))
+
+  -- What is printed of group line l, from 0.
+  abbrev pub group-line : List (List ℕ) → ℕ → List ℕ
+  group-line lists l =
+      digits (l + 1) ++ fields names ord (state-at (length names) lists l) (getD lists l []) (outcome (length names) (state-at (length names) lists l) (getD lists l []))
+
+  pub line-at : (lists : List (List ℕ)) (l : ℕ) → l < length lists
+      → getD (group-lines names ord (opened (length names)) 1 lists) l [] ≡ group-line lists l
+  unfolding state-at
+  line-at lists l h =
+      let e : 1 + l ≡ l + 1 = omega arith in
+      group-at (opened (length names)) 1 lists l h ∙ rw e
+
+-- The whole listing.
+module _ (names lists : List (List ℕ)) where
+  abbrev pub final : List ℕ
+  final = standard (run (length names) (opened (length names)) 1 lists .tree)
+
+  abbrev pub ending : List (List ℕ)
+  ending = bytes "order" ∷ spaces (map (name names) final) ∷ bytes "tree" ∷ tree-text (run (length names) (opened (length names)) 1 lists .tree) ∷ []
+
+  groups-printed : List (List ℕ)
+  groups-printed = group-lines names final (opened (length names)) 1 lists
+
+  pub listing-length : length (listing names lists) ≡ length lists + 5
+  unfolding listing groups-printed
+  listing-length = omega (arith, length-append groups-printed ending, group-length names final (opened (length names)) 1 lists)
+
+  pub head-line : getD (listing names lists) 0 [] ≡ bytes "line answer aim conflict"
+  unfolding listing
+  head-line = refl
+
+  -- Group line l.
+  pub middle-line : (l : ℕ) → l < length lists → getD (listing names lists) (l + 1) [] ≡ group-line names final lists l
+  unfolding listing groups-printed
+  middle-line l h =
+      ap (λ (k : ℕ). getD (listing names lists) k []) (add-one l)
+      ∙ List·getD-append groups-printed ending [] l (omega (arith, group-length names final (opened (length names)) 1 lists))
+      ∙ line-at names final lists l h
+
+  pub end-line : (j : ℕ) → getD (listing names lists) (length lists + 1 + j) [] ≡ getD ending j []
+  unfolding listing groups-printed
+  end-line j =
+      let e : length lists + 1 + j ≡ suc (length groups-printed + j) = omega (arith, group-length names final (opened (length names)) 1 lists) in
+      rw e (getD-append-add groups-printed ending j [])
+
+-- One printed line more.
+printed-append : (a b : List (List ℕ)) → printed (a ++ b) ≡ printed a ++ printed b
+printed-append [] b = refl
+printed-append (x ∷ a) b = ap (λ (l : List ℕ). x ++ (10 ∷ l)) (printed-append a b) ∙ simp append-assoc
+
+pub printed-none : (from : ℕ) (ls : List (List ℕ)) → printed (take (from - from) (drop from ls)) ≡ []
+printed-none from ls = let e : from - from ≡ 0 = omega arith in rw e
+
+pub printed-more : (from i : ℕ) (ls : List (List ℕ)) → from ≤ i → i < length ls
+    → printed (take (i + 1 - from) (drop from ls)) ≡ printed (take (i - from) (drop from ls)) ++ (getD ls i [] ++ (10 ∷ []))
+printed-more from i ls h l =
+    let e : i + 1 - from ≡ suc (i - from) = omega arith in
+    let f : from + (i - from) ≡ i = omega arith in
+    rw (e, take-suc (drop from ls) (i - from) [] (omega (arith, length-drop from ls)), getD-drop from ls (i - from) [], f)
+    (printed-append (take (i - from) (drop from ls)) (getD ls i [] ∷ []))
