@@ -1,55 +1,13 @@
 -- Document 01, "Ring file and lister": what the lister prints for the names and the groups of a ring file, one group a line.
-use mathlib.Core.Bool.{cond}
-use mathlib.Core.Option.{Option, none, some}
 use mathlib.Core.List.{List, [], _∷_, _++_, map}
 use Prim.Native.Nat.{ℕ, suc, _-_}
-use lib.Dec.{eqb}
 use lib.ListN.{length, getD}
 use Rattle.orders.specs.Lists.{elem}
-use Rattle.orders.specs.CircularOrder.{Restriction}
-use Rattle.orders.specs.Tree.{Forest}
 use Rattle.orders.specs.Form.{standard}
 use Rattle.orders.specs.TreeText.{digits, tree-text}
-use Rattle.orders.specs.Join.{fresh, join}
-use Rattle.orders.specs.Conflict.{conflict-list}
 use Rattle.orders.specs.Aim.{aim-of}
 use Rattle.orders.specs.Circles.{bytes}
-
--- A group line's answer: `kept`, with the new tree; `refused` (8), with the numbers of the book's groups in conflict; `empty` (4); `full` (7).
-pub data Outcome : Type 0 where
-  kept : Forest → Outcome
-  refused : List ℕ → Outcome
-  empty : Outcome
-  full : Outcome
-
--- "Joins the lines to a fresh ring in turn": the ring's tree, the groups of its book, and the input line of each of them.
-pub record State : Type 0 where
-  pub tree : Forest
-  pub groups : List Restriction
-  pub lines : List ℕ
-
-abbrev pub opened : ℕ → State
-opened n = record { tree = fresh n; groups = []; lines = [] }
-
--- 4 comes before 7, and 7 before 8.
-abbrev pub joined : ℕ → State → Restriction → Option Forest → Outcome
-joined n s G (some t) = kept t
-joined n s G none = refused (conflict-list n (s .groups) G)
-
-unfoldable pub outcome : ℕ → State → List ℕ → Outcome
-outcome n s [] = empty
-outcome n s (b ∷ l) = cond (eqb (length (s .groups)) 96) full (joined n s (elem (b ∷ l)) (join (elem (b ∷ l)) (s .tree)))
-
--- The ring after the group line with number k, and after all lines.
-abbrev pub next : State → ℕ → List ℕ → Outcome → State
-next s k list (kept t) = record { tree = t; groups = s .groups ++ (elem list ∷ []); lines = s .lines ++ (k ∷ []) }
-next s k list (refused ns) = s
-next s k list empty = s
-next s k list full = s
-
-unfoldable pub run : ℕ → State → ℕ → List (List ℕ) → State
-run n s k [] = s
-run n s k (list ∷ lists) = run n (next s k list (outcome n s list)) (suc k) lists
+use Rattle.ledger.specs.Ledger.{Outcome, kept, refused, empty, full, State, opened, outcome, next, run}
 
 -- Numbers joined by commas; names with one space between.
 abbrev pub commas : List ℕ → List ℕ

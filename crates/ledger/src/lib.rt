@@ -1,0 +1,1 @@
+// The ring of a ring file as its group lines join it, one after another.

@@ -1,0 +1,39 @@
+-- Words of bytes, as the private functions find them in a file.
+use mathlib.Core.Path.{_≡_}
+use mathlib.Core.Bool.{Bool, cond}
+use mathlib.Core.List.{List, [], _∷_, _++_}
+use Prim.Native.Nat.{ℕ, zero, suc, _+_}
+use lib.Dec.{eqb}
+use lib.ListN.{length, take}
+use Rattle.orders.specs.Lists.{All, some-of, same}
+
+-- The bytes before the first space; before the first space or line end.
+abbrev pub word-length : List ℕ → ℕ
+word-length [] = 0
+word-length (b ∷ x) = cond (eqb b 32) 0 (1 + word-length x)
+
+abbrev pub word-end : List ℕ → ℕ
+word-end [] = 0
+word-end (b ∷ x) = cond (eqb b 32) 0 (cond (eqb b 10) 0 (1 + word-end x))
+
+-- A word has no space.
+abbrev pub Word : List ℕ → Type 0
+Word w = All (λ b. b ≡ 32 → ⊥) w
+
+-- Words, a space after each.
+abbrev pub spaced : List (List ℕ) → List ℕ
+spaced [] = []
+spaced (w ∷ ws) = w ++ (32 ∷ spaced ws)
+
+-- Where word number k, from 0, of a line starts.
+abbrev pub place-of : List (List ℕ) → ℕ → ℕ
+place-of [] k = 0
+place-of (w ∷ ws) zero = 0
+place-of (w ∷ ws) (suc k) = length w + 1 + place-of ws k
+
+-- The tests whether w is one of the words, and whether v begins with t.
+abbrev pub among : List (List ℕ) → List ℕ → Bool
+among ns w = some-of (same w) ns
+
+abbrev pub begins : List ℕ → List ℕ → Bool
+begins t v = same (take (length t) v) t
