@@ -6,7 +6,7 @@ use native.Mathlib.Omega.{arith}
 use borrow.Author.Needs.{needs}
 use denote.Ref.{now}
 use Rattle.tokens.proofs.Writes.{read-part}
-use Rattle.records.proofs.Loading.{wrote-most}
+use Rattle.tokens.proofs.Writes.{wrote-most}
 use Rattle.checks.specs.Lent.{RingLent, LendsRing}
 use Rattle.aim.proofs.Calls.{aim-refused, lent-lends, aim-there}
 use Rattle.aim.proofs.aim.Statement.{statement}
