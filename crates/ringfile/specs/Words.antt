@@ -1,11 +1,12 @@
--- Words of bytes, as the private functions find them in a file.
+-- Words of bytes, and the leaves of a line, as the private functions find them in a file.
 use mathlib.Core.Path.{_≡_}
 use mathlib.Core.Bool.{Bool, cond}
 use mathlib.Core.List.{List, [], _∷_, _++_}
-use Prim.Native.Nat.{ℕ, zero, suc, _+_}
+use Prim.Native.Nat.{ℕ, zero, suc, _+_, _-_}
 use lib.Dec.{eqb}
-use lib.ListN.{length, take}
-use Rattle.orders.specs.Lists.{All, some-of, same}
+use lib.ListN.{length, take, getD}
+use Rattle.orders.specs.Lists.{All, some-of, filter, same, range}
+use Rattle.ringfile.specs.RingFile.{Value, off, in-group}
 
 -- The bytes before the first space; before the first space or line end.
 abbrev pub word-length : List ℕ → ℕ
@@ -37,3 +38,7 @@ among ns w = some-of (same w) ns
 
 abbrev pub begins : List ℕ → List ℕ → Bool
 begins t v = same (take (length t) v) t
+
+-- The leaves of `leaves-on` from number i + 1 on.
+unfoldable pub leaves-after : ℕ → List Value → List ℕ
+leaves-after i vs = filter (λ b. in-group (getD vs (b - 1) off)) (range (suc i) (length vs - i))

@@ -1,4 +1,14 @@
-// The ring file: its names and its groups, read where they stand.
+// The ring file: whether it is accepted, and its names and groups, read where they stand.
+ghost use mathlib.Core.Path.{_≡_};
+ghost use mathlib.Core.List.{List, [], _++_};
+ghost use Prim.Native.Nat.{ℕ, _+_, _-_, _≤_, _<_};
+ghost use lib.ListN.{length, take, getD};
+ghost use Rattle.orders.specs.Lists.{All, Distinct, elem, same, filter};
+ghost use Rattle.tokens.specs.Tokens.{Wrote};
+ghost use Rattle.ringfile.specs.RingFile.{alphabet, Name, Value, off, in-group, line, file-bytes, leaves-on, Rules, Says};
+ghost use Rattle.ringfile.specs.Words.{word-length, word-end, Word, spaced, place-of, among, begins, leaves-after};
+ghost use Rattle.ringfile.specs.Scanner.{room, is-new, naming, due, got, step, Naming};
+ghost use Rattle.ringfile.specs.Cursors.{Stands, Stepped, Advances, Within};
 use calls::Refusal;
 
 // What a file holds: a ring of `names` leaves, a names line of `head` bytes, and `lines` lines of values; or why it is refused.
@@ -19,4 +29,432 @@ struct Cursor {
     start: usize,
     got: usize,
     lines: usize,
+}
+
+// Whether b may stand in a name.
+fn letter(b: u8) -> bool
+    ensures { λ r. ⌜ r ≡ elem alphabet b ⌝ }
+{
+    if b < 48 {
+        return false;
+    }
+    if b < 58 {
+        return true;
+    }
+    if b < 65 {
+        return false;
+    }
+    if b < 91 {
+        return true;
+    }
+    if b < 97 {
+        return false;
+    }
+    if b < 123 {
+        return true;
+    }
+    false
+}
+
+// Whether a and b hold the same bytes.
+fn equal(a: &[u8], b: &[u8]) -> bool
+    ensures { λ r. ⌜ r ≡ same (now (a .entry)) (now (b .entry)) ⌝ }
+{
+    if a.len() == 0 {
+        if b.len() == 0 {
+            return true;
+        }
+        return false;
+    }
+    if b.len() == 0 {
+        return false;
+    }
+    if a[0] != b[0] {
+        return false;
+    }
+    equal(&a[1..], &b[1..])
+}
+
+// How many bytes stand before the first space.
+fn word_len(x: &[u8]) -> usize
+    ensures { λ r. ⌜ r ≡ word-length (now (x .entry)) ⌝ }
+{
+    let mut i = 0;
+    while i < x.len() {
+        if x[i] == 32 {
+            return i;
+        }
+        i += 1;
+    }
+    i
+}
+
+// Whether w is one of the words of x, a space after each.
+fn is_among(x: &[u8], w: &[u8]) -> bool
+    ensures { λ r. ⌜ ((ns : List (List ℕ)) → All Word ns → now (x .entry) ≡ spaced ns → r ≡ among ns (now (w .entry))) ⌝ }
+{
+    if x.len() == 0 {
+        return false;
+    }
+    let k = word_len(x);
+    if k >= x.len() {
+        return false;
+    }
+    if equal(w, &x[0..k]) {
+        return true;
+    }
+    is_among(&x[k + 1..], w)
+}
+
+// How many of the words of x begin with t.
+fn begin_with(x: &[u8], t: &[u8]) -> usize
+    ensures { λ r. ⌜ ((ns : List (List ℕ)) → All Word ns → now (x .entry) ≡ spaced ns → r ≡ length (filter (begins (now (t .entry))) ns)) ⌝ }
+    ensures { λ r. ⌜ r ≤ length (now (x .entry)) ⌝ }
+{
+    if x.len() == 0 {
+        return 0;
+    }
+    let k = word_len(x);
+    if k >= x.len() {
+        return 0;
+    }
+    let m = t.len();
+    if k < m {
+        return begin_with(&x[k + 1..], t);
+    }
+    if equal(&x[0..m], t) {
+        return 1 + begin_with(&x[k + 1..], t);
+    }
+    begin_with(&x[k + 1..], t)
+}
+
+// Whether the begun name t can become a new name. x: the earlier names, a space after each.
+fn has_room(x: &[u8], t: &[u8]) -> bool
+    ensures { λ r. ⌜ ((ns : List (List ℕ)) → All Name ns → Distinct ns → now (x .entry) ≡ spaced ns → r ≡ room ns (now (t .entry))) ⌝ }
+{
+    let m = t.len();
+    if m < 7 {
+        return true;
+    }
+    let taken = begin_with(x, t);
+    if m == 7 {
+        if taken < 63 {
+            return true;
+        }
+        return false;
+    }
+    if m == 8 {
+        if taken < 1 {
+            return true;
+        }
+        return false;
+    }
+    false
+}
+
+// Whether w is a new name.
+fn is_new(x: &[u8], w: &[u8]) -> bool
+    ensures { λ r. ⌜ ((ns : List (List ℕ)) → All Name ns → now (x .entry) ≡ spaced ns → r ≡ is-new ns (now (w .entry))) ⌝ }
+{
+    if w.len() == 0 {
+        return false;
+    }
+    if is_among(x, w) {
+        return false;
+    }
+    true
+}
+
+// The cursor of a refusal.
+fn refused() -> Cursor
+    ensures { λ r. ⌜ (r .phase ≡ 3) × (r .names ≡ 0) × (r .start ≡ 0) × (r .got ≡ 0) × (r .lines ≡ 0) ⌝ }
+{
+    Cursor {
+        phase: 3,
+        names: 0,
+        start: 0,
+        got: 0,
+        lines: 0,
+    }
+}
+
+// A byte of the names line.
+fn on_name(file: &[u8], at: usize, names: usize, start: usize) -> Cursor
+    requires { ⌜ (at < length (now file)) × (start ≤ at) × (names ≤ 256) ⌝ }
+    ensures { λ r. ⌜ Within r (at + 1) ⌝ }
+    ensures { λ r. ⌜ ((ns : List (List ℕ)) (w : List ℕ) → Naming ns w → take at (now (file .entry)) ≡ spaced ns ++ w → names ≡ length ns → start ≡ length (spaced ns) → Stepped r (step (naming ns w) (getD (now (file .entry)) at 0))) ⌝ }
+{
+    let b = file[at];
+    let next = at + 1;
+    if letter(b) {
+        if has_room(&file[0..start], &file[start..next]) {
+            return Cursor {
+                phase: 0,
+                names: names,
+                start: start,
+                got: 0,
+                lines: 0,
+            };
+        }
+        return refused();
+    }
+    if b == 32 {
+        if 255 <= names {
+            return refused();
+        }
+        if is_new(&file[0..start], &file[start..at]) {
+            return Cursor {
+                phase: 0,
+                names: names + 1,
+                start: next,
+                got: 0,
+                lines: 0,
+            };
+        }
+        return refused();
+    }
+    if b == 10 {
+        if 256 <= names {
+            return refused();
+        }
+        if is_new(&file[0..start], &file[start..at]) {
+            return Cursor {
+                phase: 1,
+                names: names + 1,
+                start: next,
+                got: 0,
+                lines: 0,
+            };
+        }
+        return refused();
+    }
+    refused()
+}
+
+// A byte where a value is due.
+fn on_value(b: u8, at: usize, c: Cursor) -> Cursor
+    requires { ⌜ Within c at ⌝ }
+    ensures { λ r. ⌜ Within r (at + 1) ⌝ }
+    ensures { λ r. ⌜ ((ns : List (List ℕ)) (vss : List (List Value)) (vs : List Value) → Stands c (due ns vss vs) → Stepped r (step (due ns vss vs) b)) ⌝ }
+{
+    if b == 48 {
+        return Cursor {
+            phase: 2,
+            names: c.names,
+            start: c.start,
+            got: c.got,
+            lines: c.lines,
+        };
+    }
+    if b == 49 {
+        return Cursor {
+            phase: 2,
+            names: c.names,
+            start: c.start,
+            got: c.got,
+            lines: c.lines,
+        };
+    }
+    if b == 45 {
+        return Cursor {
+            phase: 2,
+            names: c.names,
+            start: c.start,
+            got: c.got,
+            lines: c.lines,
+        };
+    }
+    refused()
+}
+
+// A byte after a value.
+fn on_got(b: u8, at: usize, c: Cursor) -> Cursor
+    requires { ⌜ (Within c at) × (at < 65536) ⌝ }
+    ensures { λ r. ⌜ Within r (at + 1) ⌝ }
+    ensures { λ r. ⌜ ((ns : List (List ℕ)) (vss : List (List Value)) (vs : List Value) (v : Value) → Stands c (got ns vss vs v) → Stepped r (step (got ns vss vs v) b)) ⌝ }
+{
+    let more = c.got + 1;
+    let names = c.names;
+    if b == 32 {
+        if more < names {
+            return Cursor {
+                phase: 1,
+                names: names,
+                start: c.start,
+                got: more,
+                lines: c.lines,
+            };
+        }
+        return refused();
+    }
+    if b == 10 {
+        if more == names {
+            return Cursor {
+                phase: 1,
+                names: names,
+                start: c.start,
+                got: 0,
+                lines: c.lines + 1,
+            };
+        }
+        return refused();
+    }
+    refused()
+}
+
+// One byte.
+fn advance(file: &[u8], at: usize, c: Cursor) -> Cursor
+    requires { ⌜ (Within c at) × (at < length (now file)) × (length (now file) ≤ 65536) ⌝ }
+    ensures { λ r. ⌜ Within r (at + 1) ⌝ }
+    ensures { λ r. ⌜ Advances (now (file .entry)) at c r ⌝ }
+{
+    let phase = c.phase;
+    if phase == 0 {
+        return on_name(file, at, c.names, c.start);
+    }
+    let b = file[at];
+    if phase == 1 {
+        return on_value(b, at, c);
+    }
+    if phase == 2 {
+        return on_got(b, at, c);
+    }
+    refused()
+}
+
+// Reads the file: what it holds, or the byte at which it is refused.
+pub fn scan(file: &[u8]) -> Scanned
+    ensures { λ r. ⌜ Says (now (file .entry)) r ⌝ }
+{
+    let n = file.len();
+    if 65536 < n {
+        return Scanned::Refused(Refusal::RingFile(65536));
+    }
+    let mut c = Cursor {
+        phase: 0,
+        names: 0,
+        start: 0,
+        got: 0,
+        lines: 0,
+    };
+    let mut i = 0;
+    while i < n {
+        c = advance(file, i, c);
+        let phase = c.phase;
+        if phase == 3 {
+            return Scanned::Refused(Refusal::RingFile(i));
+        }
+        i += 1;
+    }
+    let last = c.phase;
+    if last != 1 {
+        return Scanned::Refused(Refusal::RingFile(i));
+    }
+    let got = c.got;
+    if got != 0 {
+        return Scanned::Refused(Refusal::RingFile(i));
+    }
+    Scanned::Ring {
+        names: c.names,
+        head: c.start,
+        lines: c.lines,
+    }
+}
+
+// How many bytes stand before the first space or line end.
+fn word_end(x: &[u8]) -> usize
+    ensures { λ r. ⌜ r ≡ word-end (now (x .entry)) ⌝ }
+{
+    let mut i = 0;
+    while i < x.len() {
+        if x[i] == 32 {
+            return i;
+        }
+        if x[i] == 10 {
+            return i;
+        }
+        i += 1;
+    }
+    i
+}
+
+// Where name number k, from 0, starts.
+fn place(x: &[u8], k: usize) -> usize
+    ensures { λ r. ⌜ ((ns : List (List ℕ)) (t : List ℕ) → All Word ns → now (x .entry) ≡ line ns ++ t → k < length ns → r ≡ place-of ns k) ⌝ }
+    ensures { λ r. ⌜ r ≤ length (now (x .entry)) ⌝ }
+{
+    if k == 0 {
+        return 0;
+    }
+    let n = word_len(x);
+    if n >= x.len() {
+        return x.len();
+    }
+    n + 1 + place(&x[n + 1..], k - 1)
+}
+
+// Name number k, from 0, of an accepted file: the part of the file that it fills.
+pub fn name_of(file: &[u8], k: usize) -> &[u8]
+    ensures { λ r. ⌜ ((ns : List (List ℕ)) (vss : List (List Value)) → Rules ns vss → now (file .entry) ≡ file-bytes ns vss → k < length ns → now r ≡ getD ns k []) ⌝ }
+{
+    if 256 <= k {
+        return &file[0..0];
+    }
+    let start = place(file, k);
+    let n = word_end(&file[start..]);
+    let end = start + n;
+    &file[start..end]
+}
+
+// Value number i of value line l, both from 0, of an accepted file with so many names and a names line of head bytes.
+pub fn value_of(file: &[u8], names: usize, head: usize, l: usize, i: usize) -> bool
+    ensures { λ r. ⌜ ((ns : List (List ℕ)) (vss : List (List Value)) → Rules ns vss → now (file .entry) ≡ file-bytes ns vss → length (now (file .entry)) ≤ 65536 → names ≡ length ns → head ≡ length (line ns) → l < length vss → i < length ns → r ≡ in-group (getD (getD vss l []) i off)) ⌝ }
+{
+    if 256 < names {
+        return false;
+    }
+    if 65536 < head {
+        return false;
+    }
+    if 65536 < l {
+        return false;
+    }
+    if 256 < i {
+        return false;
+    }
+    let at = head + (l * (2 * names) + 2 * i);
+    if at < file.len() {
+        return file[at] == 49;
+    }
+    false
+}
+
+// Writes the leaves from number i + 1 on that have the value `1` in value line l, rising, to the start of the list, and says how many.
+fn group_from(file: &[u8], names: usize, head: usize, l: usize, i: usize, list: &mut [u16]) -> usize
+    requires { ⌜ (names ≤ 256) × (names ≤ i + length (now list)) ⌝ }
+    ensures { λ r. ⌜ ((ns : List (List ℕ)) (vss : List (List Value)) → Rules ns vss → now (file .entry) ≡ file-bytes ns vss → length (now (file .entry)) ≤ 65536 → names ≡ length ns → head ≡ length (line ns) → l < length vss → Wrote (leaves-after i (getD vss l [])) (now (list .entry)) (now (list .exit)) r) ⌝ }
+    ensures { λ r. ⌜ r ≤ 256 - i ⌝ }
+{
+    if i >= names {
+        return 0;
+    }
+    if !value_of(file, names, head, l, i) {
+        return group_from(file, names, head, l, i + 1, list);
+    }
+    list[0] = (i + 1) as u16;
+    1 + group_from(file, names, head, l, i + 1, &mut list[1..])
+}
+
+// Writes the group of value line l, from 0, of an accepted file to the start of the list: its leaves, rising. Returns how many.
+pub fn group_of(file: &[u8], names: usize, head: usize, l: usize, list: &mut [u16]) -> usize
+    ensures { λ r. ⌜ ((ns : List (List ℕ)) (vss : List (List Value)) → Rules ns vss → now (file .entry) ≡ file-bytes ns vss → length (now (file .entry)) ≤ 65536 → names ≡ length ns → head ≡ length (line ns) → l < length vss → length ns ≤ length (now (list .entry)) → Wrote (leaves-on (getD vss l [])) (now (list .entry)) (now (list .exit)) r) ⌝ }
+    ensures { λ r. ⌜ r ≤ 256 ⌝ }
+{
+    if 256 < names {
+        return 0;
+    }
+    if list.len() < names {
+        return 0;
+    }
+    group_from(file, names, head, l, 0, list)
 }

@@ -1,0 +1,52 @@
+-- The group of a line: from a leaf on, and how its list begins.
+use mathlib.Core.Path.{_≡_, refl, sym, _∙_, ap, ap₂}
+use mathlib.Core.Bool.{Bool, true, false, cond}
+use mathlib.Core.List.{List, [], _∷_}
+use Prim.Native.Nat.{ℕ, zero, suc, _+_, _-_, _≤_, _<_}
+use native.Mathlib.Omega.{arith}
+use native.Mathlib.Numerals.{add-one}
+use lib.ListN.{length, getD}
+use Rattle.orders.specs.Lists.{All, Distinct, filter, range}
+use Rattle.orders.proofs.Members.{in-all}
+use Rattle.orders.proofs.Ranges.{filter-different, in-filter, in-range}
+use Rattle.ringfile.specs.RingFile.{Value, off, in-group, leaves-on, Rules}
+use Rattle.ringfile.specs.Words.{leaves-after}
+
+-- The leaves of a group are different leaves of the ring.
+pub leaves-different : (vs : List Value) → Distinct (leaves-on vs)
+unfolding leaves-on
+leaves-different vs = filter-different (λ b. in-group (getD vs (b - 1) off)) 1 (length vs)
+
+pub leaves-within : (vs : List Value) → All (λ b. (1 ≤ b) × (b ≤ length vs)) (leaves-on vs)
+unfolding leaves-on
+leaves-within vs =
+    in-all (λ b. (1 ≤ b) × (b ≤ length vs)) (filter p (range 1 (length vs)))
+    (λ b i. let r = in-range 1 (length vs) b (in-filter p (range 1 (length vs)) b i .1) in (r .0, omega (arith, r .1)))
+  where
+    p : ℕ → Bool
+    p b = in-group (getD vs (b - 1) off)
+
+pub leaves-all : (vs : List Value) → leaves-after 0 vs ≡ leaves-on vs
+unfolding leaves-on leaves-after
+leaves-all vs = let e : length vs - 0 ≡ length vs = omega arith in ap (λ k. filter (λ b. in-group (getD vs (b - 1) off)) (range 1 k)) e
+
+pub leaves-none : (i : ℕ) (vs : List Value) → length vs ≤ i → leaves-after i vs ≡ []
+unfolding leaves-after
+leaves-none i vs h = let e : length vs - i ≡ 0 = omega arith in ap (λ k. filter (λ b. in-group (getD vs (b - 1) off)) (range (suc i) k)) e
+
+pub leaves-next : (i : ℕ) (vs : List Value) → i < length vs → leaves-after i vs ≡ cond (in-group (getD vs i off)) ((i + 1) ∷ leaves-after (i + 1) vs) (leaves-after (i + 1) vs)
+unfolding leaves-after
+leaves-next i vs h =
+    let e : length vs - i ≡ suc (length vs - (i + 1)) = omega arith in
+    let p : suc i - 1 ≡ i = omega arith in
+    ap (λ k. filter (λ b. in-group (getD vs (b - 1) off)) (range (suc i) k)) e
+    ∙ ap₂ (λ j s. cond (in-group (getD vs j off)) (s ∷ filter (λ b. in-group (getD vs (b - 1) off)) (range (suc s) (length vs - (i + 1)))) (filter (λ b. in-group (getD vs (b - 1) off)) (range (suc s) (length vs - (i + 1))))) p (sym (add-one i))
+
+-- Every line has a value for each name.
+all-at : (P : List Value → Type 0) (vss : List (List Value)) (l : ℕ) → All P vss → l < length vss → P (getD vss l [])
+all-at P [] l h k = absurd (omega arith)
+all-at P (vs ∷ vss) zero h k = h .0
+all-at P (vs ∷ vss) (suc l) h k = all-at P vss l (h .1) (omega arith)
+
+pub line-length : (ns : List (List ℕ)) (vss : List (List Value)) (l : ℕ) → Rules ns vss → l < length vss → length (getD vss l []) ≡ length ns
+line-length ns vss l r = all-at (λ vs. length vs ≡ length ns) vss l (r .values)

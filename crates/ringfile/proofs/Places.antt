@@ -1,0 +1,148 @@
+-- Where the names of an accepted file stand.
+use mathlib.Core.Path.{_≡_, refl, sym, _∙_, ap, ap₂, subst}
+use mathlib.Core.Logic.{_⊎_, inl, inr}
+use mathlib.Core.Bool.{Bool, true, false, cond}
+use mathlib.Core.List.{List, [], _∷_, _++_, append-assoc}
+use Prim.Native.Nat.{ℕ, zero, suc, _+_, _-_, _≤_, _<_}
+use native.Mathlib.Omega.{arith}
+use native.Mathlib.Numerals.{add-one}
+use lib.Dec.{eqb}
+use lib.ListN.{length, length-append, length-take, take, drop, getD, drop-of-length-le}
+use lib.Seq.{drop-cons, take-append-seam, drop-append-add}
+use borrow.Author.Tests.{eq-eqb, ne-eqb}
+use Rattle.orders.specs.Lists.{All}
+use Rattle.ringfile.specs.RingFile.{NameByte, Name, Value, further, line, value-lines, file-bytes, Rules}
+use Rattle.ringfile.specs.Words.{word-length, word-end, Word, place-of}
+use Rattle.ringfile.proofs.Words.{no-space, no-end}
+use Rattle.ringfile.proofs.Slices.{word-at, rest-is, after-space, part-len}
+
+pub end-none : (x : List ℕ) → length x ≡ 0 → 0 ≡ word-end x
+end-none [] h = refl
+end-none (b ∷ x) h = absurd (omega arith)
+
+pub end-space : (x : List ℕ) → 1 ≤ length x → getD x 0 0 ≡ 32 → 0 ≡ word-end x
+end-space [] h e = absurd (omega arith)
+end-space (b ∷ x) h e = sym (ap (λ c. cond c 0 (cond (eqb b 10) 0 (1 + word-end x))) (eq-eqb b 32 e))
+
+pub end-line : (x : List ℕ) → 1 ≤ length x → (getD x 0 0 ≡ 32 → ⊥) → getD x 0 0 ≡ 10 → 0 ≡ word-end x
+end-line [] h n e = absurd (omega arith)
+end-line (b ∷ x) h n e = sym (ap (λ c. cond c 0 (cond (eqb b 10) 0 (1 + word-end x))) (ne-eqb b 32 n) ∙ ap (λ c. cond c 0 (1 + word-end x)) (eq-eqb b 10 e))
+
+end-cons : (b : ℕ) (x : List ℕ) → (b ≡ 32 → ⊥) → (b ≡ 10 → ⊥) → word-end (b ∷ x) ≡ 1 + word-end x
+end-cons b x n m = ap (λ c. cond c 0 (cond (eqb b 10) 0 (1 + word-end x))) (ne-eqb b 32 n) ∙ ap (λ c. cond c 0 (1 + word-end x)) (ne-eqb b 10 m)
+
+pub end-next : (x : List ℕ) → 1 ≤ length x → (getD x 0 0 ≡ 32 → ⊥) → (getD x 0 0 ≡ 10 → ⊥) → 1 + word-end (take (length x - 1) (drop 1 x)) ≡ word-end x
+end-next [] h n m = absurd (omega arith)
+end-next (b ∷ x) h n m = ap (λ l. 1 + word-end l) (rest-is 1 (b ∷ x)) ∙ sym (end-cons b x n m)
+
+pub end-le : (x : List ℕ) → word-end x ≤ length x
+end-le [] = omega arith
+end-le (b ∷ x) = go (eqb b 32) (eqb b 10) (end-le x)
+  where
+    go : (c d : Bool) → word-end x ≤ length x → cond c 0 (cond d 0 (1 + word-end x)) ≤ suc (length x)
+    go true d h = omega arith
+    go false true h = omega arith
+    go false false h = omega arith
+
+-- A name ends where a space or a line end follows.
+end-at : (w : List ℕ) (b : ℕ) (z : List ℕ) → All NameByte w → 0 ≡ word-end (b ∷ z) → word-end (w ++ (b ∷ z)) ≡ length w
+end-at [] b z h e = sym e
+end-at (a ∷ w) b z h e = end-cons a (w ++ (b ∷ z)) (no-space a (h .0)) (no-end a (h .0)) ∙ omega (arith, end-at w b z (h .1) e)
+
+-- From the start of name k on: the name, then a space or a line end.
+pub record Named (x w : List ℕ) : Type 0 where
+  pub size : word-end x ≡ length w
+  pub is : take (length w) x ≡ w
+
+named : (w : List ℕ) (b : ℕ) (z : List ℕ) → All NameByte w → 0 ≡ word-end (b ∷ z) → Named (w ++ (b ∷ z)) w
+named w b z h e = record { size = end-at w b z h e; is = take-append-seam w (b ∷ z) }
+
+first-named : (w : List ℕ) (ws : List (List ℕ)) (t : List ℕ) → All NameByte w → Named (line (w ∷ ws) ++ t) w
+first-named w [] t h = subst (λ l. Named l w) (sym (append-assoc w (10 ∷ []) t)) (named w 10 t h refl)
+first-named w (v ∷ ws) t h = subst (λ l. Named l w) (sym (append-assoc w (further (v ∷ ws)) t)) (named w 32 (line (v ∷ ws) ++ t) h refl)
+
+-- Past a name and its space.
+past : (w : List ℕ) (p : ℕ) (y t : List ℕ) → drop (length w + 1 + p) ((w ++ (32 ∷ y)) ++ t) ≡ drop p (y ++ t)
+past w p y t =
+    let e : (w ++ (32 ∷ y)) ++ t ≡ (w ++ (32 ∷ [])) ++ (y ++ t) = simp append-assoc in
+    let n : length w + 1 + p ≡ length (w ++ (32 ∷ [])) + p = omega (arith, length-append w (32 ∷ [])) in
+    ap₂ (λ j l. drop j l) n e ∙ drop-append-add (w ++ (32 ∷ [])) (y ++ t) p
+
+pub at-place : (ws : List (List ℕ)) (k : ℕ) (t : List ℕ) → All Name ws → k < length ws → Named (drop (place-of ws k) (line ws ++ t)) (getD ws k [])
+at-place [] k t h l = absurd (omega arith)
+at-place (w ∷ ws) zero t h l = first-named w ws t (h .0 .each)
+at-place (w ∷ []) (suc k) t h l = absurd (omega arith)
+at-place (w ∷ (v ∷ ws)) (suc k) t h l =
+    subst (λ x. Named x (getD (v ∷ ws) k [])) (sym (past w (place-of (v ∷ ws) k) (line (v ∷ ws)) t)) (at-place (v ∷ ws) k t (h .1) (omega arith))
+
+-- The place, range the front.
+pub place-zero : (ws : List (List ℕ)) (k : ℕ) → k ≡ 0 → 0 ≡ place-of ws k
+place-zero [] k e = refl
+place-zero (w ∷ ws) zero e = refl
+place-zero (w ∷ ws) (suc k) e = absurd (omega arith)
+
+module _ (x t : List ℕ) (n k : ℕ) (q : n ≡ word-length x) (k1 : 1 ≤ k) where
+  pub place-next : (ws : List (List ℕ)) (r : ℕ) → All Word ws → x ≡ line ws ++ t → k < length ws
+      → ((vs : List (List ℕ)) → All Word vs → after-space n x ≡ line vs ++ t → k - 1 < length vs → r ≡ place-of vs (k - 1)) → n + 1 + r ≡ place-of ws k
+  place-next [] r h e l g = absurd (omega arith)
+  place-next (w ∷ []) r h e l g = absurd (omega arith)
+  place-next (w ∷ (v ∷ ws)) r h e l g = go k k1 l g
+    where
+      size : n ≡ length w
+      size = q ∙ ap word-length (e ∙ append-assoc w (further (v ∷ ws)) t) ∙ word-at w (line (v ∷ ws) ++ t) (h .0)
+
+      tail : after-space n x ≡ line (v ∷ ws) ++ t
+      tail =
+          let m : n + 1 ≡ length w + 1 + 0 = omega (arith, size) in
+          rest-is (n + 1) x ∙ ap₂ (λ j l. drop j l) m e ∙ past w 0 (line (v ∷ ws)) t
+
+      go : (j : ℕ) → 1 ≤ j → j < length (w ∷ (v ∷ ws)) → ((vs : List (List ℕ)) → All Word vs → after-space n x ≡ line vs ++ t → j - 1 < length vs → r ≡ place-of vs (j - 1)) → n + 1 + r ≡ place-of (w ∷ (v ∷ ws)) j
+      go zero j1 m f = absurd (omega arith)
+      go (suc j) j1 m f =
+          let p : suc j - 1 ≡ j = omega arith in
+          let s : r ≡ place-of (v ∷ ws) j = f (v ∷ ws) (h .1) tail (omega arith) ∙ ap (λ i. place-of (v ∷ ws) i) p in
+          omega (arith, size, s)
+
+  pub place-odd : {A : Type 0} (ws : List (List ℕ)) → All Word ws → x ≡ line ws ++ t → k < length ws → length x ≤ n → A
+  place-odd [] h e l g = absurd (omega arith)
+  place-odd (w ∷ []) h e l g = absurd (omega arith)
+  place-odd (w ∷ (v ∷ ws)) h e l g =
+      let u : x ≡ w ++ (32 ∷ (line (v ∷ ws) ++ t)) = e ∙ append-assoc w (further (v ∷ ws)) t in
+      absurd (omega (arith, q, ap word-length u, word-at w (line (v ∷ ws) ++ t) (h .0), ap length u, length-append w (32 ∷ (line (v ∷ ws) ++ t))))
+
+-- The name that the code cuts out.
+pub name-there : (x : List ℕ) (ns : List (List ℕ)) (vss : List (List Value)) (k s n : ℕ) → Rules ns vss → x ≡ file-bytes ns vss → k < length ns → s ≡ place-of ns k
+    → n ≡ word-end (take (length x - s) (drop s x)) → take (s + n - s) (drop s x) ≡ getD ns k []
+name-there x ns vss k s n r e l p q =
+    let d = at-place ns k (value-lines vss) (r .names .each) l in
+    let f : drop s x ≡ drop (place-of ns k) (file-bytes ns vss) = ap₂ (λ j y. drop j y) p e in
+    let m : n ≡ length (getD ns k []) = q ∙ ap word-end (rest-is s x ∙ f) ∙ d .size in
+    part-len s n x ∙ ap₂ (λ j y. take j y) m f ∙ d .is
+
+pub end-inside : (x : List ℕ) (s n : ℕ) → s ≤ length x → n ≡ word-end (take (length x - s) (drop s x)) → s + n ≤ length x
+end-inside x s n h q = omega (arith, q, end-le (take (length x - s) (drop s x)), length-take (length x - s) (drop s x))
+
+-- word-end, by a loop.
+pub end-on-loop : (x : List ℕ) (i : ℕ) → i < length x → (getD x i 0 ≡ 32 → ⊥) → (getD x i 0 ≡ 10 → ⊥) → word-end x ≡ i + word-end (drop i x) → word-end x ≡ (i + 1) + word-end (drop (i + 1) x)
+end-on-loop x i h n m e =
+    let s : word-end (drop i x) ≡ 1 + word-end (drop (suc i) x) = ap word-end (drop-cons x i 0 h) ∙ end-cons (getD x i 0) (drop (suc i) x) n m in
+    let t : word-end (drop (suc i) x) ≡ word-end (drop (i + 1) x) = ap (λ j. word-end (drop j x)) (sym (add-one i)) in
+    omega (arith, e, s, t)
+
+pub end-hit : (x : List ℕ) (i : ℕ) → i < length x → (getD x i 0 ≡ 32) ⊎ (getD x i 0 ≡ 10) → word-end x ≡ i + word-end (drop i x) → i ≡ word-end x
+end-hit x i h n e =
+    let s : word-end (drop i x) ≡ 0 = ap word-end (drop-cons x i 0 h) ∙ stop (getD x i 0) (drop (suc i) x) n in
+    omega (arith, e, s)
+  where
+    stop : (b : ℕ) (z : List ℕ) → (b ≡ 32) ⊎ (b ≡ 10) → word-end (b ∷ z) ≡ 0
+    stop b z (inl q) = ap (λ k. word-end (k ∷ z)) q
+    stop b z (inr q) = ap (λ k. word-end (k ∷ z)) q
+
+pub end-out : (x : List ℕ) (i : ℕ) → length x ≤ i → word-end x ≡ i + word-end (drop i x) → i ≡ word-end x
+end-out x i h e =
+    let s : word-end (drop i x) ≡ 0 = ap word-end (drop-of-length-le x h) in
+    omega (arith, e, s)
+
+-- More names than there may be.
+pub no-name : {A : Type 0} (ns : List (List ℕ)) (vss : List (List Value)) (k : ℕ) → Rules ns vss → k < length ns → 256 ≤ k → A
+no-name ns vss k r l h = absurd (omega (arith, r .names .few-names))
