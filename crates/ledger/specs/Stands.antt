@@ -1,6 +1,6 @@
 -- The ring in lent tables, and what joining a line's group to it comes to.
 use mathlib.Core.Path.{_≡_}
-use mathlib.Core.List.{List}
+use mathlib.Core.List.{List, map}
 use Prim.Native.Nat.{ℕ, _-_, _≤_}
 use lib.ListN.{length, take, drop}
 use Rattle.orders.specs.CircularOrder.{WellFormed}
@@ -9,7 +9,8 @@ use Rattle.orders.specs.Form.{InForm}
 use Rattle.calls.specs.Book.{groups}
 use Rattle.tokens.specs.Tokens.{Wrote}
 use Rattle.parts.specs.Writers.{flat}
-use Rattle.ledger.specs.Ledger.{Outcome, kept, refused, empty, full, State}
+use Rattle.ringfile.specs.RingFile.{leaves-on, Holds}
+use Rattle.ledger.specs.Ledger.{Outcome, kept, refused, empty, full, State, state-at}
 use Rattle.ledger.specs.declared.Tried.{Tried}
 use Rattle.ledger.specs.declared.Tried.the-variants.{Kept, Stays}
 
@@ -35,3 +36,15 @@ pub data Answers : Outcome → List ℕ → List ℕ → Tried → Type 0 where
   is-refused : {ns old new : List ℕ} → Answers (refused ns) old new Stays
   is-empty : {old new : List ℕ} → Answers empty old new Stays
   is-full : {old new : List ℕ} → Answers full old new Stays
+
+-- The groups of an accepted file, in the sequence of its lines.
+abbrev pub lists-of : {x : List ℕ} {n h l : ℕ} → Holds x n h l → List (List ℕ)
+lists-of f = map leaves-on (f .vss)
+
+-- The tables hold the ring after the first l group lines of the file.
+abbrev pub StandsAt : {x : List ℕ} {n h k : ℕ} → Holds x n h k → ℕ → List ℕ → ℕ → List ℕ → List ℕ → ℕ → Type 0
+StandsAt {n = n} f l toks m book table count = Stands n (state-at n (lists-of f) l) toks m book table count
+
+-- The tables are long enough for any ring.
+abbrev pub Tables : List ℕ → List ℕ → List ℕ → Type 0
+Tables toks book table = (512 ≤ length toks) × (384 ≤ length book) × (96 ≤ length table)
