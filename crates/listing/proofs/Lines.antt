@@ -1,16 +1,17 @@
 -- The printed lines by their numbers, and the ring after so many group lines.
 use mathlib.Core.Path.{_≡_, refl, sym, ap, _∙_}
-use mathlib.Core.List.{List, [], _∷_, _++_, map, append-assoc}
+use mathlib.Core.List.{List, [], _∷_, _++_, append-assoc}
 use Prim.Native.Nat.{ℕ, zero, suc, _+_, _-_, _≤_, _<_}
 use native.Mathlib.Omega.{arith}
 use native.Mathlib.Numerals.{add-one}
 use lib.ListN.{length, getD, take, drop, length-append, length-drop, List·getD-append}
 use lib.Seq.{take-length, take-suc, getD-append-add, getD-drop}
 use Rattle.orders.specs.Form.{standard}
-use Rattle.orders.specs.TreeText.{digits, tree-text}
+use Rattle.orders.specs.TreeText.{digits}
 use Rattle.orders.specs.Circles.{bytes}
 use Rattle.ledger.specs.Ledger.{State, opened, outcome, next, run, state-at}
-use Rattle.listing.specs.Listing.{spaces, name, fields, group-lines, listing, printed}
+use Rattle.listing.specs.Listing.{fields, group-lines, listing, printed}
+use Rattle.listing.specs.Printing.{group-line, final, ending}
 
 -- The group lines.
 module _ (names : List (List ℕ)) (ord : List ℕ) where
@@ -30,50 +31,49 @@ module _ (names : List (List ℕ)) (ord : List ℕ) where
       let e : k + suc l ≡ suc k + l = omega arith in
       rw e (group-at (next s k list (outcome (length names) s list)) (suc k) lists l (omega arith))
 
-  -- What is printed of group line l, from 0.
-  abbrev pub group-line : List (List ℕ) → ℕ → List ℕ
-  group-line lists l =
-      digits (l + 1) ++ fields names ord (state-at (length names) lists l) (getD lists l []) (outcome (length names) (state-at (length names) lists l) (getD lists l []))
-
   pub line-at : (lists : List (List ℕ)) (l : ℕ) → l < length lists
-      → getD (group-lines names ord (opened (length names)) 1 lists) l [] ≡ group-line lists l
-  unfolding state-at
+      → getD (group-lines names ord (opened (length names)) 1 lists) l [] ≡ group-line names ord lists l
+  unfolding state-at group-line
   line-at lists l h =
       let e : 1 + l ≡ l + 1 = omega arith in
       group-at (opened (length names)) 1 lists l h ∙ rw e
 
 -- The whole listing.
 module _ (names lists : List (List ℕ)) where
-  abbrev pub final : List ℕ
-  final = standard (run (length names) (opened (length names)) 1 lists .tree)
-
-  abbrev pub ending : List (List ℕ)
-  ending = bytes "order" ∷ spaces (map (name names) final) ∷ bytes "tree" ∷ tree-text (run (length names) (opened (length names)) 1 lists .tree) ∷ []
+  abbrev ord : List ℕ
+  ord = standard (final names lists)
 
   groups-printed : List (List ℕ)
-  groups-printed = group-lines names final (opened (length names)) 1 lists
+  groups-printed = group-lines names ord (opened (length names)) 1 lists
+
+  groups-length : length groups-printed ≡ length lists
+  unfolding groups-printed
+  groups-length = group-length names ord (opened (length names)) 1 lists
+
+  parts : listing names lists ≡ bytes "line answer aim conflict" ∷ (groups-printed ++ ending names (final names lists))
+  unfolding listing groups-printed final ending
+  parts = refl
 
   pub listing-length : length (listing names lists) ≡ length lists + 5
-  unfolding listing groups-printed
-  listing-length = omega (arith, length-append groups-printed ending, group-length names final (opened (length names)) 1 lists)
+  unfolding ending
+  listing-length = rw parts (omega (arith, length-append groups-printed (ending names (final names lists)), groups-length))
 
   pub head-line : getD (listing names lists) 0 [] ≡ bytes "line answer aim conflict"
-  unfolding listing
-  head-line = refl
+  head-line = rw parts
 
   -- Group line l.
-  pub middle-line : (l : ℕ) → l < length lists → getD (listing names lists) (l + 1) [] ≡ group-line names final lists l
-  unfolding listing groups-printed
+  pub middle-line : (l : ℕ) → l < length lists → getD (listing names lists) (l + 1) [] ≡ group-line names ord lists l
+  unfolding groups-printed
   middle-line l h =
-      ap (λ (k : ℕ). getD (listing names lists) k []) (add-one l)
-      ∙ List·getD-append groups-printed ending [] l (omega (arith, group-length names final (opened (length names)) 1 lists))
-      ∙ line-at names final lists l h
+      rw parts
+      (ap (λ (k : ℕ). getD (bytes "line answer aim conflict" ∷ (groups-printed ++ ending names (final names lists))) k []) (add-one l)
+      ∙ List·getD-append groups-printed (ending names (final names lists)) [] l (omega (arith, groups-length))
+      ∙ line-at names ord lists l h)
 
-  pub end-line : (j : ℕ) → getD (listing names lists) (length lists + 1 + j) [] ≡ getD ending j []
-  unfolding listing groups-printed
+  pub end-line : (j : ℕ) → getD (listing names lists) (length lists + 1 + j) [] ≡ getD (ending names (final names lists)) j []
   end-line j =
-      let e : length lists + 1 + j ≡ suc (length groups-printed + j) = omega (arith, group-length names final (opened (length names)) 1 lists) in
-      rw e (getD-append-add groups-printed ending j [])
+      let e : length lists + 1 + j ≡ suc (length groups-printed + j) = omega (arith, groups-length) in
+      rw (parts, e) (getD-append-add groups-printed (ending names (final names lists)) j [])
 
 -- One printed line more.
 printed-append : (a b : List (List ℕ)) → printed (a ++ b) ≡ printed a ++ printed b

@@ -9,25 +9,28 @@ use Rattle.orders.specs.Aim.{aim-of}
 use Rattle.orders.specs.Circles.{bytes}
 use Rattle.ledger.specs.Ledger.{Outcome, kept, refused, empty, full, State, opened, outcome, next, run}
 
--- Numbers joined by commas; names with one space between.
-abbrev pub commas : List ℕ → List ℕ
-commas [] = []
-commas (x ∷ []) = digits x
-commas (x ∷ (y ∷ l)) = digits x ++ (44 ∷ commas (y ∷ l))
+-- Words with one byte between.
+abbrev pub between : ℕ → List (List ℕ) → List ℕ
+between c [] = []
+between c (w ∷ []) = w
+between c (w ∷ (v ∷ ws)) = w ++ (c ∷ between c (v ∷ ws))
 
-abbrev pub spaces : List (List ℕ) → List ℕ
-spaces [] = []
-spaces (w ∷ []) = w
-spaces (w ∷ (v ∷ ws)) = w ++ (32 ∷ spaces (v ∷ ws))
-
+-- The name of leaf b; "the names with one space between".
 abbrev pub name : List (List ℕ) → ℕ → List ℕ
 name names b = getD names (b - 1) []
+
+abbrev pub spaced : List (List ℕ) → List ℕ → List ℕ
+spaced names order = between 32 (map (name names) order)
+
+-- "The input lines, joined by commas": those of the groups with these numbers, where group 1 has the first of the lines.
+abbrev pub commas : List ℕ → List ℕ → List ℕ
+commas lines numbers = between 44 (map (λ j. digits (getD lines (j - 1) 0)) numbers)
 
 -- "Fields: group line from 1; `kept`, `refused`, `empty` or `full`; the aim's name in the final order; the input lines in conflict, rising,
 -- joined by commas. `-` marks a field that does not apply." What follows the line's number.
 unfoldable pub fields : List (List ℕ) → List ℕ → State → List ℕ → Outcome → List ℕ
 fields names ord s list (kept t) = bytes " kept " ++ (name names (aim-of (elem list) ord) ++ bytes " -")
-fields names ord s list (refused ns) = bytes " refused - " ++ commas (map (λ j. getD (s .lines) (j - 1) 0) ns)
+fields names ord s list (refused ns) = bytes " refused - " ++ commas (s .lines) ns
 fields names ord s list empty = bytes " empty - -"
 fields names ord s list full = bytes " full - -"
 
@@ -43,7 +46,7 @@ listing names lists =
     let n = length names in
     let t = run n (opened n) 1 lists .tree in
     bytes "line answer aim conflict"
-    ∷ (group-lines names (standard t) (opened n) 1 lists ++ (bytes "order" ∷ spaces (map (name names) (standard t)) ∷ bytes "tree" ∷ tree-text t ∷ []))
+    ∷ (group-lines names (standard t) (opened n) 1 lists ++ (bytes "order" ∷ spaced names (standard t) ∷ bytes "tree" ∷ tree-text t ∷ []))
 
 -- "A malformed file gives only `error 11 at byte B`."
 unfoldable pub error-line : ℕ → List ℕ

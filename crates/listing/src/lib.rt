@@ -1,0 +1,2 @@
+// The listing of a ring file, printed line by line to lent bytes.
+mod fields;
