@@ -1,6 +1,2 @@
 pub mod Sample
 pub mod Lines
-pub mod Words
-pub mod Conflicting
-pub mod Aiming
-pub mod Telling

@@ -10,7 +10,8 @@ use Rattle.orders.specs.Form.{standard}
 use Rattle.orders.specs.TreeText.{digits}
 use Rattle.orders.specs.Circles.{bytes}
 use Rattle.ledger.specs.Ledger.{State, opened, outcome, next, run, state-at}
-use Rattle.listing.specs.Listing.{fields, group-lines, listing, printed}
+use Rattle.fields.specs.Fields.{fields}
+use Rattle.listing.specs.Listing.{group-lines, listing, printed}
 use Rattle.listing.specs.Printing.{group-line, final, ending}
 
 -- The group lines.

@@ -10,7 +10,8 @@ use Rattle.orders.specs.Conflict.{consecutive?, possible?, leave-out, conflict-
 use Rattle.orders.specs.Aim.{run-start, aim-of}
 use Rattle.orders.specs.Circles.{bytes}
 use Rattle.ledger.specs.Ledger.{outcome, run}
-use Rattle.listing.specs.Listing.{fields, group-lines, listing, printed}
+use Rattle.fields.specs.Fields.{fields}
+use Rattle.listing.specs.Listing.{group-lines, listing, printed}
 
 pub sample-right : same
     (printed (listing (bytes "A" ∷ bytes "B" ∷ bytes "C" ∷ bytes "D" ∷ bytes "E" ∷ []) ((1 ∷ 3 ∷ []) ∷ (3 ∷ 5 ∷ []) ∷ (1 ∷ 5 ∷ []) ∷ (2 ∷ 4 ∷ []) ∷ [])))

@@ -1,24 +1,15 @@
 -- The printed lines by their numbers, and what the functions that print them read.
-use mathlib.Core.Path.{_≡_}
 use mathlib.Core.List.{List, [], _∷_, _++_}
 use Prim.Native.Nat.{ℕ, _+_, _-_, _≤_}
 use lib.ListN.{length, getD}
 use Rattle.orders.specs.Tree.{Forest}
-use Rattle.orders.specs.Form.{InForm, standard}
+use Rattle.orders.specs.Form.{standard}
 use Rattle.orders.specs.TreeText.{digits, tree-text}
 use Rattle.orders.specs.Circles.{bytes}
 use Rattle.ringfile.specs.RingFile.{Holds}
 use Rattle.ledger.specs.Ledger.{opened, outcome, run, state-at}
 use Rattle.ledger.specs.Stands.{StandsAt}
-use Rattle.listing.specs.Listing.{spaced, fields}
-
--- The standard order of a tree in form for n leaves, 1 to 256.
-pub record Ordered (n : ℕ) (order : List ℕ) : Type 0 where
-  pub tree : Forest
-  pub form : InForm n tree
-  pub is : order ≡ standard tree
-  pub some-leaf : 1 ≤ n
-  pub few-leaves : n ≤ 256
+use Rattle.fields.specs.Fields.{spaced, fields}
 
 -- The line of group line l, from 0, without its byte 10.
 unfoldable pub group-line : List (List ℕ) → List ℕ → List (List ℕ) → ℕ → List ℕ

@@ -1,2 +1,1 @@
 // The listing of a ring file, printed line by line to lent bytes.
-mod fields;

@@ -17,7 +17,7 @@ use Rattle.calls.specs.Calls.{conflicts-of}
 use Rattle.ledger.specs.Ledger.{Outcome, kept, refused, State, joined, outcome, next}
 use Rattle.ledger.specs.Stands.{Stands}
 use Rattle.ledger.proofs.Outcomes.{outcome-empty, outcome-full, outcome-joined}
-use Rattle.listing.specs.Listing.{name, commas, fields}
+use Rattle.fields.specs.Fields.{name, commas, fields}
 
 module _ (names : List (List ℕ)) (ord : List ℕ) (n : ℕ) (s : State) (list : List ℕ) where
   pub tells-empty : length list ≡ 0 → bytes " empty - -" ≡ fields names ord s list (outcome n s list)

@@ -2,14 +2,14 @@ use mathlib.Core.Path.{sym, _∙_}
 use native.Mathlib.Omega.{arith}
 use denote.Ref.{now}
 use Rattle.output.proofs.Laws.{appends-as}
-use Rattle.listing.proofs.Telling.{tells-empty, tells-full, tells-kept, tells-refused}
+use Rattle.fields.proofs.Telling.{tells-empty, tells-full, tells-kept, tells-refused}
 use borrow.Author.Needs.{needs}
-use Rattle.listing.proofs.fields.put_fields.Statement.{statement}
-use Rattle.listing.proofs.fields.put_fields.Tie as tie
-use Rattle.listing.proofs.fields.put_fields.Reads as reads
-use Rattle.listing.proofs.fields.put_fields.Lts as lts
-use Rattle.listing.proofs.fields.put_kept.Reads as put-kept-reads
-use Rattle.listing.proofs.fields.put_refused.Reads as put-refused-reads
+use Rattle.fields.proofs.put_fields.Statement.{statement}
+use Rattle.fields.proofs.put_fields.Tie as tie
+use Rattle.fields.proofs.put_fields.Reads as reads
+use Rattle.fields.proofs.put_fields.Lts as lts
+use Rattle.fields.proofs.put_kept.Reads as put-kept-reads
+use Rattle.fields.proofs.put_refused.Reads as put-refused-reads
 use Rattle.output.proofs.put.Reads as put-reads
 
 slice-aggregate-put : tie.Need-slice-aggregate-put

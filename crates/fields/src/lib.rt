@@ -12,8 +12,8 @@ ghost use Rattle.output.specs.Appends.{Appends};
 ghost use Rattle.ringfile.specs.RingFile.{Holds};
 ghost use Rattle.ledger.specs.Ledger.{State, outcome, next};
 ghost use Rattle.ledger.specs.Stands.{Stands, Line};
-ghost use Rattle.listing.specs.Listing.{spaced, name, commas, fields};
-ghost use Rattle.listing.specs.Printing.{Ordered};
+ghost use Rattle.fields.specs.Fields.{spaced, name, commas, fields};
+ghost use Rattle.fields.specs.Ordered.{Ordered};
 use output::put;
 use output::put_number;
 

@@ -8,14 +8,14 @@ use Rattle.orders.specs.CircularOrder.{Restriction}
 use Rattle.orders.specs.Aim.{aim-of}
 use Rattle.output.proofs.Laws.{appends-then, appends-as}
 use Rattle.ringfile.specs.RingFile.{Holds}
-use Rattle.listing.specs.Listing.{name}
-use Rattle.listing.proofs.Words.{name-few}
-use Rattle.listing.proofs.Aiming.{same-group, aim-range, kept-within}
+use Rattle.fields.specs.Fields.{name}
+use Rattle.fields.proofs.Words.{name-few}
+use Rattle.fields.proofs.Aiming.{same-group, aim-range, kept-within}
 use borrow.Author.Needs.{needs}
-use Rattle.listing.proofs.fields.put_kept.Statement.{statement}
-use Rattle.listing.proofs.fields.put_kept.Tie as tie
-use Rattle.listing.proofs.fields.put_kept.Reads as reads
-use Rattle.listing.proofs.fields.put_kept.Lts as lts
+use Rattle.fields.proofs.put_kept.Statement.{statement}
+use Rattle.fields.proofs.put_kept.Tie as tie
+use Rattle.fields.proofs.put_kept.Reads as reads
+use Rattle.fields.proofs.put_kept.Lts as lts
 use Rattle.aim.proofs.middle.Reads as middle-reads
 use Rattle.marks.proofs.mark_list.Reads as mark-list-reads
 use Rattle.output.proofs.put.Reads as put-reads

@@ -13,7 +13,7 @@ use Rattle.orders.specs.Lists.{All}
 use Rattle.orders.specs.TreeText.{digits}
 use Rattle.orders.proofs.Digits.{digits-one, digits-step}
 use Rattle.ringfile.specs.RingFile.{Name, Holds}
-use Rattle.listing.specs.Listing.{between}
+use Rattle.fields.specs.Fields.{between}
 
 -- What stands after the first element.
 abbrev pub tail : List ℕ → List ℕ

@@ -8,15 +8,15 @@ use Rattle.calls.specs.Calls.{conflicts-of}
 use Rattle.tokens.proofs.Writes.{read-part, wrote-most}
 use Rattle.output.proofs.Laws.{appends-then, appends-as}
 use Rattle.conflict.proofs.Call.{list-few}
-use Rattle.listing.specs.Listing.{commas}
-use Rattle.listing.proofs.Conflicting.{conflicts-all}
+use Rattle.fields.specs.Fields.{commas}
+use Rattle.fields.proofs.Conflicting.{conflicts-all}
 use borrow.Author.Needs.{needs}
-use Rattle.listing.proofs.fields.put_refused.Statement.{statement}
-use Rattle.listing.proofs.fields.put_refused.Tie as tie
-use Rattle.listing.proofs.fields.put_refused.Reads as reads
-use Rattle.listing.proofs.fields.put_refused.Lts as lts
+use Rattle.fields.proofs.put_refused.Statement.{statement}
+use Rattle.fields.proofs.put_refused.Tie as tie
+use Rattle.fields.proofs.put_refused.Reads as reads
+use Rattle.fields.proofs.put_refused.Lts as lts
 use Rattle.conflict.proofs.find.Reads as find-reads
-use Rattle.listing.proofs.fields.put_conflicts.Reads as put-conflicts-reads
+use Rattle.fields.proofs.put_conflicts.Reads as put-conflicts-reads
 use Rattle.output.proofs.put.Reads as put-reads
 
 -- The numbers that were found.
