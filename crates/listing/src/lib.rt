@@ -105,3 +105,44 @@ fn print_end(
     }
     output::put_tree(tree, out, at)
 }
+
+// Prints line i of the listing without its line end. The ring in the tables is the one before the line; a group line joins its group to it.
+fn print_line(
+    file: &[u8],
+    names: usize,
+    head: usize,
+    lines: usize,
+    i: usize,
+    tree: &[u16],
+    order: &[u16],
+    ring: Ring,
+    toks: &mut [u16],
+    book: &mut [u64],
+    table: &mut [usize],
+    out: &mut [u8],
+    at: usize,
+) -> Printed
+    requires { ⌜ ((f : Holds (now file) names head lines) × (Before f i (now toks) (ring .tokens) (now book) (now table) (ring .count))
+        × (Tables (now toks) (now book) (now table)) × (Published names (now tree)) × (Ordered names (now order)) × (at + 4096 ≤ length (now out))) ⌝ }
+    ensures { λ r. ⌜ (r .at ≤ at + 4095) × ((f : Holds (now (file .entry)) names head lines)
+        → Before f i (now (toks .entry)) (ring .tokens) (now (book .entry)) (now (table .entry)) (ring .count)
+        → Final f (now (tree .entry)) (now (order .entry)) → i < lines + 5
+        → (Before f (i + 1) (now (toks .exit)) (r .tokens) (now (book .exit)) (now (table .exit)) (r .count))
+        × (Appends (getD (listing (f .ns) (lists-of f)) i []) at (now (out .entry)) (now (out .exit)) (r .at))) ⌝ }
+{
+    if i == 0 {
+        return Printed {
+            at: put(b"line answer aim conflict", out, at),
+            tokens: ring.tokens,
+            count: ring.count,
+        };
+    }
+    if i <= lines {
+        return print_group(file, names, head, lines, i - 1, order, ring, toks, book, table, out, at);
+    }
+    Printed {
+        at: print_end(file, names, head, lines, i - lines - 1, tree, order, out, at),
+        tokens: ring.tokens,
+        count: ring.count,
+    }
+}
