@@ -1,3 +1,4 @@
 pub mod Sample
 pub mod Lines
 pub mod Printing
+pub mod Parts

@@ -138,11 +138,90 @@ fn print_line(
         };
     }
     if i <= lines {
-        return print_group(file, names, head, lines, i - 1, order, ring, toks, book, table, out, at);
+        return print_group(
+            file,
+            names,
+            head,
+            lines,
+            i - 1,
+            order,
+            ring,
+            toks,
+            book,
+            table,
+            out,
+            at,
+        );
     }
     Printed {
-        at: print_end(file, names, head, lines, i - lines - 1, tree, order, out, at),
+        at: print_end(
+            file,
+            names,
+            head,
+            lines,
+            i - lines - 1,
+            tree,
+            order,
+            out,
+            at,
+        ),
         tokens: ring.tokens,
         count: ring.count,
     }
+}
+
+// Prints lines of the listing, each with its line end, from the one with number `from` on, while 4,096 bytes are left for a line. The ring in
+// the tables is the one before that line.
+fn print_lines(
+    file: &[u8],
+    names: usize,
+    head: usize,
+    lines: usize,
+    from: usize,
+    tree: &[u16],
+    order: &[u16],
+    first: Ring,
+    toks: &mut [u16],
+    book: &mut [u64],
+    table: &mut [usize],
+    out: &mut [u8],
+) -> Part
+    requires { ⌜ ((f : Holds (now file) names head lines) × (Before f from (now toks) (first .tokens) (now book) (now table) (first .count))
+        × (Final f (now tree) (now order)) × (Tables (now toks) (now book) (now table)) × (Published names (now tree)) × (Ordered names (now order))) ⌝ }
+    ensures { λ r. ⌜ ((f : Holds (now (file .entry)) names head lines)
+        → Before f from (now (toks .entry)) (first .tokens) (now (book .entry)) (now (table .entry)) (first .count)
+        → Final f (now (tree .entry)) (now (order .entry))
+        → Parts (listing (f .ns) (lists-of f)) from (now (out .entry)) (now (out .exit)) r) ⌝ }
+{
+    let end = lines + 5;
+    let mut ring = first;
+    let mut at = 0;
+    let mut i = from;
+    while i < end {
+        if out.len() - at < 4096 {
+            return Part { bytes: at, next: i };
+        }
+        let p = print_line(
+            file,
+            names,
+            head,
+            lines,
+            i,
+            tree,
+            order,
+            ring,
+            toks,
+            book,
+            table,
+            out,
+            at,
+        );
+        at = put(b"\n", out, p.at);
+        ring = Ring {
+            tokens: p.tokens,
+            count: p.count,
+        };
+        i += 1;
+    }
+    Part { bytes: at, next: i }
 }

@@ -52,8 +52,7 @@ returns-2 : tie.Need-returns-2
 returns-2 c = (
   c .before .before .before .before .before .before .before .before .print-group .ensures .0,
   λ f b e l.
-      let p = c .before .before .before .before .before .before .before .before .print-group .ensures .1 f (b (c .before .before .before .before .before .before .before .before .before .before .before .before .before .if2 .taken)) in
-      (
+      let p = c .before .before .before .before .before .before .before .before .print-group .ensures .1 f (b (c .before .before .before .before .before .before .before .before .before .before .before .before .before .if2 .taken)) in (
         λ q. stands-at f (omega (arith, c .before .before .before .before .before .before .before .before .before .before .before .before .before .before .if1 .left)) (p .0),
         appends-as (listed-group f (e .standard-order) (c .before .before .before .before .before .before .before .before .before .before .before .before .before .before .before .before .before .before .before .before .before .before .args .i) (omega (arith, c .before .before .before .before .before .before .before .before .before .before .before .before .before .before .if1 .left)) (c .before .before .before .before .before .before .before .before .before .before .before .before .before .if2 .taken)) (p .1),
       ),
@@ -77,7 +76,7 @@ returns-3 c = (
   λ f b e l. (
     λ q. absurd (omega (arith, q, c .before .before .before .before .if2 .left)),
     appends-as (listed-end f (c .before .before .before .before .before .before .before .before .before .before .before .before .before .args .i) (omega (arith, c .before .before .before .before .if2 .left)))
-    (c .before .before .print-end .ensures .1 f (final (f .ns) (lists-of f)) (e .tokens) (e .standard-order) (omega (arith, l, c .before .before .before .before .if2 .left))),
+        (c .before .before .print-end .ensures .1 f (final (f .ns) (lists-of f)) (e .tokens) (e .standard-order) (omega (arith, l, c .before .before .before .before .if2 .left))),
   ),
 )
 
