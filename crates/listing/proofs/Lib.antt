@@ -2,3 +2,4 @@ pub mod Sample
 pub mod Lines
 pub mod Printing
 pub mod Parts
+pub mod Answers

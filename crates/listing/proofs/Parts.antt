@@ -7,7 +7,7 @@ use lib.ListN.{length, getD, take, drop, length-append}
 use Rattle.tokens.specs.Tokens.{Wrote}
 use Rattle.tokens.proofs.Writes.{wrote-none}
 use Rattle.ringfile.specs.RingFile.{Value, value-word, further, line, value-lines, file-bytes, Holds}
-use Rattle.listing.specs.declared.Part.{Part}
+use Rattle.listing.specs.declared.Piece.{Piece}
 use Rattle.listing.specs.Listing.{printed}
 use Rattle.listing.specs.Printing.{Parts}
 use Rattle.listing.proofs.Lines.{printed-none, printed-more}

@@ -14,7 +14,7 @@ use Rattle.ledger.specs.Ledger.{opened, outcome, run, state-at}
 use Rattle.ledger.specs.Stands.{lists-of, StandsAt}
 use Rattle.fields.specs.Fields.{spaced, fields}
 use Rattle.listing.specs.Listing.{printed}
-use Rattle.listing.specs.declared.Part.{Part}
+use Rattle.listing.specs.declared.Piece.{Piece}
 
 -- The line of group line l, from 0, without its byte 10.
 unfoldable pub group-line : List (List ℕ) → List ℕ → List (List ℕ) → ℕ → List ℕ
@@ -38,7 +38,7 @@ pub record Final {x : List ℕ} {n h k : ℕ} (f : Holds x n h k) (toks order : 
   pub standard-order : order ≡ standard (final (f .ns) (lists-of f))
 
 -- What a part of the listing holds, of all its lines: from the line with number `from` on, up to the line with number `next`.
-pub record Parts (ls : List (List ℕ)) (from : ℕ) (old new : List ℕ) (p : Part) : Type 0 where
+pub record Parts (ls : List (List ℕ)) (from : ℕ) (old new : List ℕ) (p : Piece) : Type 0 where
   pub forward : from ≤ p .next
   pub wrote : Wrote (printed (take (p .next - from) (drop from ls))) old new (p .bytes)
   pub some-line : from < length ls → 4096 ≤ length old → from < p .next

@@ -1,6 +1,6 @@
 // The listing of a ring file, printed line by line to lent bytes.
 ghost use mathlib.Core.Path.{_≡_};
-ghost use mathlib.Core.List.{[]};
+ghost use mathlib.Core.List.{[], _∷_};
 ghost use Prim.Native.Nat.{_+_, _-_, _≤_, _<_};
 ghost use lib.ListN.{length, getD};
 ghost use Rattle.orders.specs.Tree.{Forest};
@@ -11,13 +11,15 @@ ghost use Rattle.output.specs.Appends.{Appends};
 ghost use Rattle.ringfile.specs.RingFile.{Holds};
 ghost use Rattle.ledger.specs.Stands.{lists-of, StandsAt, Tables};
 ghost use Rattle.fields.specs.Ordered.{Ordered};
-ghost use Rattle.listing.specs.Listing.{listing};
+ghost use Rattle.listing.specs.Listing.{listing, error-line};
+ghost use Rattle.listing.specs.Lists.{Listed};
 ghost use Rattle.listing.specs.Printing.{group-line, ending, Before, Final, Parts};
 use ledger::Ring;
 use output::put;
+use ringfile::Scanned;
 
-// A part of the listing: so many bytes were written; the next part begins with the printed line with this number.
-pub struct Part {
+// What `part` printed: so many bytes were written; the next part begins with the printed line with this number.
+pub struct Piece {
     pub bytes: usize,
     pub next: usize,
 }
@@ -185,7 +187,7 @@ fn print_lines(
     book: &mut [u64],
     table: &mut [usize],
     out: &mut [u8],
-) -> Part
+) -> Piece
     requires { ⌜ ((f : Holds (now file) names head lines) × (Before f from (now toks) (first .tokens) (now book) (now table) (first .count))
         × (Final f (now tree) (now order)) × (Tables (now toks) (now book) (now table)) × (Published names (now tree)) × (Ordered names (now order))) ⌝ }
     ensures { λ r. ⌜ ((f : Holds (now (file .entry)) names head lines)
@@ -199,7 +201,7 @@ fn print_lines(
     let mut i = from;
     while i < end {
         if out.len() - at < 4096 {
-            return Part { bytes: at, next: i };
+            return Piece { bytes: at, next: i };
         }
         let p = print_line(
             file,
@@ -223,5 +225,140 @@ fn print_lines(
         };
         i += 1;
     }
-    Part { bytes: at, next: i }
+    Piece { bytes: at, next: i }
+}
+
+// How many group lines come before printed line i, which is the first line or that of a group.
+fn lines_before(i: usize, lines: usize) -> usize
+    ensures { λ r. ⌜ (r ≤ lines) × (i ≤ lines → r ≡ i - 1) ⌝ }
+{
+    if i == 0 {
+        return 0;
+    }
+    if i > lines {
+        return 0;
+    }
+    i - 1
+}
+
+// Prints the part of the listing from line `from` on, given the tree and the order after all lines.
+fn print_from(
+    file: &[u8],
+    names: usize,
+    head: usize,
+    lines: usize,
+    from: usize,
+    tree: &[u16],
+    order: &[u16],
+    out: &mut [u8],
+) -> Piece
+    requires { ⌜ ((f : Holds (now file) names head lines) × (Final f (now tree) (now order)) × (Published names (now tree)) × (Ordered names (now order))) ⌝ }
+    ensures { λ r. ⌜ ((f : Holds (now (file .entry)) names head lines) → Final f (now (tree .entry)) (now (order .entry))
+        → Parts (listing (f .ns) (lists-of f)) from (now (out .entry)) (now (out .exit)) r) ⌝ }
+{
+    let mut toks = [0u16; 512];
+    let mut book = [0u64; 384];
+    let mut table = [0usize; 96];
+    let before = lines_before(from, lines);
+    let ring = ledger::replay(
+        file,
+        names,
+        head,
+        lines,
+        before,
+        &mut toks,
+        &mut book,
+        &mut table,
+    );
+    print_lines(
+        file,
+        names,
+        head,
+        lines,
+        from,
+        tree,
+        order,
+        ring,
+        &mut toks,
+        &mut book,
+        &mut table,
+        out,
+    )
+}
+
+// Prints the part of an accepted file's listing from line `from` on.
+fn print_listing(
+    file: &[u8],
+    names: usize,
+    head: usize,
+    lines: usize,
+    from: usize,
+    out: &mut [u8],
+) -> Piece
+    requires { ⌜ Holds (now file) names head lines ⌝ }
+    ensures { λ r. ⌜ ((f : Holds (now (file .entry)) names head lines)
+        → Parts (listing (f .ns) (lists-of f)) from (now (out .entry)) (now (out .exit)) r) ⌝ }
+{
+    let mut toks = [0u16; 512];
+    let mut book = [0u64; 384];
+    let mut table = [0usize; 96];
+    let ring = ledger::replay(
+        file,
+        names,
+        head,
+        lines,
+        lines,
+        &mut toks,
+        &mut book,
+        &mut table,
+    );
+    let m = ring.tokens;
+    let mut order = [0u16; 256];
+    let n = order::standard_order(&toks[0..m], &mut order);
+    print_from(
+        file,
+        names,
+        head,
+        lines,
+        from,
+        &toks[0..m],
+        &order[0..n],
+        out,
+    )
+}
+
+// Prints the part of a refused file's listing, its error line alone, from line `from` on.
+fn print_error(byte: usize, from: usize, out: &mut [u8]) -> Piece
+    ensures { λ r. ⌜ Parts (error-line byte ∷ []) from (now (out .entry)) (now (out .exit)) r ⌝ }
+{
+    if from > 0 {
+        return Piece {
+            bytes: 0,
+            next: from,
+        };
+    }
+    if out.len() < 4096 {
+        return Piece {
+            bytes: 0,
+            next: from,
+        };
+    }
+    let a = put(b"error 11 at byte ", out, 0);
+    let b = output::put_number(byte, out, a);
+    Piece {
+        bytes: put(b"\n", out, b),
+        next: 1,
+    }
+}
+
+// Prints a part of the file's listing, from the line with number `from` (0 is the first) on, each line with its line end: lines are printed while
+// 4,096 bytes are left. Past the last line it prints nothing. Returns how many bytes it wrote, and the number of the next line.
+pub fn part(file: &[u8], from: usize, out: &mut [u8]) -> Piece
+    ensures { λ r. ⌜ Listed (now (file .entry)) from (now (out .entry)) (now (out .exit)) r ⌝ }
+{
+    let found = ringfile::scan(file);
+    match found {
+        Scanned::Ring { names, head, lines } => print_listing(file, names, head, lines, from, out),
+        Scanned::Refused(why) => print_error(calls::place(why), from, out),
+    }
 }
