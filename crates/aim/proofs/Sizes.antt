@@ -35,7 +35,7 @@ module _ (G : Restriction) where
   pick-count (here {x = x} {l = l}) = count-cons G x l
   pick-count (there {x = x} {y = y} {l = l} {m = m} p) = omega (arith, count-cons G y l, count-cons G y m, pick-count p)
 
-  perm-count : {l m : List ℕ} → Perm l m → count G l ≡ count G m
+  pub perm-count : {l m : List ℕ} → Perm l m → count G l ≡ count G m
   perm-count done = refl
   perm-count (next {x = x} {m = m} p q) = omega (arith, pick-count p, count-cons G x m, perm-count q)
 
@@ -46,7 +46,7 @@ module _ (G : Restriction) where
       omega (arith, count-cons G a (range (suc a) k), count-past (suc a) k (λ x l. h x (omega arith)))
 
 -- The standard order has the leaves 1 to n.
-all-standard : (n : ℕ) (t : Forest) → InForm n t → 1 ≤ n → Perm (range 1 n) (standard t)
+pub all-standard : (n : ℕ) (t : Forest) → InForm n t → 1 ≤ n → Perm (range 1 n) (standard t)
 all-standard zero t f h = absurd (omega arith)
 all-standard (suc n) t f h = perm-skip 1 (f .all-leaves)
 

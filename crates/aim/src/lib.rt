@@ -63,7 +63,7 @@ fn is_consecutive(words: &[u64], order: &[u16]) -> bool
 }
 
 // The leaf in the middle of the run of marked leaves, the first one of two.
-fn middle(words: &[u64], order: &[u16]) -> usize
+pub fn middle(words: &[u64], order: &[u16]) -> usize
     requires { ⌜ Within (now words) (now order) ⌝ }
     ensures { λ r. ⌜ r ≡ aim-of (marked (now (words .entry))) (now (order .entry)) ⌝ }
 {

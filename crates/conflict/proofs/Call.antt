@@ -79,7 +79,7 @@ numbers-few : (k m : ℕ) (ns : List ℕ) → Numbers k m ns → k ≤ m → len
 numbers-few k m [] h l = omega arith
 numbers-few k m (j ∷ ns) h l = omega (arith, h .0, h .1, numbers-few (suc j) m ns (h .2) (omega (arith, h .1)))
 
-groups-length : (book : List ℕ) (count : ℕ) → length (groups book count) ≡ count
+pub groups-length : (book : List ℕ) (count : ℕ) → length (groups book count) ≡ count
 groups-length book count = let e : count - 0 ≡ count = omega arith in ap length (sym (from-all book count)) ∙ from-length book 0 count ∙ e
 
 pub list-few : (n : ℕ) (book : List ℕ) (count : ℕ) (list : List ℕ) → length (conflicts-of n book count list) ≤ count

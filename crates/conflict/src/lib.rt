@@ -62,7 +62,7 @@ fn leave_out(toks: &[u16], book: &[u64], n: usize, k: usize, count: usize, out: 
 }
 
 // Writes the numbers of the groups in conflict with the list's group, rising, and says how many.
-fn find(n: usize, book: &[u64], count: usize, list: &[u16], out: &mut [u16]) -> usize
+pub fn find(n: usize, book: &[u64], count: usize, list: &[u16], out: &mut [u16]) -> usize
     requires { ⌜ (n ≤ 256) × (384 ≤ length (now book)) × (count ≤ 96) × (count ≤ length (now out)) × (WellFormed n (now list)) ⌝ }
     ensures { λ r. ⌜ Wrote (conflicts-of n (now (book .entry)) count (now (list .entry))) (now (out .entry)) (now (out .exit)) r ⌝ }
 {

@@ -17,7 +17,7 @@ use checks::Lent;
 use reading::Read;
 
 // Writes the decimal digits of v, without leading zeros, and says how many.
-fn write_number(v: u16, out: &mut [u8]) -> usize
+pub fn write_number(v: usize, out: &mut [u8]) -> usize
     requires { ⌜ length (digits v) ≤ length (now out) ⌝ }
     ensures { λ r. ⌜ Wrote (digits v) (now (out .entry)) (now (out .exit)) r ⌝ }
 {
@@ -37,7 +37,7 @@ fn write_opening(toks: &[u16], out: &mut [u8]) -> usize
 {
     let s = tokens::shape(toks);
     if s == 1 {
-        return write_number(tokens::leaf(toks), out);
+        return write_number(tokens::leaf(toks) as usize, out);
     }
     if s == 2 {
         out[0] = b'P';

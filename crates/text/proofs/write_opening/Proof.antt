@@ -22,6 +22,9 @@ leaf-requires c κs = search needs
 is-leaf : (c : tie.Then1) (j : Judged) → now (c .before .before .before .before .args .toks) ≡ encode j → shape-of j ≡ 1
 is-leaf c j e = sym (c .before .shape .ensures j e) ∙ c .if1 .taken
 
+cast-write-number : tie.Need-cast-write-number
+cast-write-number c = search needs
+
 write-number-requires : tie.Need-write-number-requires
 write-number-requires c κs =
     let p = c .before .before .before .before .before .before .pre .0 in
@@ -82,6 +85,7 @@ write-opening-spec =
     (tie.spec
     shape-requires
     leaf-requires
+    cast-write-number
     write-number-requires
     same-length
     returns

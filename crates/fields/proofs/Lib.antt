@@ -1,0 +1,4 @@
+pub mod Words
+pub mod Conflicting
+pub mod Aiming
+pub mod Telling

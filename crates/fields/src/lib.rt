@@ -1,0 +1,140 @@
+// The fields of a group line, appended to lent bytes.
+ghost use mathlib.Core.Path.{_≡_};
+ghost use mathlib.Core.List.{List, _++_};
+ghost use Prim.Native.Nat.{ℕ, _+_, _-_, _*_, _≤_};
+ghost use lib.ListN.{length, take, drop};
+ghost use Rattle.orders.specs.Lists.{All, elem};
+ghost use Rattle.orders.specs.CircularOrder.{WellFormed};
+ghost use Rattle.orders.specs.Aim.{aim-of};
+ghost use Rattle.orders.specs.Circles.{bytes};
+ghost use Rattle.calls.specs.Calls.{conflicts-of};
+ghost use Rattle.output.specs.Appends.{Appends};
+ghost use Rattle.ringfile.specs.RingFile.{Holds};
+ghost use Rattle.ledger.specs.Ledger.{State, outcome, next};
+ghost use Rattle.ledger.specs.Stands.{Stands, Line};
+ghost use Rattle.fields.specs.Fields.{spaced, name, commas, fields};
+ghost use Rattle.fields.specs.Ordered.{Ordered};
+use output::put;
+use output::put_number;
+
+// Appends the input lines of the groups with these numbers, joined by commas. `table` has the input line of each group.
+fn put_conflicts(numbers: &[u16], table: &[usize], out: &mut [u8], at: usize) -> usize
+    requires { ⌜ (All (λ j. (1 ≤ j) × (j ≤ length (now table))) (now numbers)) × (at + 21 * length (now numbers) ≤ length (now out)) ⌝ }
+    ensures { λ r. ⌜ (r ≤ at + 21 * length (now (numbers .entry)))
+        × (Appends (commas (now (table .entry)) (now (numbers .entry))) at (now (out .entry)) (now (out .exit)) r) ⌝ }
+{
+    if numbers.len() == 0 {
+        return at;
+    }
+    let i = numbers[0] as usize - 1;
+    let a = put_number(table[i], out, at);
+    if numbers.len() == 1 {
+        return a;
+    }
+    let b = put(b",", out, a);
+    put_conflicts(&numbers[1..], table, out, b)
+}
+
+// Appends the names of the leaves, with one space between.
+pub fn put_names(
+    file: &[u8],
+    names: usize,
+    head: usize,
+    lines: usize,
+    order: &[u16],
+    out: &mut [u8],
+    at: usize,
+) -> usize
+    requires { ⌜ (Holds (now file) names head lines) × (All (λ b. (1 ≤ b) × (b ≤ names)) (now order)) × (at + 9 * length (now order) ≤ length (now out)) ⌝ }
+    ensures { λ r. ⌜ (r ≤ at + 9 * length (now (order .entry))) × ((f : Holds (now (file .entry)) names head lines)
+        → Appends (spaced (f .ns) (now (order .entry))) at (now (out .entry)) (now (out .exit)) r) ⌝ }
+{
+    if order.len() == 0 {
+        return at;
+    }
+    let i = order[0] as usize - 1;
+    let a = put(ringfile::name_of(file, i), out, at);
+    if order.len() == 1 {
+        return a;
+    }
+    let b = put(b" ", out, a);
+    put_names(file, names, head, lines, &order[1..], out, b)
+}
+
+// Appends the fields of a group line that is refused: the groups in conflict with it, of the book's first `count`, by their input lines.
+fn put_refused(
+    n: usize,
+    list: &[u16],
+    book: &[u64],
+    table: &[usize],
+    count: usize,
+    out: &mut [u8],
+    at: usize,
+) -> usize
+    requires { ⌜ (n ≤ 256) × (384 ≤ length (now book)) × (count ≤ 96) × (WellFormed n (now list)) × (count ≤ length (now table)) × (at + 2048 ≤ length (now out)) ⌝ }
+    ensures { λ r. ⌜ (r ≤ at + 2048)
+        × (Appends (bytes " refused - " ++ commas (take (count - 0) (drop 0 (now (table .entry)))) (conflicts-of n (now (book .entry)) count (now (list .entry))))
+        at (now (out .entry)) (now (out .exit)) r) ⌝ }
+{
+    let mut numbers = [0u16; 96];
+    let k = conflict::find(n, book, count, list, &mut numbers);
+    let a = put(b" refused - ", out, at);
+    put_conflicts(&numbers[0..k], &table[0..count], out, a)
+}
+
+// Appends the fields of a group line that is kept: its aim in the order.
+fn put_kept(
+    file: &[u8],
+    names: usize,
+    head: usize,
+    lines: usize,
+    list: &[u16],
+    order: &[u16],
+    out: &mut [u8],
+    at: usize,
+) -> usize
+    requires { ⌜ (Holds (now file) names head lines) × (WellFormed names (now list)) × (Ordered names (now order)) × (at + 2048 ≤ length (now out)) ⌝ }
+    ensures { λ r. ⌜ (r ≤ at + 2048) × ((f : Holds (now (file .entry)) names head lines)
+        → Appends (bytes " kept " ++ (name (f .ns) (aim-of (elem (now (list .entry))) (now (order .entry))) ++ bytes " -")) at (now (out .entry)) (now (out .exit)) r) ⌝ }
+{
+    let mut words = [0u64; 4];
+    marks::mark_list(list, &mut words);
+    let leaf = aim::middle(&words, order);
+    let a = put(b" kept ", out, at);
+    let b = put(ringfile::name_of(file, leaf - 1), out, a);
+    put(b" -", out, b)
+}
+
+// Appends what follows the number of a group line. The ring had `before` groups, and has `after` of them with the line.
+pub fn put_fields(
+    file: &[u8],
+    names: usize,
+    head: usize,
+    lines: usize,
+    list: &[u16],
+    order: &[u16],
+    before: usize,
+    after: usize,
+    book: &[u64],
+    table: &[usize],
+    out: &mut [u8],
+    at: usize,
+) -> usize
+    requires { ⌜ (Holds (now file) names head lines) × (Line names (now list)) × (Ordered names (now order))
+        × (384 ≤ length (now book)) × (96 ≤ length (now table)) × (before ≤ 96) × (at + 2048 ≤ length (now out)) ⌝ }
+    ensures { λ r. ⌜ (r ≤ at + 2048) × ((f : Holds (now (file .entry)) names head lines) (s : State) (k : ℕ) (toks : List ℕ) (m : ℕ)
+        → before ≡ length (s .groups)
+        → Stands names (next s k (now (list .entry)) (outcome names s (now (list .entry)))) toks m (now (book .entry)) (now (table .entry)) after
+        → Appends (fields (f .ns) (now (order .entry)) s (now (list .entry)) (outcome names s (now (list .entry)))) at (now (out .entry)) (now (out .exit)) r) ⌝ }
+{
+    if list.len() == 0 {
+        return put(b" empty - -", out, at);
+    }
+    if before == 96 {
+        return put(b" full - -", out, at);
+    }
+    if before < after {
+        return put_kept(file, names, head, lines, list, order, out, at);
+    }
+    put_refused(names, list, book, table, before, out, at)
+}

@@ -1,0 +1,134 @@
+-- The tree and the order after all lines; the error line; what a part answers.
+use mathlib.Core.Path.{_≡_, refl, sym, ap, subst, _∙_}
+use mathlib.Core.Logic.{_⊎_, inl, inr}
+use mathlib.Core.List.{List, [], _∷_, _++_, map, append-nil, append-assoc}
+use Prim.Native.Nat.{ℕ, suc, _+_, _-_, _≤_, _<_}
+use native.Mathlib.Omega.{arith}
+use lib.ListN.{length, getD, take, drop}
+use Rattle.orders.specs.Tree.{Forest}
+use Rattle.orders.specs.Form.{InForm, standard}
+use Rattle.orders.specs.TreeText.{digits}
+use Rattle.orders.specs.Circles.{bytes}
+use Rattle.orders.proofs.TextTree.{form-length}
+use Rattle.calls.specs.declared.Refusal.{Refusal}
+use Rattle.calls.specs.declared.Refusal.the-variants.{RingFile}
+use Rattle.calls.specs.Refusals.{reported}
+use Rattle.tokens.specs.Tokens.{tree, plain, Wrote}
+use Rattle.tokens.proofs.Sequences.{tree-plain}
+use Rattle.tokens.proofs.Writes.{read-part}
+use Rattle.parts.specs.Writers.{flat}
+use Rattle.update.specs.Update.{Published}
+use Rattle.output.specs.Appends.{Appends}
+use Rattle.ringfile.specs.declared.Scanned.{Scanned}
+use Rattle.ringfile.specs.declared.Scanned.the-variants.{Ring, Refused}
+use Rattle.ringfile.specs.RingFile.{Value, file-bytes, Rules, leaves-on, RefusedAt, Accepted, Holds, Says}
+use Rattle.ringfile.proofs.Answers.{ring-holds, refused-byte, refused-is, refused-at}
+use Rattle.ringfile.proofs.Exact.{parts-once, not-both, one-byte}
+use Rattle.ledger.specs.Ledger.{State, opened, run, state-at}
+use Rattle.ledger.specs.Stands.{lists-of, StandsAt}
+use Rattle.ledger.proofs.Runs.{state-all}
+use Rattle.ledger.proofs.Files.{few-names, lists-length}
+use Rattle.fields.specs.Ordered.{Ordered}
+use Rattle.listing.specs.declared.Piece.{Piece}
+use Rattle.listing.specs.Listing.{listing, error-line, printed}
+use Rattle.listing.specs.Printing.{final, Final, Parts}
+use Rattle.listing.specs.Lists.{Lists, accepted, too-long, malformed, Listed}
+use Rattle.listing.proofs.Parts.{shown-none}
+
+-- The ring after all lines.
+module _ {x : List ℕ} {n h k : ℕ} (f : Holds x n h k) {toks book table : List ℕ} {m count : ℕ} (s : StandsAt f k toks m book table count) where
+  abbrev t : Forest
+  t = final (f .ns) (lists-of f)
+
+  last-tree : state-at n (lists-of f) k .tree ≡ t
+  unfolding final
+  last-tree =
+      ap (λ (u : State). u .tree) (state-all n (lists-of f) k (sym (lists-length f)))
+      ∙ ap (λ (i : ℕ). run i (opened i) 1 (lists-of f) .tree) (f .leaves)
+
+  pub final-tokens : take (m - 0) (drop 0 toks) ≡ flat t
+  final-tokens = s .tokens ∙ ap flat last-tree
+
+  final-form : InForm n t
+  final-form = subst (InForm n) last-tree (s .form)
+
+  pub final-published : Published n (take (m - 0) (drop 0 toks))
+  final-published = (t, final-tokens, final-form, few-names f)
+
+  some-leaf : 1 ≤ n
+  some-leaf = omega (arith, f .leaves, f .rules .names .some-name)
+
+  pub order-room : length (standard (tree (plain t))) ≤ 256
+  order-room = rw (tree-plain t) (omega (arith, form-length n t final-form, some-leaf, few-names f))
+
+  module _ {old order : List ℕ} {j : ℕ} (w : Wrote (standard (tree (plain t))) old order j) where
+    order-read : take (j - 0) (drop 0 order) ≡ standard t
+    order-read = read-part w ∙ ap standard (tree-plain t)
+
+    pub is-final : Final f (take (m - 0) (drop 0 toks)) (take (j - 0) (drop 0 order))
+    is-final = record { tokens = final-tokens; standard-order = order-read }
+
+    pub is-ordered : Ordered n (take (j - 0) (drop 0 order))
+    is-ordered = record { tree = t; form = final-form; is = order-read; some-leaf = some-leaf; few-leaves = few-names f }
+
+-- Nothing is printed past the last line, or where there is no room.
+pub no-part : (ls : List (List ℕ)) (from : ℕ) (old : List ℕ) → (from < length ls → 4096 ≤ length old → ⊥)
+    → Parts ls from old old (record { bytes = 0; next = from })
+no-part ls from old h = record {
+  forward = omega arith;
+  wrote = shown-none ls from old;
+  some-line = λ l m. absurd (h l m);
+  last-line = λ l. l;
+}
+
+-- The error line.
+pub error-part : (byte from : ℕ) {old a b new : List ℕ} {i j r : ℕ} → (0 < from → ⊥) → Wrote [] old old 0 → Appends (bytes "error 11 at byte ") 0 old a i
+    → Appends (digits byte) i a b j → Appends (10 ∷ []) j b new r → Parts (error-line byte ∷ []) from old new (record { bytes = r; next = 1 })
+unfolding error-line
+error-part byte from {old} {a} {b} {new} {i} {j} {r} z v p q e =
+    let from-is : from ≡ 0 = omega arith in
+    let text : Wrote ((bytes "error 11 at byte " ++ digits byte) ++ (10 ∷ [])) old new r = e .after _ old (q .after _ old (p .after [] old v)) in
+    rw from-is
+    (record {
+      forward = omega arith;
+      wrote = text;
+      some-line = λ l m. omega arith;
+      last-line = λ l. omega arith;
+    })
+
+-- What the scan says, and what is printed.
+module _ {x : List ℕ} {r : Scanned} (s : Says x r) where
+  pub found-ring : {n h l : ℕ} → r ≡ Ring n h l → Holds x n h l
+  found-ring e = ring-holds (subst (Says x) e s)
+
+  pub found-listed : {n h l from : ℕ} {old new : List ℕ} {p : Piece} (e : r ≡ Ring n h l)
+      → ((f : Holds x n h l) → Parts (listing (f .ns) (lists-of f)) from old new p) → Listed x from old new p
+  found-listed e w =
+      let f = found-ring e in
+      record { lines = listing (f .ns) (lists-of f); all-lines = accepted (f .rules) (f .bytes) (f .size); part = w f }
+
+  pub refused-listed : {why : Refusal} {from byte : ℕ} {old new : List ℕ} {p : Piece} → r ≡ Refused why → byte ≡ getD (reported why) 1 0
+      → Parts (error-line byte ∷ []) from old new p → Listed x from old new p
+  refused-listed {why} {from} {byte} {old} {new} {p} e b w =
+      let q = subst (Says x) e s in
+      let i = refused-is q in
+      let b′ : byte ≡ refused-byte q = b ∙ ap (λ (v : Refusal). getD (reported v) 1 0) i in
+      record { lines = error-line byte ∷ []; all-lines = go (refused-at (subst (λ (v : Refusal). Says x (Refused v)) i q)) b′; part = w }
+    where
+      go : {j : ℕ} → ((65536 < length x) × (j ≡ 65536)) ⊎ ((length x ≤ 65536) × RefusedAt x j) → byte ≡ j → Lists x (error-line byte ∷ [])
+      go (inl h) c = rw (c ∙ h .1) (too-long (h .0))
+      go (inr h) c = rw c (malformed (h .0) (h .1))
+
+-- A file has one listing.
+pub lists-once : {x : List ℕ} {ls ks : List (List ℕ)} → Lists x ls → Lists x ks → ls ≡ ks
+lists-once {x} (accepted {ns = ns} {vss = vss} r b l) (accepted {ns = ms} {vss = uss} q c m) =
+    let e = parts-once ns ms vss uss r q (sym b ∙ c) in
+    ap (λ (ws : List (List ℕ)). listing ws (map leaves-on vss)) (e .0) ∙ ap (λ (wss : List (List Value)). listing ms (map leaves-on wss)) (e .1)
+lists-once (accepted r b l) (too-long h) = absurd (omega arith)
+lists-once {x} (accepted {ns = ns} {vss = vss} r b l) (malformed {p = p} h w) = absurd (not-both x p w (record { ns = ns; vss = vss; rules = r; bytes = b }))
+lists-once (too-long h) (accepted r b l) = absurd (omega arith)
+lists-once (too-long h) (too-long l) = refl
+lists-once (too-long h) (malformed l w) = absurd (omega arith)
+lists-once {x} (malformed {p = p} h w) (accepted {ns = ns} {vss = vss} r b l) = absurd (not-both x p w (record { ns = ns; vss = vss; rules = r; bytes = b }))
+lists-once (malformed h w) (too-long l) = absurd (omega arith)
+lists-once {x} (malformed {p = p} h w) (malformed {p = q} l v) = ap (λ (b : ℕ). error-line b ∷ []) (one-byte x p q w v)

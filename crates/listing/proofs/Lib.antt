@@ -1,0 +1,5 @@
+pub mod Sample
+pub mod Lines
+pub mod Printing
+pub mod Parts
+pub mod Answers

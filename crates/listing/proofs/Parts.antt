@@ -1,0 +1,63 @@
+-- The lines of a part, one after another.
+use mathlib.Core.Path.{_≡_, refl, sym, ap, subst, _∙_}
+use mathlib.Core.List.{List, [], _∷_, _++_, map, append-assoc}
+use Prim.Native.Nat.{ℕ, suc, _+_, _-_, _≤_, _<_}
+use native.Mathlib.Omega.{arith}
+use lib.ListN.{length, getD, take, drop, length-append}
+use Rattle.tokens.specs.Tokens.{Wrote}
+use Rattle.tokens.proofs.Writes.{wrote-none}
+use Rattle.ringfile.specs.RingFile.{Value, value-word, further, line, value-lines, file-bytes, Holds}
+use Rattle.listing.specs.declared.Piece.{Piece}
+use Rattle.listing.specs.Listing.{printed}
+use Rattle.listing.specs.Printing.{Parts}
+use Rattle.listing.proofs.Lines.{printed-none, printed-more}
+
+-- A file has fewer group lines than bytes.
+further-some : (ws : List (List ℕ)) → 1 ≤ length (further ws)
+further-some [] = omega arith
+further-some (w ∷ ws) = omega arith
+
+line-some : (ws : List (List ℕ)) → 1 ≤ length (line ws)
+line-some [] = omega arith
+line-some (w ∷ ws) = omega (arith, length-append w (further ws), further-some ws)
+
+lines-some : (vss : List (List Value)) → length vss ≤ length (value-lines vss)
+lines-some [] = omega arith
+lines-some (vs ∷ vss) = omega (arith, length-append (line (map value-word vs)) (value-lines vss), line-some (map value-word vs), lines-some vss)
+
+pub lines-few : {x : List ℕ} {n h k : ℕ} → Holds x n h k → k ≤ 65536
+lines-few f =
+    omega (arith, f .lines, f .size, ap length (f .bytes), length-append (line (f .ns)) (value-lines (f .vss)), lines-some (f .vss))
+
+module _ (ls : List (List ℕ)) (from : ℕ) where
+  abbrev pub Shown : ℕ → List ℕ → List ℕ → ℕ → Type 0
+  Shown i old new at = Wrote (printed (take (i - from) (drop from ls))) old new at
+
+  pub shown-none : (old : List ℕ) → Shown from old old 0
+  shown-none old = rw (printed-none from ls) (wrote-none old)
+
+  pub shown-more : (i : ℕ) {old new : List ℕ} {at : ℕ} → from ≤ i → i < length ls
+      → Wrote ((printed (take (i - from) (drop from ls)) ++ getD ls i []) ++ (10 ∷ [])) old new at → Shown (i + 1) old new at
+  shown-more i {old} {new} {at} h l w =
+      subst (λ (xs : List ℕ). Wrote xs old new at)
+      (append-assoc (printed (take (i - from) (drop from ls))) (getD ls i []) (10 ∷ []) ∙ sym (printed-more from i ls h l))
+      w
+
+  -- The part that ends before line i: for want of room, or with the last line.
+  pub short-part : {i at : ℕ} {old new : List ℕ} → from ≤ i → (i ≡ from → at ≡ 0) → length new ≡ length old → length new - at < 4096 → i < length ls
+      → Shown i old new at → Parts ls from old new (record { bytes = at; next = i })
+  short-part {i} {at} {old} h z e r l w = record {
+    forward = h;
+    wrote = w;
+    some-line = λ a b. let ne : i ≡ from → ⊥ = λ q. omega (arith, z q) in omega arith;
+    last-line = λ a. omega arith;
+  }
+
+  pub whole-part : {i at : ℕ} {old new : List ℕ} → from ≤ i → (from ≤ length ls → i ≤ length ls) → length ls ≤ i
+      → Shown i old new at → Parts ls from old new (record { bytes = at; next = i })
+  whole-part {i} {at} {old} h m l w = record {
+    forward = h;
+    wrote = w;
+    some-line = λ a b. omega arith;
+    last-line = m;
+  }

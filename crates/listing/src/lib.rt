@@ -1,0 +1,364 @@
+// The listing of a ring file, printed line by line to lent bytes.
+ghost use mathlib.Core.Path.{_≡_};
+ghost use mathlib.Core.List.{[], _∷_};
+ghost use Prim.Native.Nat.{_+_, _-_, _≤_, _<_};
+ghost use lib.ListN.{length, getD};
+ghost use Rattle.orders.specs.Tree.{Forest};
+ghost use Rattle.orders.specs.Form.{standard};
+ghost use Rattle.parts.specs.Writers.{flat};
+ghost use Rattle.update.specs.Update.{Published};
+ghost use Rattle.output.specs.Appends.{Appends};
+ghost use Rattle.ringfile.specs.RingFile.{Holds};
+ghost use Rattle.ledger.specs.Stands.{lists-of, StandsAt, Tables};
+ghost use Rattle.fields.specs.Ordered.{Ordered};
+ghost use Rattle.listing.specs.Listing.{listing, error-line};
+ghost use Rattle.listing.specs.Lists.{Listed};
+ghost use Rattle.listing.specs.Printing.{group-line, ending, Before, Final, Parts};
+use ledger::Ring;
+use output::put;
+use ringfile::Scanned;
+
+// What `part` printed: so many bytes were written; the next part begins with the printed line with this number.
+pub struct Piece {
+    pub bytes: usize,
+    pub next: usize,
+}
+
+// Where a printed line ends, and the sizes of the ring after its group.
+struct Printed {
+    at: usize,
+    tokens: usize,
+    count: usize,
+}
+
+// Prints group line l, from 0, without its line end, and joins its group to the ring in the tables.
+fn print_group(
+    file: &[u8],
+    names: usize,
+    head: usize,
+    lines: usize,
+    l: usize,
+    order: &[u16],
+    ring: Ring,
+    toks: &mut [u16],
+    book: &mut [u64],
+    table: &mut [usize],
+    out: &mut [u8],
+    at: usize,
+) -> Printed
+    requires { ⌜ ((f : Holds (now file) names head lines) × (StandsAt f l (now toks) (ring .tokens) (now book) (now table) (ring .count))
+        × (l < lines) × (Tables (now toks) (now book) (now table)) × (Ordered names (now order)) × (at + 4096 ≤ length (now out))) ⌝ }
+    ensures { λ r. ⌜ (r .at ≤ at + 4095) × ((f : Holds (now (file .entry)) names head lines)
+        → StandsAt f l (now (toks .entry)) (ring .tokens) (now (book .entry)) (now (table .entry)) (ring .count)
+        → (StandsAt f (l + 1) (now (toks .exit)) (r .tokens) (now (book .exit)) (now (table .exit)) (r .count))
+        × (Appends (group-line (f .ns) (now (order .entry)) (lists-of f) l) at (now (out .entry)) (now (out .exit)) (r .at))) ⌝ }
+{
+    let mut list = [0u16; 256];
+    let k = ringfile::group_of(file, names, head, l, &mut list);
+    let before = ring.count;
+    let next = ledger::advance(names, l + 1, &list[0..k], ring, toks, book, table);
+    let a = output::put_number(l + 1, out, at);
+    let b = fields::put_fields(
+        file,
+        names,
+        head,
+        lines,
+        &list[0..k],
+        order,
+        before,
+        next.count,
+        book,
+        table,
+        out,
+        a,
+    );
+    Printed {
+        at: b,
+        tokens: next.tokens,
+        count: next.count,
+    }
+}
+
+// Prints line j, from 0, of the four that end the listing, without its line end. Returns where it ends.
+fn print_end(
+    file: &[u8],
+    names: usize,
+    head: usize,
+    lines: usize,
+    j: usize,
+    tree: &[u16],
+    order: &[u16],
+    out: &mut [u8],
+    at: usize,
+) -> usize
+    requires { ⌜ (Holds (now file) names head lines) × (Published names (now tree)) × (Ordered names (now order)) × (at + 4096 ≤ length (now out)) ⌝ }
+    ensures { λ r. ⌜ (r ≤ at + 4095) × ((f : Holds (now (file .entry)) names head lines) (t : Forest)
+        → now (tree .entry) ≡ flat t → now (order .entry) ≡ standard t → j < 4
+        → Appends (getD (ending (f .ns) t) j []) at (now (out .entry)) (now (out .exit)) r) ⌝ }
+{
+    if j == 0 {
+        return put(b"order", out, at);
+    }
+    if j == 1 {
+        return fields::put_names(file, names, head, lines, order, out, at);
+    }
+    if j == 2 {
+        return put(b"tree", out, at);
+    }
+    output::put_tree(tree, out, at)
+}
+
+// Prints line i of the listing without its line end. The ring in the tables is the one before the line; a group line joins its group to it.
+fn print_line(
+    file: &[u8],
+    names: usize,
+    head: usize,
+    lines: usize,
+    i: usize,
+    tree: &[u16],
+    order: &[u16],
+    ring: Ring,
+    toks: &mut [u16],
+    book: &mut [u64],
+    table: &mut [usize],
+    out: &mut [u8],
+    at: usize,
+) -> Printed
+    requires { ⌜ ((f : Holds (now file) names head lines) × (Before f i (now toks) (ring .tokens) (now book) (now table) (ring .count))
+        × (Tables (now toks) (now book) (now table)) × (Published names (now tree)) × (Ordered names (now order)) × (at + 4096 ≤ length (now out))) ⌝ }
+    ensures { λ r. ⌜ (r .at ≤ at + 4095) × ((f : Holds (now (file .entry)) names head lines)
+        → Before f i (now (toks .entry)) (ring .tokens) (now (book .entry)) (now (table .entry)) (ring .count)
+        → Final f (now (tree .entry)) (now (order .entry)) → i < lines + 5
+        → (Before f (i + 1) (now (toks .exit)) (r .tokens) (now (book .exit)) (now (table .exit)) (r .count))
+        × (Appends (getD (listing (f .ns) (lists-of f)) i []) at (now (out .entry)) (now (out .exit)) (r .at))) ⌝ }
+{
+    if i == 0 {
+        return Printed {
+            at: put(b"line answer aim conflict", out, at),
+            tokens: ring.tokens,
+            count: ring.count,
+        };
+    }
+    if i <= lines {
+        return print_group(
+            file,
+            names,
+            head,
+            lines,
+            i - 1,
+            order,
+            ring,
+            toks,
+            book,
+            table,
+            out,
+            at,
+        );
+    }
+    Printed {
+        at: print_end(
+            file,
+            names,
+            head,
+            lines,
+            i - lines - 1,
+            tree,
+            order,
+            out,
+            at,
+        ),
+        tokens: ring.tokens,
+        count: ring.count,
+    }
+}
+
+// Prints lines of the listing, each with its line end, from the one with number `from` on, while 4,096 bytes are left for a line. The ring in
+// the tables is the one before that line.
+fn print_lines(
+    file: &[u8],
+    names: usize,
+    head: usize,
+    lines: usize,
+    from: usize,
+    tree: &[u16],
+    order: &[u16],
+    first: Ring,
+    toks: &mut [u16],
+    book: &mut [u64],
+    table: &mut [usize],
+    out: &mut [u8],
+) -> Piece
+    requires { ⌜ ((f : Holds (now file) names head lines) × (Before f from (now toks) (first .tokens) (now book) (now table) (first .count))
+        × (Final f (now tree) (now order)) × (Tables (now toks) (now book) (now table)) × (Published names (now tree)) × (Ordered names (now order))) ⌝ }
+    ensures { λ r. ⌜ ((f : Holds (now (file .entry)) names head lines)
+        → Before f from (now (toks .entry)) (first .tokens) (now (book .entry)) (now (table .entry)) (first .count)
+        → Final f (now (tree .entry)) (now (order .entry))
+        → Parts (listing (f .ns) (lists-of f)) from (now (out .entry)) (now (out .exit)) r) ⌝ }
+{
+    let end = lines + 5;
+    let mut ring = first;
+    let mut at = 0;
+    let mut i = from;
+    while i < end {
+        if out.len() - at < 4096 {
+            return Piece { bytes: at, next: i };
+        }
+        let p = print_line(
+            file,
+            names,
+            head,
+            lines,
+            i,
+            tree,
+            order,
+            ring,
+            toks,
+            book,
+            table,
+            out,
+            at,
+        );
+        at = put(b"\n", out, p.at);
+        ring = Ring {
+            tokens: p.tokens,
+            count: p.count,
+        };
+        i += 1;
+    }
+    Piece { bytes: at, next: i }
+}
+
+// How many group lines come before printed line i, which is the first line or that of a group.
+fn lines_before(i: usize, lines: usize) -> usize
+    ensures { λ r. ⌜ (r ≤ lines) × (i ≤ lines → r ≡ i - 1) ⌝ }
+{
+    if i == 0 {
+        return 0;
+    }
+    if i > lines {
+        return 0;
+    }
+    i - 1
+}
+
+// Prints the part of the listing from line `from` on, given the tree and the order after all lines.
+fn print_from(
+    file: &[u8],
+    names: usize,
+    head: usize,
+    lines: usize,
+    from: usize,
+    tree: &[u16],
+    order: &[u16],
+    out: &mut [u8],
+) -> Piece
+    requires { ⌜ ((f : Holds (now file) names head lines) × (Final f (now tree) (now order)) × (Published names (now tree)) × (Ordered names (now order))) ⌝ }
+    ensures { λ r. ⌜ ((f : Holds (now (file .entry)) names head lines) → Final f (now (tree .entry)) (now (order .entry))
+        → Parts (listing (f .ns) (lists-of f)) from (now (out .entry)) (now (out .exit)) r) ⌝ }
+{
+    let mut toks = [0u16; 512];
+    let mut book = [0u64; 384];
+    let mut table = [0usize; 96];
+    let before = lines_before(from, lines);
+    let ring = ledger::replay(
+        file,
+        names,
+        head,
+        lines,
+        before,
+        &mut toks,
+        &mut book,
+        &mut table,
+    );
+    print_lines(
+        file,
+        names,
+        head,
+        lines,
+        from,
+        tree,
+        order,
+        ring,
+        &mut toks,
+        &mut book,
+        &mut table,
+        out,
+    )
+}
+
+// Prints the part of an accepted file's listing from line `from` on.
+fn print_listing(
+    file: &[u8],
+    names: usize,
+    head: usize,
+    lines: usize,
+    from: usize,
+    out: &mut [u8],
+) -> Piece
+    requires { ⌜ Holds (now file) names head lines ⌝ }
+    ensures { λ r. ⌜ ((f : Holds (now (file .entry)) names head lines)
+        → Parts (listing (f .ns) (lists-of f)) from (now (out .entry)) (now (out .exit)) r) ⌝ }
+{
+    let mut toks = [0u16; 512];
+    let mut book = [0u64; 384];
+    let mut table = [0usize; 96];
+    let ring = ledger::replay(
+        file,
+        names,
+        head,
+        lines,
+        lines,
+        &mut toks,
+        &mut book,
+        &mut table,
+    );
+    let m = ring.tokens;
+    let mut order = [0u16; 256];
+    let n = order::standard_order(&toks[0..m], &mut order);
+    print_from(
+        file,
+        names,
+        head,
+        lines,
+        from,
+        &toks[0..m],
+        &order[0..n],
+        out,
+    )
+}
+
+// Prints the part of a refused file's listing, its error line alone, from line `from` on.
+fn print_error(byte: usize, from: usize, out: &mut [u8]) -> Piece
+    ensures { λ r. ⌜ Parts (error-line byte ∷ []) from (now (out .entry)) (now (out .exit)) r ⌝ }
+{
+    if from > 0 {
+        return Piece {
+            bytes: 0,
+            next: from,
+        };
+    }
+    if out.len() < 4096 {
+        return Piece {
+            bytes: 0,
+            next: from,
+        };
+    }
+    let a = put(b"error 11 at byte ", out, 0);
+    let b = output::put_number(byte, out, a);
+    Piece {
+        bytes: put(b"\n", out, b),
+        next: 1,
+    }
+}
+
+// Prints a part of the file's listing, from the line with number `from` (0 is the first) on, each line with its line end: lines are printed while
+// 4,096 bytes are left. Past the last line it prints nothing. Returns how many bytes it wrote, and the number of the next line.
+pub fn part(file: &[u8], from: usize, out: &mut [u8]) -> Piece
+    ensures { λ r. ⌜ Listed (now (file .entry)) from (now (out .entry)) (now (out .exit)) r ⌝ }
+{
+    let found = ringfile::scan(file);
+    match found {
+        Scanned::Ring { names, head, lines } => print_listing(file, names, head, lines, from, out),
+        Scanned::Refused(why) => print_error(calls::place(why), from, out),
+    }
+}
