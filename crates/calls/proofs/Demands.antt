@@ -28,7 +28,7 @@ use Rattle.calls.specs.NodeTable.{Holds, table-of, tree-in}
 use Rattle.calls.specs.Refusals.{refuse, down, bad-size, short, short-nodes, bad-leaf, list-checks}
 use Rattle.calls.specs.Calls.{is-none, joined-tree, join-refusal, joined, join-call, order-refusal, order-call}
 use Rattle.calls.specs.Demands.{LentTree, LentRing, ImpossibleIff, NewTree, Joins}
-use Rattle.calls.proofs.NodeTables.{tree-in-holds, table-length}
+use Rattle.calls.proofs.NodeTables.{tree-in-holds, over-holds}
 
 -- ---- lists
 
@@ -153,7 +153,7 @@ module _ (n have : ℕ) (nodes book : List ℕ) (count : ℕ) (list : List ℕ) 
             impossible = (λ q. absurd (let z : _≡_ {A = ℕ} 0 1 = cc in omega arith), λ q. absurd (q (standard u) (j .orders (standard u) .0 (j .standard-first .allowed) .0) (j .orders (standard u) .0 (j .standard-first .allowed) .1)));
             otherwise = λ q. record {
               new = u;
-              held = record { in-form = j .form; records = subst (λ k. take k (table-of u ++ drop (length (table-of u)) nodes) ≡ table-of u) (table-length n u (j .form) (h .lent .few-leaves)) (take-append-seam (table-of u) (drop (length (table-of u)) nodes)) };
+              held = over-holds n u nodes (j .form) (h .lent .few-leaves);
               orders = j .orders;
               first = j .standard-first;
             };

@@ -22,7 +22,7 @@ use Rattle.orders.proofs.Forms.{form-forked, nodes-bound, form-one, form-two, f
 use Rattle.orders.proofs.TextTree.{text-injective, leaves-most, form-length}
 use Rattle.orders.proofs.Members.{both}
 use Rattle.orders.proofs.FormTests.{same-decides, form-decides}
-use Rattle.calls.specs.Tables.{padded}
+use Rattle.calls.specs.Tables.{over, padded}
 use Rattle.calls.specs.NodeTable.{kind-number, entries, rows, table-of, Holds, kind-of, spelled-items, spelled, spelled-tree, tree-in}
 
 -- A row has 257 places: every node has at most 255 items.
@@ -239,3 +239,10 @@ tree-in-none n table l = (λ e t h. absurd (let g = tree-in-holds n table t l .1
     go : (o : Option Forest) → tree-in n table ≡ o → ((t : Forest) → Holds n table t → ⊥) → o ≡ none
     go none e h = refl
     go (some t) e h = absurd (h t (tree-in-holds n table t l .0 e))
+
+-- A table over which a tree's was written holds it.
+pub over-holds : (n : ℕ) (t : Forest) (nodes : List ℕ) → InForm n t → n ≤ 256 → Holds n (over (table-of t) nodes) t
+over-holds n t nodes f l = record {
+  in-form = f;
+  records = subst (λ k. take k (table-of t ++ drop (length (table-of t)) nodes) ≡ table-of t) (table-length n t f l) (take-append-seam (table-of t) (drop (length (table-of t)) nodes));
+}

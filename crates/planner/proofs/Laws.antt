@@ -1,25 +1,22 @@
 -- The calls' answers and tables, from what their checks and their work come to.
 use mathlib.Core.Path.{_≡_, refl, sym, _∙_, ap, ap₂, subst}
-use mathlib.Core.Logic.{_≢_, Iff·rfl}
-use mathlib.Core.Bool.{true}
+use mathlib.Core.Logic.{_≢_}
 use mathlib.Core.Option.{Option, none, some}
 use mathlib.Core.List.{List, [], _∷_, _++_}
 use Prim.Native.Nat.{ℕ, _+_, _≤_, _<_}
 use native.Mathlib.Omega.{arith}
-use borrow.Author.Tests.{eq-eqb, ne-eqb, leb-true}
-use lib.Dec.{eqb, leb}
+use borrow.Author.Tests.{eq-eqb, ne-eqb}
+use lib.Dec.{eqb}
 use lib.ListN.{length, take}
 use Rattle.orders.specs.Lists.{elem}
 use Rattle.orders.specs.CircularOrder.{WellFormed}
 use Rattle.orders.specs.Tree.{Forest}
 use Rattle.orders.specs.Form.{standard, StandardOrder}
 use Rattle.orders.specs.Join.{fresh, join, then}
-use Rattle.orders.proofs.Members.{both}
-use Rattle.orders.proofs.ListLaws.{all-map}
 use Rattle.orders.proofs.Joining.{join-some}
 use Rattle.orders.proofs.TextTree.{form-length}
 use Rattle.marks.specs.Marks.{marked, words-of}
-use Rattle.marks.proofs.Leaves.{marked-list}
+use Rattle.marks.proofs.Leaves.{marked-group}
 use Rattle.tokens.specs.Tokens.{Wrote}
 use Rattle.update.specs.declared.Updated.the-variants.{Impossible, Tokens}
 use Rattle.update.specs.Update.{Answers, written}
@@ -28,13 +25,14 @@ use Rattle.calls.specs.declared.Refusal.the-variants.{BookFull, Impossible as N
 use Rattle.calls.specs.declared.Answer.{Answer}
 use Rattle.calls.specs.declared.Answer.the-variants.{Done, Refused as Answer-refused}
 use Rattle.calls.specs.Tables.{over}
-use Rattle.calls.specs.Book.{book-in-form?, booked, emptied}
+use Rattle.calls.specs.Book.{booked, emptied}
 use Rattle.calls.specs.NodeTable.{table-of, tree-in}
 use Rattle.calls.specs.Refusals.{refuse, down, short, list-checks}
 use Rattle.calls.specs.Calls.{is-none, ring, filled-as, filled, of-tree, table-checks, tree-checks, ring-checks, open-refusal, opened, open-call, joined-tree, join-refusal, joined, join-call, trial-call, order-refusal, order-call}
 use Rattle.calls.specs.Demands.{LentTree, LentRing, ImpossibleIff, Joins}
 use Rattle.calls.proofs.NodeTables.{tree-in-holds}
 use Rattle.calls.proofs.Demands.{passes-iff, join-meets, order-meets}
+use Rattle.book.proofs.Laws.{few-groups}
 use Rattle.checks.specs.Lent.{TreeLent, RingLent}
 use Rattle.checks.proofs.Laws.{down-some, down-none}
 use Rattle.planner.specs.declared.Tried.{Tried}
@@ -74,9 +72,7 @@ module _ (t : Forest) (n count : ℕ) (list : List ℕ) where
 
     -- The marks of the list are its leaves.
     marks-are : (words : List ℕ) → n ≤ 256 → words ≡ words-of 4 (elem list) → marked words ≡ elem list
-    marks-are words h w =
-        ap marked w
-        ∙ marked-list 4 list (all-map (λ b. (1 ≤ b) × (b ≤ n)) (λ b. (1 ≤ b) × (b ≤ 256)) (λ b r. (r .0, omega (arith, r .1))) list (passes-iff n list .0 e .in-range))
+    marks-are words h w = ap marked w ∙ marked-group n list h (passes-iff n list .0 e)
 
     pub none-joined : (words old new : List ℕ) → n ≤ 256 → words ≡ words-of 4 (elem list) → (count ≡ 96 → ⊥) → Answers (join (marked words) t) old new Impossible
         → group-refusal t n count list ≡ some Not-possible
@@ -93,10 +89,6 @@ module _ (t : Forest) (n count : ℕ) (list : List ℕ) where
         go (some u) p (written x) = record { passes = judged q ∙ ap (λ o. down (refuse (is-none o) Not-possible ∷ [])) p; not-full = q; tree = u; is = p; wrote = x }
 
 -- On lent tables.
-count-fits : (n : ℕ) (book : List ℕ) (count : ℕ) → book-in-form? n book count ≡ true → count ≤ 96
-unfolding book-in-form?
-count-fits n book count e = leb-true count 96 (both {a = leb count 96} Iff·rfl Iff·rfl .0 e .0)
-
 module _ (n have : ℕ) (nodes book : List ℕ) (count : ℕ) (list : List ℕ) where
   abbrev after-ring : List (Option Refusal)
   after-ring = list-checks n list ++ (refuse (eqb count 96) BookFull ∷ refuse (is-none (joined-tree n nodes list)) Not-possible ∷ [])
@@ -123,7 +115,7 @@ module _ (n have : ℕ) (nodes book : List ℕ) (count : ℕ) (list : List ℕ) 
       few-leaves = h .lent .few-leaves;
       all-rows = h .lent .all-rows;
       all-words = h .all-words;
-      place-left = below count (count-fits n book count (h .groups)) (a .not-full);
+      place-left = below count (few-groups n book count (h .groups)) (a .not-full);
       tree = a .tree;
       in-form = join-some n (elem list) (h .tree) (a .tree) (h .lent .tree .in-form) (a .is) .form;
       is = tree-is ∙ a .is;

@@ -1,5 +1,5 @@
 -- The scanner runs through every file that keeps the rules.
-use mathlib.Core.Path.{_≡_, refl, sym, ap, subst}
+use mathlib.Core.Path.{_≡_, refl, sym, subst}
 use mathlib.Core.Logic.{inl}
 use mathlib.Core.List.{List, [], _∷_, _++_, map, append-assoc, append-nil}
 use Prim.Native.Nat.{ℕ, suc, _+_, _≤_, _<_}
@@ -9,7 +9,7 @@ use Rattle.orders.specs.Lists.{All, Distinct, In}
 use Rattle.orders.proofs.ListLaws.{all-right}
 use Rattle.orders.proofs.Members.{apart}
 use Rattle.ringfile.specs.RingFile.{NameByte, Name, Value, value-word, line, value-lines, file-bytes, Rules}
-use Rattle.ringfile.specs.Scanner.{State, naming, due, got, start}
+use Rattle.ringfile.specs.Scanner.{naming, due, start}
 use Rattle.ringfile.proofs.NewNames.{new-room}
 use Rattle.ringfile.proofs.Steps.{name-byte, name-space, name-end, a-value, value-space, value-end, Run, done, then, run-append}
 
@@ -24,7 +24,8 @@ name-run ns w (b ∷ r) k n =
     (subst (λ v. Run (naming ns (w ++ (b ∷ []))) r (naming ns v)) e (name-run ns (w ++ (b ∷ [])) r k′ n′))
 
 -- The names w, ws, where a is read.
-names-run : (a : List (List ℕ)) (w : List ℕ) (ws : List (List ℕ)) → All Name (w ∷ ws) → Distinct (a ++ (w ∷ ws)) → length a + length (w ∷ ws) ≤ 256 → Run (naming a []) (line (w ∷ ws)) (due (a ++ (w ∷ ws)) [] [])
+names-run : (a : List (List ℕ)) (w : List ℕ) (ws : List (List ℕ)) → All Name (w ∷ ws) → Distinct (a ++ (w ∷ ws)) → length a + length (w ∷ ws) ≤ 256
+    → Run (naming a []) (line (w ∷ ws)) (due (a ++ (w ∷ ws)) [] [])
 names-run a w [] k d m =
     let n : In w a → ⊥ = λ i. apart w a (w ∷ []) d i (inl refl) in
     run-append (name-run a [] w (k .0) n) (then (name-end refl (k .0 .some-byte) n) done)
@@ -49,7 +50,8 @@ values-run ns vss vs v (u ∷ us) h =
     (subst (λ l. Run (due ns vss (vs ++ (v ∷ []))) (line (map value-word (u ∷ us))) (due ns (vss ++ (l ∷ [])) [])) e
     (values-run ns vss (vs ++ (v ∷ [])) u us (omega (arith, length-append vs (v ∷ []))))))
 
-lines-run : (ns : List (List ℕ)) (a vss : List (List Value)) → 1 ≤ length ns → All (λ vs. length vs ≡ length ns) vss → Run (due ns a []) (value-lines vss) (due ns (a ++ vss) [])
+lines-run : (ns : List (List ℕ)) (a vss : List (List Value)) → 1 ≤ length ns → All (λ vs. length vs ≡ length ns) vss
+    → Run (due ns a []) (value-lines vss) (due ns (a ++ vss) [])
 lines-run ns a [] h k = subst (λ l. Run (due ns a []) [] (due ns l [])) (sym (append-nil a)) done
 lines-run ns a ([] ∷ vss) h k = absurd (omega (arith, k .0))
 lines-run ns a ((v ∷ vs) ∷ vss) h k =

@@ -1,8 +1,8 @@
 -- Room for a begun name, by counting: fewer earlier names begin with it than there are names that do.
 use mathlib.Core.Path.{_≡_, refl, sym, _∙_, ap, subst}
-use mathlib.Core.Logic.{_≢_, _⊎_, inl, inr}
+use mathlib.Core.Logic.{_≢_, inl, inr}
 use mathlib.Core.Bool.{Bool, true, false, cond}
-use mathlib.Core.List.{List, [], _∷_, _++_, map, append-nil, append-cancel-left}
+use mathlib.Core.List.{List, [], _∷_, _++_, append-nil, append-cancel-left}
 use Prim.Native.Nat.{ℕ, suc, _≤_}
 use native.Mathlib.Omega.{arith}
 use lib.Dec.{eqb, ltb}
@@ -16,12 +16,13 @@ use Rattle.ringfile.specs.RingFile.{alphabet, NameByte, Name}
 use Rattle.ringfile.specs.Words.{begins}
 use Rattle.ringfile.specs.Scanner.{spare, longer}
 use Rattle.ringfile.proofs.Lists.{in-kept, kept-in, distinct-kept, in-map, map-in, distinct-map, pigeonhole}
-use Rattle.ringfile.proofs.Words.{Spare, spare-true, no-spare, same-true, same-self, distinct-alphabet, length-alphabet}
+use Rattle.ringfile.proofs.Words.{spare-true, no-spare, same-true, same-self, distinct-alphabet, length-alphabet}
 use Rattle.ringfile.proofs.NewNames.{longer-7, longer-8, longer-0, one-more}
 
 module _ (t : List ℕ) where
   -- Seven bytes, eight, or neither.
-  three : (P : List (List ℕ) → Type 0) → (length t ≡ 7 → P (t ∷ one-more t)) → (length t ≡ 8 → P (t ∷ [])) → ((length t ≡ 7 → ⊥) → (length t ≡ 8 → ⊥) → P []) → P (longer t)
+  three : (P : List (List ℕ) → Type 0) → (length t ≡ 7 → P (t ∷ one-more t)) → (length t ≡ 8 → P (t ∷ []))
+      → ((length t ≡ 7 → ⊥) → (length t ≡ 8 → ⊥) → P []) → P (longer t)
   three P f g h = go (eqb (length t) 7) (eqb (length t) 8) refl refl
     where
       go : (c d : Bool) → eqb (length t) 7 ≡ c → eqb (length t) 8 ≡ d → P (longer t)

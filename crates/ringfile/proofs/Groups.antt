@@ -1,6 +1,6 @@
 -- The group of a line: from a leaf on, and how its list begins.
-use mathlib.Core.Path.{_≡_, refl, sym, _∙_, ap, ap₂}
-use mathlib.Core.Bool.{Bool, true, false, cond}
+use mathlib.Core.Path.{_≡_, sym, _∙_, ap, ap₂}
+use mathlib.Core.Bool.{Bool, cond}
 use mathlib.Core.List.{List, [], _∷_}
 use Prim.Native.Nat.{ℕ, zero, suc, _+_, _-_, _≤_, _<_}
 use native.Mathlib.Omega.{arith}
@@ -34,13 +34,19 @@ pub leaves-none : (i : ℕ) (vs : List Value) → length vs ≤ i → leaves-aft
 unfolding leaves-after
 leaves-none i vs h = let e : length vs - i ≡ 0 = omega arith in ap (λ k. filter (λ b. in-group (getD vs (b - 1) off)) (range (suc i) k)) e
 
-pub leaves-next : (i : ℕ) (vs : List Value) → i < length vs → leaves-after i vs ≡ cond (in-group (getD vs i off)) ((i + 1) ∷ leaves-after (i + 1) vs) (leaves-after (i + 1) vs)
+pub leaves-next : (i : ℕ) (vs : List Value) → i < length vs
+    → leaves-after i vs ≡ cond (in-group (getD vs i off)) ((i + 1) ∷ leaves-after (i + 1) vs) (leaves-after (i + 1) vs)
 unfolding leaves-after
 leaves-next i vs h =
     let e : length vs - i ≡ suc (length vs - (i + 1)) = omega arith in
     let p : suc i - 1 ≡ i = omega arith in
-    ap (λ k. filter (λ b. in-group (getD vs (b - 1) off)) (range (suc i) k)) e
-    ∙ ap₂ (λ j s. cond (in-group (getD vs j off)) (s ∷ filter (λ b. in-group (getD vs (b - 1) off)) (range (suc s) (length vs - (i + 1)))) (filter (λ b. in-group (getD vs (b - 1) off)) (range (suc s) (length vs - (i + 1))))) p (sym (add-one i))
+    ap (λ k. filter on? (range (suc i) k)) e ∙ ap₂ (λ j s. cond (in-group (getD vs j off)) (s ∷ later s) (later s)) p (sym (add-one i))
+  where
+    on? : ℕ → Bool
+    on? b = in-group (getD vs (b - 1) off)
+
+    later : ℕ → List ℕ
+    later s = filter on? (range (suc s) (length vs - (i + 1)))
 
 -- Every line has a value for each name.
 all-at : (P : List Value → Type 0) (vss : List (List Value)) (l : ℕ) → All P vss → l < length vss → P (getD vss l [])

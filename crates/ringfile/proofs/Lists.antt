@@ -6,7 +6,7 @@ use mathlib.Core.List.{List, [], _∷_, _++_, map}
 use Prim.Native.Nat.{ℕ, suc, _≤_, _*_}
 use native.Mathlib.Omega.{arith}
 use lib.ListN.{length, length-append}
-use Rattle.orders.specs.Lists.{All, Distinct, In, filter}
+use Rattle.orders.specs.Lists.{Distinct, In, filter}
 use Rattle.orders.proofs.ListLaws.{all-append}
 use Rattle.orders.proofs.Members.{all-in, in-all, in-append}
 
@@ -34,7 +34,8 @@ module _ {A : Type 0} where
   in-kept p [] x i = absurd i
   in-kept p (y ∷ l) x i = go (p y) refl (in-kept p l x) i
     where
-      go : (b : Bool) → p y ≡ b → (In x (filter p l) → In x l × (p x ≡ true)) → In x (cond b (y ∷ filter p l) (filter p l)) → In x (y ∷ l) × (p x ≡ true)
+      go : (b : Bool) → p y ≡ b → (In x (filter p l) → In x l × (p x ≡ true)) → In x (cond b (y ∷ filter p l) (filter p l))
+          → In x (y ∷ l) × (p x ≡ true)
       go true e ih (inl i) = (inl i, ap p i ∙ e)
       go true e ih (inr i) = (inr (ih i .0), ih i .1)
       go false e ih i = (inr (ih i .0), ih i .1)

@@ -41,22 +41,17 @@ module _ (ns : List (List ℕ)) (t : List ℕ) (k : All Name ns) (d : Distinct n
   limit-8 h = ap (λ c. cond c 63 (cond (eqb (length t) 8) 1 0)) (ne-eqb (length t) 7 (omega arith)) ∙ ap (λ c. cond c 1 0) (eq-eqb (length t) 8 h)
 
   limit-0 : 9 ≤ length t → limit (length t) ≡ 0
-  limit-0 h = ap (λ c. cond c 63 (cond (eqb (length t) 8) 1 0)) (ne-eqb (length t) 7 (omega arith)) ∙ ap (λ c. cond c 1 0) (ne-eqb (length t) 8 (omega arith))
+  limit-0 h =
+      ap (λ c. cond c 63 (cond (eqb (length t) 8) 1 0)) (ne-eqb (length t) 7 (omega arith)) ∙ ap (λ c. cond c 1 0) (ne-eqb (length t) 8 (omega arith))
 
-  pub room-7 : length t ≡ 7 → n < 63 → true ≡ room ns t
-  room-7 h l = sym (room-count (omega arith) 63 (limit-7 h) ∙ lt-ltb n 63 l)
+  pub room-7 : length t ≡ 7 → ltb n 63 ≡ room ns t
+  room-7 h = sym (room-count (omega arith) 63 (limit-7 h))
 
-  pub full-7 : length t ≡ 7 → 63 ≤ n → false ≡ room ns t
-  full-7 h l = sym (room-count (omega arith) 63 (limit-7 h) ∙ le-ltb n 63 l)
+  pub room-8 : length t ≡ 8 → ltb n 1 ≡ room ns t
+  room-8 h = sym (room-count (omega arith) 1 (limit-8 h))
 
-  pub room-8 : length t ≡ 8 → n < 1 → true ≡ room ns t
-  room-8 h l = sym (room-count (omega arith) 1 (limit-8 h) ∙ lt-ltb n 1 l)
-
-  pub full-8 : length t ≡ 8 → 1 ≤ n → false ≡ room ns t
-  full-8 h l = sym (room-count (omega arith) 1 (limit-8 h) ∙ le-ltb n 1 l)
-
-  pub full-9 : 9 ≤ length t → false ≡ room ns t
-  full-9 h = sym (room-count (omega arith) 0 (limit-0 h) ∙ le-ltb n 0 (omega arith))
+  pub room-9 : 9 ≤ length t → false ≡ room ns t
+  room-9 h = sym (room-count (omega arith) 0 (limit-0 h) ∙ le-ltb n 0 (omega arith))
 
 pub new-empty : (ns : List (List ℕ)) (w : List ℕ) → length w ≡ 0 → false ≡ is-new ns w
 new-empty ns [] h = refl
@@ -67,7 +62,8 @@ new-is ns [] c h e = absurd (omega arith)
 new-is ns (b ∷ w) c h e = ap not (sym e)
 
 -- The file around the next byte of the names line.
-module _ (x : List ℕ) (at : ℕ) (ns : List (List ℕ)) (w : List ℕ) (start : ℕ) (inside : at < length x) (so-far : take at x ≡ spaced ns ++ w) (from : start ≡ length (spaced ns)) where
+module _ (x : List ℕ) (at : ℕ) (ns : List (List ℕ)) (w : List ℕ) (start : ℕ) (inside : at < length x) (so-far : take at x ≡ spaced ns ++ w)
+    (from : start ≡ length (spaced ns)) where
   pub whole-at : at ≡ length (spaced ns) + length w
   whole-at = omega (arith, ap length so-far, length-take at x, length-append (spaced ns) w)
 
@@ -125,10 +121,12 @@ module _ (c : Cursor) (ns : List (List ℕ)) (w : List ℕ) (b : ℕ) where
   name-full h r q = by-sort letter (sort-is-letter b h) (subst (λ t. Stepped c (when t (naming ns (w ++ (b ∷ []))))) r q)
 
   pub space-goes : b ≡ 32 → true ≡ is-new ns w → length ns < 255 → Stands c (naming (ns ++ (w ∷ [])) []) → Stepped c (step (naming ns w) b)
-  space-goes e r f q = by-sort space (sort-is-space b e) (subst (λ t. Stepped c (when t (naming (ns ++ (w ∷ [])) []))) (sym (ap (λ t. t && ltb (length ns) 255) (sym r) ∙ lt-ltb (length ns) 255 f)) q)
+  space-goes e r f q =
+      by-sort space (sort-is-space b e) (subst (λ t. Stepped c (when t (naming (ns ++ (w ∷ [])) []))) (sym (ap (λ t. t && ltb (length ns) 255) (sym r) ∙ lt-ltb (length ns) 255 f)) q)
 
   pub space-old : b ≡ 32 → false ≡ is-new ns w → c .phase ≡ 3 → Stepped c (step (naming ns w) b)
-  space-old e r q = by-sort space (sort-is-space b e) (subst (λ t. Stepped c (when t (naming (ns ++ (w ∷ [])) []))) (ap (λ t. t && ltb (length ns) 255) r) q)
+  space-old e r q =
+      by-sort space (sort-is-space b e) (subst (λ t. Stepped c (when t (naming (ns ++ (w ∷ [])) []))) (ap (λ t. t && ltb (length ns) 255) r) q)
 
   pub space-many : b ≡ 32 → 255 ≤ length ns → c .phase ≡ 3 → Stepped c (step (naming ns w) b)
   space-many e f q = by-sort space (sort-is-space b e) (go (is-new ns w))

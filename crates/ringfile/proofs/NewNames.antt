@@ -1,6 +1,6 @@
 -- A begun name can become a new name: exactly where the scanner's test says so.
 use mathlib.Core.Path.{_≡_, refl, sym, _∙_, ap, subst}
-use mathlib.Core.Logic.{_⊎_, inl, inr}
+use mathlib.Core.Logic.{inl, inr}
 use mathlib.Core.Bool.{Bool, true, false, cond}
 use mathlib.Core.List.{List, [], _∷_, _++_, map, append-nil, append-cancel-left}
 use Prim.Native.Nat.{ℕ, _+_, _*_, _≤_}
@@ -33,7 +33,9 @@ longer-0 t h k = rw (ne-eqb (length t) 7 h, ne-eqb (length t) 8 k)
 
 -- 62 × 62 different words begin with t.
 many : (t : List ℕ) → length (two-more t) ≡ 62 * 62
-many t = length-each (λ c. map (λ d. t ++ (c ∷ (d ∷ []))) alphabet) alphabet 62 (λ c. length-map alphabet (λ d. t ++ (c ∷ (d ∷ []))) ∙ length-alphabet) ∙ ap (λ k. k * 62) length-alphabet
+many t =
+    length-each (λ c. map (λ d. t ++ (c ∷ (d ∷ []))) alphabet) alphabet 62 (λ c. length-map alphabet (λ d. t ++ (c ∷ (d ∷ []))) ∙ length-alphabet)
+    ∙ ap (λ k. k * 62) length-alphabet
 
 differ : (t : List ℕ) → Distinct (two-more t)
 differ t =

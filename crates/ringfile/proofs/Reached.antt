@@ -1,7 +1,7 @@
 -- A state tells the bytes that led to it, and each state that is reached can go on to an accepted file.
 use mathlib.Core.Path.{_≡_, refl, sym, _∙_, ap, subst}
 use mathlib.Core.List.{List, [], _∷_, _++_, map, append-assoc, append-nil, map-append}
-use Prim.Native.Nat.{ℕ, _+_, _-_, _≤_, _<_}
+use Prim.Native.Nat.{ℕ, _+_, _-_, _≤_}
 use native.Mathlib.Omega.{arith}
 use lib.ListN.{length, length-append, replicate, length-replicate}
 use Rattle.orders.specs.Lists.{All, Distinct, In}
@@ -27,30 +27,39 @@ spaced-snoc (x ∷ a) w = ap (λ l. x ++ (32 ∷ l)) (spaced-snoc a w) ∙ sym (
 
 lines-snoc : (vss : List (List Value)) (vs : List Value) → value-lines (vss ++ (vs ∷ [])) ≡ value-lines vss ++ line (map value-word vs)
 lines-snoc [] vs = append-nil (line (map value-word vs))
-lines-snoc (us ∷ vss) vs = ap (λ l. line (map value-word us) ++ l) (lines-snoc vss vs) ∙ sym (append-assoc (line (map value-word us)) (value-lines vss) (line (map value-word vs)))
+lines-snoc (us ∷ vss) vs =
+    ap (λ l. line (map value-word us) ++ l) (lines-snoc vss vs)
+    ∙ sym (append-assoc (line (map value-word us)) (value-lines vss) (line (map value-word vs)))
 
-file-snoc : (ns : List (List ℕ)) (vss : List (List Value)) (vs : List Value) → file-bytes ns (vss ++ (vs ∷ [])) ≡ file-bytes ns vss ++ line (map value-word vs)
+file-snoc : (ns : List (List ℕ)) (vss : List (List Value)) (vs : List Value)
+    → file-bytes ns (vss ++ (vs ∷ [])) ≡ file-bytes ns vss ++ line (map value-word vs)
 file-snoc ns vss vs = ap (λ l. line ns ++ l) (lines-snoc vss vs) ∙ sym (append-assoc (line ns) (value-lines vss) (line (map value-word vs)))
 
-values-parts : (vs : List Value) (v : Value) (us : List Value) → line (map value-word (vs ++ (v ∷ us))) ≡ spaced (map value-word vs) ++ (value-word v ++ further (map value-word us))
+values-parts : (vs : List Value) (v : Value) (us : List Value)
+    → line (map value-word (vs ++ (v ∷ us))) ≡ spaced (map value-word vs) ++ (value-word v ++ further (map value-word us))
 values-parts vs v us = ap line (map-append value-word vs (v ∷ us)) ∙ line-parts (map value-word vs) (value-word v) (map value-word us)
 
 -- A step adds its byte.
 pub text-step : {s : State} {b : ℕ} {t : State} → Step s b t → text t ≡ text s ++ (b ∷ [])
 text-step (name-byte {ns = ns} {w = w} {b = b} h r) = sym (append-assoc (spaced ns) w (b ∷ []))
 text-step (name-space {ns = ns} {w = w} {b = b} e h n f) =
-    append-nil (spaced (ns ++ (w ∷ []))) ∙ spaced-snoc ns w ∙ sym (append-assoc (spaced ns) w (32 ∷ [])) ∙ ap (λ c. (spaced ns ++ w) ++ (c ∷ [])) (sym e)
+    append-nil (spaced (ns ++ (w ∷ []))) ∙ spaced-snoc ns w ∙ sym (append-assoc (spaced ns) w (32 ∷ []))
+    ∙ ap (λ c. (spaced ns ++ w) ++ (c ∷ [])) (sym e)
 text-step (name-end {ns = ns} {w = w} {b = b} e h n) =
-    append-nil (line (ns ++ (w ∷ [])) ++ []) ∙ append-nil (line (ns ++ (w ∷ []))) ∙ line-parts ns w [] ∙ sym (append-assoc (spaced ns) w (10 ∷ [])) ∙ ap (λ c. (spaced ns ++ w) ++ (c ∷ [])) (sym e)
+    append-nil (line (ns ++ (w ∷ [])) ++ []) ∙ append-nil (line (ns ++ (w ∷ []))) ∙ line-parts ns w [] ∙ sym (append-assoc (spaced ns) w (10 ∷ []))
+    ∙ ap (λ c. (spaced ns ++ w) ++ (c ∷ [])) (sym e)
 text-step (a-value {ns = ns} {vss = vss} {vs = vs} {v = v} {b = b} e) =
-    sym (append-assoc (file-bytes ns vss) (spaced (map value-word vs)) (value-word v)) ∙ ap (λ c. (file-bytes ns vss ++ spaced (map value-word vs)) ++ (c ∷ [])) (sym e)
+    sym (append-assoc (file-bytes ns vss) (spaced (map value-word vs)) (value-word v))
+    ∙ ap (λ c. (file-bytes ns vss ++ spaced (map value-word vs)) ++ (c ∷ [])) (sym e)
 text-step (value-space {ns = ns} {vss = vss} {vs = vs} {v = v} {b = b} e h) =
     ap (λ l. file-bytes ns vss ++ l) (ap spaced (map-append value-word vs (v ∷ [])) ∙ spaced-snoc (map value-word vs) (value-word v) ∙ sym (append-assoc (spaced (map value-word vs)) (value-word v) (32 ∷ [])))
-    ∙ sym (append-assoc (file-bytes ns vss) (spaced (map value-word vs) ++ value-word v) (32 ∷ [])) ∙ ap (λ c. (file-bytes ns vss ++ (spaced (map value-word vs) ++ value-word v)) ++ (c ∷ [])) (sym e)
+    ∙ sym (append-assoc (file-bytes ns vss) (spaced (map value-word vs) ++ value-word v) (32 ∷ []))
+    ∙ ap (λ c. (file-bytes ns vss ++ (spaced (map value-word vs) ++ value-word v)) ++ (c ∷ [])) (sym e)
 text-step (value-end {ns = ns} {vss = vss} {vs = vs} {v = v} {b = b} e h) =
     append-nil (file-bytes ns (vss ++ ((vs ++ (v ∷ [])) ∷ []))) ∙ file-snoc ns vss (vs ++ (v ∷ []))
     ∙ ap (λ l. file-bytes ns vss ++ l) (values-parts vs v [] ∙ sym (append-assoc (spaced (map value-word vs)) (value-word v) (10 ∷ [])))
-    ∙ sym (append-assoc (file-bytes ns vss) (spaced (map value-word vs) ++ value-word v) (10 ∷ [])) ∙ ap (λ c. (file-bytes ns vss ++ (spaced (map value-word vs) ++ value-word v)) ++ (c ∷ [])) (sym e)
+    ∙ sym (append-assoc (file-bytes ns vss) (spaced (map value-word vs) ++ value-word v) (10 ∷ []))
+    ∙ ap (λ c. (file-bytes ns vss ++ (spaced (map value-word vs) ++ value-word v)) ++ (c ∷ [])) (sym e)
 
 pub ok-start : Ok start
 ok-start = record { few = omega arith; each = tt; different = tt; bytes = tt; open-end = short [] [] tt (omega arith) (omega arith) }
@@ -58,7 +67,8 @@ ok-start = record { few = omega arith; each = tt; different = tt; bytes = tt; op
 -- The begun name is whole.
 module _ (ns : List (List ℕ)) (w : List ℕ) (k : Naming ns w) (h : 1 ≤ length w) (n : In w ns → ⊥) where
   all-names : All Name (ns ++ (w ∷ []))
-  all-names = all-append Name ns (w ∷ []) (k .each) (record { some-byte = h; few-bytes = omega (arith, k .open-end .name .few-bytes, length-append w (k .open-end .rest)); each = k .bytes }, tt)
+  all-names =
+      all-append Name ns (w ∷ []) (k .each) (record { some-byte = h; few-bytes = omega (arith, k .open-end .name .few-bytes, length-append w (k .open-end .rest)); each = k .bytes }, tt)
 
   all-differ : Distinct (ns ++ (w ∷ []))
   all-differ = distinct-snoc ns w (k .different) n
@@ -89,7 +99,8 @@ ok-step (value-end {ns = ns} {vss = vss} {vs = vs} {v = v} e h) k =
     record {
       rules = record {
         names = k .rules .names;
-        values = all-append (λ us. length us ≡ length ns) vss ((vs ++ (v ∷ [])) ∷ []) (k .rules .values) (omega (arith, length-append vs (v ∷ [])), tt);
+        values =
+            all-append (λ us. length us ≡ length ns) vss ((vs ++ (v ∷ [])) ∷ []) (k .rules .values) (omega (arith, length-append vs (v ∷ [])), tt);
       };
       left = omega (arith, k .rules .names .some-name);
     }

@@ -40,23 +40,29 @@ module _ (c : Cursor) (ns : List (List ℕ)) (vss : List (List Value)) (vs : Lis
     by k e h = subst (λ s. Stepped c (on-got s ns vss vs v)) (sym e) h
 
     pub space-on : b ≡ 32 → suc (length vs) < length ns → Stands c (due ns vss (vs ++ (v ∷ []))) → Stepped c (step (got ns vss vs v) b)
-    space-on e h q = by space (sort-is-space b e) (subst (λ t. Stepped c (when t (due ns vss (vs ++ (v ∷ []))))) (sym (lt-ltb (suc (length vs)) (length ns) h)) q)
+    space-on e h q =
+        by space (sort-is-space b e) (subst (λ t. Stepped c (when t (due ns vss (vs ++ (v ∷ []))))) (sym (lt-ltb (suc (length vs)) (length ns) h)) q)
 
     pub space-off : b ≡ 32 → length ns ≤ suc (length vs) → c .phase ≡ 3 → Stepped c (step (got ns vss vs v) b)
-    space-off e h q = by space (sort-is-space b e) (subst (λ t. Stepped c (when t (due ns vss (vs ++ (v ∷ []))))) (sym (le-ltb (suc (length vs)) (length ns) h)) q)
+    space-off e h q =
+        by space (sort-is-space b e) (subst (λ t. Stepped c (when t (due ns vss (vs ++ (v ∷ []))))) (sym (le-ltb (suc (length vs)) (length ns) h)) q)
 
     pub end-on : b ≡ 10 → suc (length vs) ≡ length ns → Stands c (due ns (vss ++ ((vs ++ (v ∷ [])) ∷ [])) []) → Stepped c (step (got ns vss vs v) b)
-    end-on e h q = by end (sort-is-end b e) (subst (λ t. Stepped c (when t (due ns (vss ++ ((vs ++ (v ∷ [])) ∷ [])) []))) (sym (eq-eqb (suc (length vs)) (length ns) h)) q)
+    end-on e h q =
+        by end (sort-is-end b e) (subst (λ t. Stepped c (when t (due ns (vss ++ ((vs ++ (v ∷ [])) ∷ [])) []))) (sym (eq-eqb (suc (length vs)) (length ns) h)) q)
 
     pub end-off : b ≡ 10 → (suc (length vs) ≡ length ns → ⊥) → c .phase ≡ 3 → Stepped c (step (got ns vss vs v) b)
-    end-off e h q = by end (sort-is-end b e) (subst (λ t. Stepped c (when t (due ns (vss ++ ((vs ++ (v ∷ [])) ∷ [])) []))) (sym (ne-eqb (suc (length vs)) (length ns) h)) q)
+    end-off e h q =
+        by end (sort-is-end b e) (subst (λ t. Stepped c (when t (due ns (vss ++ ((vs ++ (v ∷ [])) ∷ [])) []))) (sym (ne-eqb (suc (length vs)) (length ns) h)) q)
 
     pub got-odd : (b ≡ 32 → ⊥) → (b ≡ 10 → ⊥) → c .phase ≡ 3 → Stepped c (step (got ns vss vs v) b)
     got-odd h k q = go (elem alphabet b) (ne-eqb b 32 h) (ne-eqb b 10 k)
       where
-        go : (t : Bool) → eqb b 32 ≡ false → eqb b 10 ≡ false → Stepped c (on-got (cond t letter (cond (eqb b 32) space (cond (eqb b 10) end other))) ns vss vs v)
+        go : (t : Bool) → eqb b 32 ≡ false → eqb b 10 ≡ false
+            → Stepped c (on-got (cond t letter (cond (eqb b 32) space (cond (eqb b 10) end other))) ns vss vs v)
         go true m n = q
-        go false m n = subst (λ s. Stepped c (on-got s ns vss vs v)) (sym (ap (λ t. cond t space (cond (eqb b 10) end other)) m ∙ ap (λ t. cond t end other) n)) q
+        go false m n =
+            subst (λ s. Stepped c (on-got s ns vss vs v)) (sym (ap (λ t. cond t space (cond (eqb b 10) end other)) m ∙ ap (λ t. cond t end other) n)) q
 
 -- The cursor stands for the state after i bytes of x.
 pub record Reach (x : List ℕ) (i : ℕ) (c : Cursor) : Type 0 where
@@ -83,12 +89,14 @@ module _ (x : List ℕ) (i : ℕ) (c r : Cursor) (inside : i < length x) (h : Ad
       go none e q = absurd (n q)
       go (some t) e q = record {
         state = t;
-        run = subst (λ l. Run start l t) (sym (ap (λ j. take j x) (add-one i) ∙ take-suc x i 0 inside)) (run-append (k .run) (then (step-relates (k .state) (getD x i 0) t e) done));
+        run =
+            subst (λ l. Run start l t) (sym (ap (λ j. take j x) (add-one i) ∙ take-suc x i 0 inside)) (run-append (k .run) (then (step-relates (k .state) (getD x i 0) t e) done));
         stands = q;
       }
 
   pub says-bad : length x ≤ 65536 → r .phase ≡ 3 → Says x (Refused (RingFile i))
-  says-bad l e = malformed l (at-end-of (bad-byte (k .state) (take i x) (getD x i 0) (drop (suc i) x) (k .run) (none-of (step (k .state) (getD x i 0)) came)))
+  says-bad l e =
+      malformed l (at-end-of (bad-byte (k .state) (take i x) (getD x i 0) (drop (suc i) x) (k .run) (none-of (step (k .state) (getD x i 0)) came)))
     where
       none-of : (o : Option State) → Stepped r o → o ≡ none
       none-of none q = refl
@@ -116,24 +124,31 @@ module _ (x : List ℕ) (i : ℕ) (c : Cursor) (l : length x ≤ 65536) (k : Rea
       go (got ns vss vs v) q r = absurd (omega (arith, q .0))
 
   pub says-short : ((c .phase ≡ 1) × (c .got ≡ 0) → ⊥) → Says x (Refused (RingFile i))
-  says-short n = malformed l (subst (λ j. RefusedAt x j) (sym ended) (too-short (k .state) x ran (λ ns vss e. go ns vss (subst (Stands c) e (k .stands)))))
+  says-short n =
+      malformed l (subst (λ j. RefusedAt x j) (sym ended) (too-short (k .state) x ran (λ ns vss e. go ns vss (subst (Stands c) e (k .stands)))))
     where
       go : (ns : List (List ℕ)) (vss : List (List Value)) → Stands c (due ns vss []) → ⊥
       go ns vss q = n (q .0, q .3)
 
 -- One step, by the phase.
 module _ (x : List ℕ) (i : ℕ) (c r : Cursor) where
-  pub at-name : c .phase ≡ 0 → ((ns : List (List ℕ)) (w : List ℕ) → Naming ns w → take i x ≡ spaced ns ++ w → c .names ≡ length ns → c .start ≡ length (spaced ns) → Stepped r (step (naming ns w) (getD x i 0))) → Advances x i c r
+  pub at-name : c .phase ≡ 0
+      → ((ns : List (List ℕ)) (w : List ℕ) → Naming ns w → take i x ≡ spaced ns ++ w → c .names ≡ length ns → c .start ≡ length (spaced ns) → Stepped r (step (naming ns w) (getD x i 0)))
+      → Advances x i c r
   at-name p h (naming ns w) k e q = h ns w k e (q .1) (q .2)
   at-name p h (due ns vss vs) k e q = absurd (omega (arith, q .0))
   at-name p h (got ns vss vs v) k e q = absurd (omega (arith, q .0))
 
-  pub at-due : c .phase ≡ 1 → ((ns : List (List ℕ)) (vss : List (List Value)) (vs : List Value) → Stands c (due ns vss vs) → Stepped r (step (due ns vss vs) (getD x i 0))) → Advances x i c r
+  pub at-due : c .phase ≡ 1
+      → ((ns : List (List ℕ)) (vss : List (List Value)) (vs : List Value) → Stands c (due ns vss vs) → Stepped r (step (due ns vss vs) (getD x i 0)))
+      → Advances x i c r
   at-due p h (naming ns w) k e q = absurd (omega (arith, q .0))
   at-due p h (due ns vss vs) k e q = h ns vss vs q
   at-due p h (got ns vss vs v) k e q = absurd (omega (arith, q .0))
 
-  pub at-got : c .phase ≡ 2 → ((ns : List (List ℕ)) (vss : List (List Value)) (vs : List Value) (v : Value) → Stands c (got ns vss vs v) → Stepped r (step (got ns vss vs v) (getD x i 0))) → Advances x i c r
+  pub at-got : c .phase ≡ 2
+      → ((ns : List (List ℕ)) (vss : List (List Value)) (vs : List Value) (v : Value) → Stands c (got ns vss vs v) → Stepped r (step (got ns vss vs v) (getD x i 0)))
+      → Advances x i c r
   at-got p h (naming ns w) k e q = absurd (omega (arith, q .0))
   at-got p h (due ns vss vs) k e q = absurd (omega (arith, q .0))
   at-got p h (got ns vss vs v) k e q = h ns vss vs v q

@@ -35,23 +35,6 @@ same-cons [] b h k = absurd (omega arith)
 same-cons (x ∷ a) [] h k = absurd (omega arith)
 same-cons (x ∷ a) (y ∷ b) h k = refl
 
--- word-length, from the front.
-pub word-none : (x : List ℕ) → length x ≡ 0 → word-length x ≡ 0
-word-none [] h = refl
-word-none (b ∷ x) h = absurd (omega arith)
-
-pub word-cons : (x : List ℕ) → 1 ≤ length x → word-length x ≡ cond (eqb (getD x 0 0) 32) 0 (1 + word-length (drop 1 x))
-word-cons [] h = absurd (omega arith)
-word-cons (b ∷ x) h = refl
-
-pub word-le : (x : List ℕ) → word-length x ≤ length x
-word-le [] = omega arith
-word-le (b ∷ x) = go (eqb b 32) (word-le x)
-  where
-    go : (c : Bool) → word-length x ≤ length x → cond c 0 (1 + word-length x) ≤ suc (length x)
-    go true h = omega arith
-    go false h = omega arith
-
 pub word-at : (v x : List ℕ) → Word v → word-length (v ++ (32 ∷ x)) ≡ length v
 word-at [] x h = refl
 word-at (b ∷ v) x h = ap (λ c. cond c 0 (1 + word-length (v ++ (32 ∷ x)))) (ne-eqb b 32 (h .0)) ∙ omega (arith, word-at v x (h .1))
@@ -68,7 +51,9 @@ first-of x v ns h e = record {
   size = ap word-length e ∙ word-at v (spaced ns) h;
   inside = omega (arith, ap length e, length-append v (32 ∷ spaced ns));
   word = ap (λ l. take (length v) l) e ∙ take-append-seam v (32 ∷ spaced ns);
-  rest = ap (λ l. drop (length v + 1) l) (e ∙ sym (append-assoc v (32 ∷ []) (spaced ns))) ∙ drop-at (v ++ (32 ∷ [])) (spaced ns) (length v + 1) (length-append v (32 ∷ []));
+  rest =
+      ap (λ l. drop (length v + 1) l) (e ∙ sym (append-assoc v (32 ∷ []) (spaced ns)))
+      ∙ drop-at (v ++ (32 ∷ [])) (spaced ns) (length v + 1) (length-append v (32 ∷ []));
 }
 
 -- Parts as the code has them.
@@ -78,17 +63,13 @@ part-len s n x = let e : s + n - s ≡ n = omega arith in ap (λ k. take k (drop
 pub rest-is : (k : ℕ) (x : List ℕ) → take (length x - k) (drop k x) ≡ drop k x
 rest-is k x = take-all (length x - k) (drop k x) (omega (arith, length-drop k x))
 
-pub equal-next : (a b : List ℕ) → 1 ≤ length a → 1 ≤ length b → getD a 0 0 ≡ getD b 0 0 → same (take (length a - 1) (drop 1 a)) (take (length b - 1) (drop 1 b)) ≡ same a b
-equal-next a b h k e = ap₂ same (rest-is 1 a) (rest-is 1 b) ∙ sym (same-cons a b h k ∙ ap (λ c. c && same (drop 1 a) (drop 1 b)) (eq-eqb (getD a 0 0) (getD b 0 0) e))
+pub equal-next : (a b : List ℕ) → 1 ≤ length a → 1 ≤ length b → getD a 0 0 ≡ getD b 0 0
+    → same (take (length a - 1) (drop 1 a)) (take (length b - 1) (drop 1 b)) ≡ same a b
+equal-next a b h k e =
+    ap₂ same (rest-is 1 a) (rest-is 1 b) ∙ sym (same-cons a b h k ∙ ap (λ c. c && same (drop 1 a) (drop 1 b)) (eq-eqb (getD a 0 0) (getD b 0 0) e))
 
 pub equal-not : (a b : List ℕ) → 1 ≤ length a → 1 ≤ length b → (getD a 0 0 ≡ getD b 0 0 → ⊥) → same a b ≡ false
 equal-not a b h k n = same-cons a b h k ∙ ap (λ c. c && same (drop 1 a) (drop 1 b)) (ne-eqb (getD a 0 0) (getD b 0 0) n)
-
-pub word-stop : (x : List ℕ) → 1 ≤ length x → getD x 0 0 ≡ 32 → word-length x ≡ 0
-word-stop x h e = word-cons x h ∙ ap (λ c. cond c 0 (1 + word-length (drop 1 x))) (eq-eqb (getD x 0 0) 32 e)
-
-pub word-next : (x : List ℕ) → 1 ≤ length x → (getD x 0 0 ≡ 32 → ⊥) → 1 + word-length (take (length x - 1) (drop 1 x)) ≡ word-length x
-word-next x h n = ap (λ l. 1 + word-length l) (rest-is 1 x) ∙ sym (word-cons x h ∙ ap (λ c. cond c 0 (1 + word-length (drop 1 x))) (ne-eqb (getD x 0 0) 32 n))
 
 -- The words of x, one step: k bytes, a space, and the rest.
 pub record Front (x : List ℕ) (k : ℕ) (v : List ℕ) (ns : List (List ℕ)) : Type 0 where
@@ -129,10 +110,13 @@ module _ (x w : List ℕ) (k : ℕ) (ns : List (List ℕ)) (h : All Word ns) (e 
   among-odd {A} o = by-words (λ ms. A) x k ns h e l q (λ v ms f. absurd (omega (arith, f .inside)))
 
   pub among-hit : same w (first-bytes k x) ≡ true → true ≡ among ns w
-  among-hit t = by-words (λ ms. true ≡ among ms w) x k ns h e l q (λ v ms f. sym (ap (λ c. cond c true (among ms w)) (ap (λ z. same w z) (sym (head-is k x ∙ f .word)) ∙ t)))
+  among-hit t =
+      by-words (λ ms. true ≡ among ms w) x k ns h e l q (λ v ms f. sym (ap (λ c. cond c true (among ms w)) (ap (λ z. same w z) (sym (head-is k x ∙ f .word)) ∙ t)))
 
-  pub among-next : (r : Bool) → same w (first-bytes k x) ≡ false → ((ms : List (List ℕ)) → All Word ms → after-space k x ≡ spaced ms → r ≡ among ms w) → r ≡ among ns w
-  among-next r t g = by-words (λ ms. r ≡ among ms w) x k ns h e l q (λ v ms f. g ms (f .words) (rest-is (k + 1) x ∙ f .rest) ∙ sym (ap (λ c. cond c true (among ms w)) (ap (λ z. same w z) (sym (head-is k x ∙ f .word)) ∙ t)))
+  pub among-next : (r : Bool) → same w (first-bytes k x) ≡ false → ((ms : List (List ℕ)) → All Word ms → after-space k x ≡ spaced ms → r ≡ among ms w)
+      → r ≡ among ns w
+  among-next r t g =
+      by-words (λ ms. r ≡ among ms w) x k ns h e l q (λ v ms f. g ms (f .words) (rest-is (k + 1) x ∙ f .rest) ∙ sym (ap (λ c. cond c true (among ms w)) (ap (λ z. same w z) (sym (head-is k x ∙ f .word)) ∙ t)))
 
   begun : (v : List ℕ) (ms : List (List ℕ)) → Front x k v ms → length w ≤ k → take (length w) v ≡ first-bytes (length w) x
   begun v ms f m = ap (λ z. take (length w) z) (sym (f .word)) ∙ take-take (length w) k x m ∙ sym (head-is (length w) x)
@@ -140,13 +124,16 @@ module _ (x w : List ℕ) (k : ℕ) (ns : List (List ℕ)) (h : All Word ns) (e 
   -- The words that begin with w: the first one does, or not; and r counts them in the rest.
   counted : (b : Bool) (r : ℕ) → ((v : List ℕ) (ms : List (List ℕ)) → Front x k v ms → begins w v ≡ b)
       → ((ms : List (List ℕ)) → All Word ms → after-space k x ≡ spaced ms → r ≡ length (filter (begins w) ms)) → cond b (1 + r) r ≡ length (filter (begins w) ns)
-  counted b r t g = by-words (λ ms. cond b (1 + r) r ≡ length (filter (begins w) ms)) x k ns h e l q (λ v ms f. go v ms (t v ms f) (g ms (f .words) (rest-is (k + 1) x ∙ f .rest)))
+  counted b r t g =
+      by-words (λ ms. cond b (1 + r) r ≡ length (filter (begins w) ms)) x k ns h e l q (λ v ms f. go v ms (t v ms f) (g ms (f .words) (rest-is (k + 1) x ∙ f .rest)))
     where
-      add : (c : Bool) (v : List ℕ) (ms : List (List ℕ)) → r ≡ length (filter (begins w) ms) → cond c (1 + r) r ≡ length (cond c (v ∷ filter (begins w) ms) (filter (begins w) ms))
+      add : (c : Bool) (v : List ℕ) (ms : List (List ℕ)) → r ≡ length (filter (begins w) ms)
+          → cond c (1 + r) r ≡ length (cond c (v ∷ filter (begins w) ms) (filter (begins w) ms))
       add true v ms e = omega arith
       add false v ms e = e
 
-      go : (v : List ℕ) (ms : List (List ℕ)) → begins w v ≡ b → r ≡ length (filter (begins w) ms) → cond b (1 + r) r ≡ length (filter (begins w) (v ∷ ms))
+      go : (v : List ℕ) (ms : List (List ℕ)) → begins w v ≡ b → r ≡ length (filter (begins w) ms)
+          → cond b (1 + r) r ≡ length (filter (begins w) (v ∷ ms))
       go v ms d e = add b v ms e ∙ ap (λ c. length (cond c (v ∷ filter (begins w) ms) (filter (begins w) ms))) (sym d)
 
   pub count-by : (b : Bool) (r : ℕ) → length w ≤ k → same (first-bytes (length w) x) w ≡ b
@@ -161,7 +148,8 @@ module _ (x w : List ℕ) (k : ℕ) (ns : List (List ℕ)) (h : All Word ns) (e 
       short v s t = omega (arith, ap length t, length-take (length w) v)
 
 -- word-length, by a loop.
-pub word-on : (x : List ℕ) (i : ℕ) → i < length x → (getD x i 0 ≡ 32 → ⊥) → word-length x ≡ i + word-length (drop i x) → word-length x ≡ (i + 1) + word-length (drop (i + 1) x)
+pub word-on : (x : List ℕ) (i : ℕ) → i < length x → (getD x i 0 ≡ 32 → ⊥) → word-length x ≡ i + word-length (drop i x)
+    → word-length x ≡ (i + 1) + word-length (drop (i + 1) x)
 word-on x i h n e =
     let s : word-length (drop i x) ≡ 1 + word-length (drop (suc i) x) = ap word-length (drop-cons x i 0 h) ∙ ap (λ c. cond c 0 (1 + word-length (drop (suc i) x))) (ne-eqb (getD x i 0) 32 n) in
     let t : word-length (drop (suc i) x) ≡ word-length (drop (i + 1) x) = ap (λ j. word-length (drop j x)) (sym (add-one i)) in

@@ -15,12 +15,17 @@ use Rattle.ringfile.specs.Scanner.{room, is-new, State, naming, due, got
 use Rattle.ringfile.proofs.Words.{both, new-true, true-new}
 
 pub data Step : State → ℕ → State → Type 0 where
-  name-byte : {ns : List (List ℕ)} {w : List ℕ} {b : ℕ} → NameByte b → room ns (w ++ (b ∷ [])) ≡ true → Step (naming ns w) b (naming ns (w ++ (b ∷ [])))
-  name-space : {ns : List (List ℕ)} {w : List ℕ} {b : ℕ} → b ≡ 32 → 1 ≤ length w → (In w ns → ⊥) → length ns < 255 → Step (naming ns w) b (naming (ns ++ (w ∷ [])) [])
+  name-byte : {ns : List (List ℕ)} {w : List ℕ} {b : ℕ} → NameByte b → room ns (w ++ (b ∷ [])) ≡ true
+      → Step (naming ns w) b (naming ns (w ++ (b ∷ [])))
+  name-space : {ns : List (List ℕ)} {w : List ℕ} {b : ℕ} → b ≡ 32 → 1 ≤ length w → (In w ns → ⊥) → length ns < 255
+      → Step (naming ns w) b (naming (ns ++ (w ∷ [])) [])
   name-end : {ns : List (List ℕ)} {w : List ℕ} {b : ℕ} → b ≡ 10 → 1 ≤ length w → (In w ns → ⊥) → Step (naming ns w) b (due (ns ++ (w ∷ [])) [] [])
-  a-value : {ns : List (List ℕ)} {vss : List (List Value)} {vs : List Value} {v : Value} {b : ℕ} → b ≡ value-byte v → Step (due ns vss vs) b (got ns vss vs v)
-  value-space : {ns : List (List ℕ)} {vss : List (List Value)} {vs : List Value} {v : Value} {b : ℕ} → b ≡ 32 → suc (length vs) < length ns → Step (got ns vss vs v) b (due ns vss (vs ++ (v ∷ [])))
-  value-end : {ns : List (List ℕ)} {vss : List (List Value)} {vs : List Value} {v : Value} {b : ℕ} → b ≡ 10 → suc (length vs) ≡ length ns → Step (got ns vss vs v) b (due ns (vss ++ ((vs ++ (v ∷ [])) ∷ [])) [])
+  a-value : {ns : List (List ℕ)} {vss : List (List Value)} {vs : List Value} {v : Value} {b : ℕ} → b ≡ value-byte v
+      → Step (due ns vss vs) b (got ns vss vs v)
+  value-space : {ns : List (List ℕ)} {vss : List (List Value)} {vs : List Value} {v : Value} {b : ℕ} → b ≡ 32 → suc (length vs) < length ns
+      → Step (got ns vss vs v) b (due ns vss (vs ++ (v ∷ [])))
+  value-end : {ns : List (List ℕ)} {vss : List (List Value)} {vs : List Value} {v : Value} {b : ℕ} → b ≡ 10 → suc (length vs) ≡ length ns
+      → Step (got ns vss vs v) b (due ns (vss ++ ((vs ++ (v ∷ [])) ∷ [])) [])
 
 -- What the sort of a byte says.
 abbrev Sorted : ℕ → Sort → Type 0
@@ -52,7 +57,8 @@ sort-end = refl
 value-some : (b : ℕ) (v : Value) → value b ≡ some v → b ≡ value-byte v
 value-some b v e = go (eqb b 48) (eqb b 49) (eqb b 45) refl refl refl e
   where
-    go : (c d f : Bool) → eqb b 48 ≡ c → eqb b 49 ≡ d → eqb b 45 ≡ f → cond c (some off) (cond d (some on) (cond f (some hyphen) none)) ≡ some v → b ≡ value-byte v
+    go : (c d f : Bool) → eqb b 48 ≡ c → eqb b 49 ≡ d → eqb b 45 ≡ f → cond c (some off) (cond d (some on) (cond f (some hyphen) none)) ≡ some v
+        → b ≡ value-byte v
     go true d f p q r h = let o : off ≡ v = cc in eqb-true b 48 p ∙ ap value-byte o
     go false true f p q r h = let o : on ≡ v = cc in eqb-true b 49 q ∙ ap value-byte o
     go false false true p q r h = let o : hyphen ≡ v = cc in eqb-true b 45 r ∙ ap value-byte o
@@ -106,7 +112,8 @@ when-true : (c : Bool) (s : State) → c ≡ true → when c s ≡ some s
 when-true c s e = ap (λ d. when d s) e
 
 pub relation-steps : {s : State} {b : ℕ} {t : State} → Step s b t → step s b ≡ some t
-relation-steps (name-byte {ns = ns} {w = w} {b = b} h r) = ap (λ k. on-name k ns w b) (sort-letter b h) ∙ when-true (room ns (w ++ (b ∷ []))) (naming ns (w ++ (b ∷ []))) r
+relation-steps (name-byte {ns = ns} {w = w} {b = b} h r) =
+    ap (λ k. on-name k ns w b) (sort-letter b h) ∙ when-true (room ns (w ++ (b ∷ []))) (naming ns (w ++ (b ∷ []))) r
 relation-steps (name-space {ns = ns} {w = w} {b = b} e h n f) =
     ap (λ k. on-name k ns w b) (ap sort e ∙ sort-space)
     ∙ when-true (is-new ns w && ltb (length ns) 255) (naming (ns ++ (w ∷ [])) []) (ap (λ c. c && ltb (length ns) 255) (true-new ns w h n) ∙ lt-ltb (length ns) 255 f)
@@ -114,9 +121,11 @@ relation-steps (name-end {ns = ns} {w = w} {b = b} e h n) =
     ap (λ k. on-name k ns w b) (ap sort e ∙ sort-end) ∙ when-true (is-new ns w) (due (ns ++ (w ∷ [])) [] []) (true-new ns w h n)
 relation-steps (a-value {ns = ns} {vss = vss} {vs = vs} {v = v} e) = ap (λ o. on-value o ns vss vs) (ap value e ∙ value-of-byte v)
 relation-steps (value-space {ns = ns} {vss = vss} {vs = vs} {v = v} e h) =
-    ap (λ k. on-got k ns vss vs v) (ap sort e ∙ sort-space) ∙ when-true (ltb (suc (length vs)) (length ns)) (due ns vss (vs ++ (v ∷ []))) (lt-ltb (suc (length vs)) (length ns) h)
+    ap (λ k. on-got k ns vss vs v) (ap sort e ∙ sort-space)
+    ∙ when-true (ltb (suc (length vs)) (length ns)) (due ns vss (vs ++ (v ∷ []))) (lt-ltb (suc (length vs)) (length ns) h)
 relation-steps (value-end {ns = ns} {vss = vss} {vs = vs} {v = v} e h) =
-    ap (λ k. on-got k ns vss vs v) (ap sort e ∙ sort-end) ∙ when-true (eqb (suc (length vs)) (length ns)) (due ns (vss ++ ((vs ++ (v ∷ [])) ∷ [])) []) (eq-eqb (suc (length vs)) (length ns) h)
+    ap (λ k. on-got k ns vss vs v) (ap sort e ∙ sort-end)
+    ∙ when-true (eqb (suc (length vs)) (length ns)) (due ns (vss ++ ((vs ++ (v ∷ [])) ∷ [])) []) (eq-eqb (suc (length vs)) (length ns) h)
 
 -- Steps in a row.
 pub data Run : State → List ℕ → State → Type 0 where

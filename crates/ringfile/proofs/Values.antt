@@ -27,22 +27,26 @@ value-in (v ∷ (u ∷ us)) (suc i) h =
     let e : 2 * suc i ≡ suc (suc (2 * i)) = omega arith in
     ap (λ j. getD (line (map value-word (v ∷ (u ∷ us)))) j 0) e ∙ value-in (u ∷ us) i (omega arith)
 
-in-lines : (m : ℕ) (vss : List (List Value)) (l i : ℕ) → 1 ≤ m → All (λ vs. length vs ≡ m) vss → l < length vss → i < m → getD (value-lines vss) (l * (2 * m) + 2 * i) 0 ≡ value-byte (getD (getD vss l []) i off)
+in-lines : (m : ℕ) (vss : List (List Value)) (l i : ℕ) → 1 ≤ m → All (λ vs. length vs ≡ m) vss → l < length vss → i < m
+    → getD (value-lines vss) (l * (2 * m) + 2 * i) 0 ≡ value-byte (getD (getD vss l []) i off)
 in-lines m [] l i h k p q = absurd (omega arith)
 in-lines m (vs ∷ vss) zero i h k p q =
     let e : 0 * (2 * m) + 2 * i ≡ 2 * i = omega arith in
     let n = length-values vs (omega (arith, k .0)) in
-    ap (λ j. getD (line (map value-word vs) ++ value-lines vss) j 0) e ∙ List·getD-append (line (map value-word vs)) (value-lines vss) 0 (2 * i) (omega (arith, n, k .0)) ∙ value-in vs i (omega (arith, k .0))
+    ap (λ j. getD (line (map value-word vs) ++ value-lines vss) j 0) e
+    ∙ List·getD-append (line (map value-word vs)) (value-lines vss) 0 (2 * i) (omega (arith, n, k .0)) ∙ value-in vs i (omega (arith, k .0))
 in-lines m (vs ∷ vss) (suc l) i h k p q =
     let n = length-values vs (omega (arith, k .0)) in
     let s : 2 * length vs ≡ 2 * m = omega (arith, k .0) in
     let e : suc l * (2 * m) + 2 * i ≡ length (line (map value-word vs)) + (l * (2 * m) + 2 * i) = omega (arith, n, s) in
-    ap (λ j. getD (line (map value-word vs) ++ value-lines vss) j 0) e ∙ getD-append-add (line (map value-word vs)) (value-lines vss) (l * (2 * m) + 2 * i) 0 ∙ in-lines m vss l i h (k .1) (omega arith) q
+    ap (λ j. getD (line (map value-word vs) ++ value-lines vss) j 0) e
+    ∙ getD-append-add (line (map value-word vs)) (value-lines vss) (l * (2 * m) + 2 * i) 0 ∙ in-lines m vss l i h (k .1) (omega arith) q
 
 -- Value i of line l stands at the length of the names line, and 2 bytes a value on.
 pub value-at : (ns : List (List ℕ)) (vss : List (List Value)) (l i : ℕ) → Rules ns vss → l < length vss → i < length ns
     → getD (file-bytes ns vss) (length (line ns) + (l * (2 * length ns) + 2 * i)) 0 ≡ value-byte (getD (getD vss l []) i off)
-value-at ns vss l i r p q = getD-append-add (line ns) (value-lines vss) (l * (2 * length ns) + 2 * i) 0 ∙ in-lines (length ns) vss l i (r .names .some-name) (r .values) p q
+value-at ns vss l i r p q =
+    getD-append-add (line ns) (value-lines vss) (l * (2 * length ns) + 2 * i) 0 ∙ in-lines (length ns) vss l i (r .names .some-name) (r .values) p q
 
 pub mark-is : (v : Value) → eqb (value-byte v) 49 ≡ in-group v
 mark-is off = refl
@@ -61,7 +65,8 @@ lines-long : (vss : List (List Value)) → length vss ≤ length (value-lines vs
 lines-long [] = omega arith
 lines-long (vs ∷ vss) = omega (arith, length-append (line (map value-word vs)) (value-lines vss), lines-long vss, line-some vs)
 
-module _ (x : List ℕ) (ns : List (List ℕ)) (vss : List (List Value)) (l i n h : ℕ) (r : Rules ns vss) (e : x ≡ file-bytes ns vss) (z : length x ≤ 65536) (a : n ≡ length ns) (b : h ≡ length (line ns)) (p : l < length vss) (q : i < length ns) where
+module _ (x : List ℕ) (ns : List (List ℕ)) (vss : List (List Value)) (l i n h : ℕ) (r : Rules ns vss) (e : x ≡ file-bytes ns vss)
+    (z : length x ≤ 65536) (a : n ≡ length ns) (b : h ≡ length (line ns)) (p : l < length vss) (q : i < length ns) where
   pub few-names : {A : Type 0} → 256 < n → A
   few-names g = absurd (omega (arith, r .names .few-names))
 

@@ -1,5 +1,5 @@
 -- What the tests on bytes and words say.
-use mathlib.Core.Path.{_≡_, refl, sym, _∙_, ap, subst}
+use mathlib.Core.Path.{_≡_, refl, sym, ap, subst}
 use mathlib.Core.Logic.{_⊎_, inl, inr}
 use mathlib.Core.Bool.{Bool, true, false, not, _&&_, true≢false}
 use mathlib.Core.List.{List, [], _∷_, _++_}
@@ -90,11 +90,13 @@ upper b h k = in-elem alphabet b (in-left b (range 65 26) (range 97 26 ++ range 
 
 pub lower : (b : ℕ) → 97 ≤ b → b < 123 → elem alphabet b ≡ true
 unfolding alphabet
-lower b h k = in-elem alphabet b (in-right b (range 65 26) (range 97 26 ++ range 48 10) (in-left b (range 97 26) (range 48 10) (range-in 97 26 b h k)))
+lower b h k =
+    in-elem alphabet b (in-right b (range 65 26) (range 97 26 ++ range 48 10) (in-left b (range 97 26) (range 48 10) (range-in 97 26 b h k)))
 
 pub digit : (b : ℕ) → 48 ≤ b → b < 58 → elem alphabet b ≡ true
 unfolding alphabet
-digit b h k = in-elem alphabet b (in-right b (range 65 26) (range 97 26 ++ range 48 10) (in-right b (range 97 26) (range 48 10) (range-in 48 10 b h k)))
+digit b h k =
+    in-elem alphabet b (in-right b (range 65 26) (range 97 26 ++ range 48 10) (in-right b (range 97 26) (range 48 10) (range-in 48 10 b h k)))
 
 pub no-letter : (b : ℕ) → ((65 ≤ b) × (b < 91) → ⊥) → ((97 ≤ b) × (b < 123) → ⊥) → ((48 ≤ b) × (b < 58) → ⊥) → elem alphabet b ≡ false
 unfolding alphabet

@@ -5,7 +5,6 @@ use mathlib.Core.List.{List, [], _∷_, _++_, map}
 use Prim.Native.Nat.{ℕ, suc, _-_, _≤_, _<_}
 use lib.ListN.{length, take, getD}
 use Rattle.orders.specs.Lists.{All, Distinct, In, filter, range}
-use Rattle.calls.specs.declared.Refusal.{Refusal}
 use Rattle.calls.specs.declared.Refusal.the-variants.{RingFile}
 use Rattle.ringfile.specs.declared.Scanned.{Scanned}
 use Rattle.ringfile.specs.declared.Scanned.the-variants.{Ring, Refused}

@@ -1,5 +1,4 @@
 -- The scanner, on which the private functions' contracts are stated: a state for the bytes read so far, and what one byte more leads to.
-use mathlib.Core.Path.{_≡_}
 use mathlib.Core.Bool.{Bool, true, false, cond, not, _&&_}
 use mathlib.Core.List.{List, [], _∷_, _++_, map}
 use mathlib.Core.Option.{Option, none, some}

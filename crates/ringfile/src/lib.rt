@@ -35,25 +35,12 @@ struct Cursor {
 fn letter(b: u8) -> bool
     ensures { λ r. ⌜ r ≡ elem alphabet b ⌝ }
 {
-    if b < 48 {
-        return false;
+    match b {
+        48..=57 => true,
+        65..=90 => true,
+        97..=122 => true,
+        _ => false,
     }
-    if b < 58 {
-        return true;
-    }
-    if b < 65 {
-        return false;
-    }
-    if b < 91 {
-        return true;
-    }
-    if b < 97 {
-        return false;
-    }
-    if b < 123 {
-        return true;
-    }
-    false
 }
 
 // Whether a and b hold the same bytes.
@@ -106,7 +93,7 @@ fn is_among(x: &[u8], w: &[u8]) -> bool
     is_among(&x[k + 1..], w)
 }
 
-// How many of the words of x begin with t.
+// How many of the words of x, a space after each, begin with t.
 fn begin_with(x: &[u8], t: &[u8]) -> usize
     ensures { λ r. ⌜ ((ns : List (List ℕ)) → All Word ns → now (x .entry) ≡ spaced ns → r ≡ length (filter (begins (now (t .entry))) ns)) ⌝ }
     ensures { λ r. ⌜ r ≤ length (now (x .entry)) ⌝ }
@@ -138,171 +125,120 @@ fn has_room(x: &[u8], t: &[u8]) -> bool
     }
     let taken = begin_with(x, t);
     if m == 7 {
-        if taken < 63 {
-            return true;
-        }
-        return false;
+        return taken < 63;
     }
     if m == 8 {
-        if taken < 1 {
-            return true;
-        }
-        return false;
+        return taken < 1;
     }
     false
 }
 
-// Whether w is a new name.
+// Whether w is a new name. x: the earlier names, a space after each.
 fn is_new(x: &[u8], w: &[u8]) -> bool
     ensures { λ r. ⌜ ((ns : List (List ℕ)) → All Name ns → now (x .entry) ≡ spaced ns → r ≡ is-new ns (now (w .entry))) ⌝ }
 {
     if w.len() == 0 {
         return false;
     }
-    if is_among(x, w) {
-        return false;
-    }
-    true
+    !is_among(x, w)
 }
 
-// The cursor of a refusal.
-fn refused() -> Cursor
-    ensures { λ r. ⌜ (r .phase ≡ 3) × (r .names ≡ 0) × (r .start ≡ 0) × (r .got ≡ 0) × (r .lines ≡ 0) ⌝ }
+// The cursor in this phase, before any value; phase 3 with zeros is that of a refusal.
+fn at_phase(phase: u8, names: usize, start: usize) -> Cursor
+    ensures { λ r. ⌜ (r .phase ≡ phase) × (r .names ≡ names) × (r .start ≡ start) × (r .got ≡ 0) × (r .lines ≡ 0) ⌝ }
 {
     Cursor {
-        phase: 3,
-        names: 0,
-        start: 0,
+        phase: phase,
+        names: names,
+        start: start,
         got: 0,
         lines: 0,
     }
 }
 
-// A byte of the names line.
+// The cursor after byte number `at`, in the names line.
 fn on_name(file: &[u8], at: usize, names: usize, start: usize) -> Cursor
     requires { ⌜ (at < length (now file)) × (start ≤ at) × (names ≤ 256) ⌝ }
     ensures { λ r. ⌜ Within r (at + 1) ⌝ }
-    ensures { λ r. ⌜ ((ns : List (List ℕ)) (w : List ℕ) → Naming ns w → take at (now (file .entry)) ≡ spaced ns ++ w → names ≡ length ns → start ≡ length (spaced ns) → Stepped r (step (naming ns w) (getD (now (file .entry)) at 0))) ⌝ }
+    ensures { λ r. ⌜ ((ns : List (List ℕ)) (w : List ℕ) → Naming ns w → take at (now (file .entry)) ≡ spaced ns ++ w
+        → names ≡ length ns → start ≡ length (spaced ns) → Stepped r (step (naming ns w) (getD (now (file .entry)) at 0))) ⌝ }
 {
     let b = file[at];
     let next = at + 1;
     if letter(b) {
         if has_room(&file[0..start], &file[start..next]) {
-            return Cursor {
-                phase: 0,
-                names: names,
-                start: start,
-                got: 0,
-                lines: 0,
-            };
+            return at_phase(0, names, start);
         }
-        return refused();
+        return at_phase(3, 0, 0);
     }
     if b == 32 {
         if 255 <= names {
-            return refused();
+            return at_phase(3, 0, 0);
         }
         if is_new(&file[0..start], &file[start..at]) {
-            return Cursor {
-                phase: 0,
-                names: names + 1,
-                start: next,
-                got: 0,
-                lines: 0,
-            };
+            return at_phase(0, names + 1, next);
         }
-        return refused();
+        return at_phase(3, 0, 0);
     }
     if b == 10 {
         if 256 <= names {
-            return refused();
+            return at_phase(3, 0, 0);
         }
         if is_new(&file[0..start], &file[start..at]) {
-            return Cursor {
-                phase: 1,
-                names: names + 1,
-                start: next,
-                got: 0,
-                lines: 0,
-            };
+            return at_phase(1, names + 1, next);
         }
-        return refused();
+        return at_phase(3, 0, 0);
     }
-    refused()
+    at_phase(3, 0, 0)
 }
 
-// A byte where a value is due.
+// The cursor after the byte b, number `at`, where a value is due.
 fn on_value(b: u8, at: usize, c: Cursor) -> Cursor
     requires { ⌜ Within c at ⌝ }
     ensures { λ r. ⌜ Within r (at + 1) ⌝ }
-    ensures { λ r. ⌜ ((ns : List (List ℕ)) (vss : List (List Value)) (vs : List Value) → Stands c (due ns vss vs) → Stepped r (step (due ns vss vs) b)) ⌝ }
+    ensures { λ r. ⌜ ((ns : List (List ℕ)) (vss : List (List Value)) (vs : List Value) → Stands c (due ns vss vs)
+        → Stepped r (step (due ns vss vs) b)) ⌝ }
 {
-    if b == 48 {
-        return Cursor {
-            phase: 2,
-            names: c.names,
-            start: c.start,
-            got: c.got,
-            lines: c.lines,
-        };
+    let mut next = c;
+    next.phase = 2;
+    match b {
+        48 => next,
+        49 => next,
+        45 => next,
+        _ => at_phase(3, 0, 0),
     }
-    if b == 49 {
-        return Cursor {
-            phase: 2,
-            names: c.names,
-            start: c.start,
-            got: c.got,
-            lines: c.lines,
-        };
-    }
-    if b == 45 {
-        return Cursor {
-            phase: 2,
-            names: c.names,
-            start: c.start,
-            got: c.got,
-            lines: c.lines,
-        };
-    }
-    refused()
 }
 
-// A byte after a value.
+// The cursor after the byte b, number `at`, where a value was read.
 fn on_got(b: u8, at: usize, c: Cursor) -> Cursor
     requires { ⌜ (Within c at) × (at < 65536) ⌝ }
     ensures { λ r. ⌜ Within r (at + 1) ⌝ }
-    ensures { λ r. ⌜ ((ns : List (List ℕ)) (vss : List (List Value)) (vs : List Value) (v : Value) → Stands c (got ns vss vs v) → Stepped r (step (got ns vss vs v) b)) ⌝ }
+    ensures { λ r. ⌜ ((ns : List (List ℕ)) (vss : List (List Value)) (vs : List Value) (v : Value) → Stands c (got ns vss vs v)
+        → Stepped r (step (got ns vss vs v) b)) ⌝ }
 {
     let more = c.got + 1;
     let names = c.names;
+    let mut next = c;
+    next.phase = 1;
     if b == 32 {
         if more < names {
-            return Cursor {
-                phase: 1,
-                names: names,
-                start: c.start,
-                got: more,
-                lines: c.lines,
-            };
+            next.got = more;
+            return next;
         }
-        return refused();
+        return at_phase(3, 0, 0);
     }
     if b == 10 {
         if more == names {
-            return Cursor {
-                phase: 1,
-                names: names,
-                start: c.start,
-                got: 0,
-                lines: c.lines + 1,
-            };
+            next.got = 0;
+            next.lines = c.lines + 1;
+            return next;
         }
-        return refused();
+        return at_phase(3, 0, 0);
     }
-    refused()
+    at_phase(3, 0, 0)
 }
 
-// One byte.
+// The cursor after byte number `at`.
 fn advance(file: &[u8], at: usize, c: Cursor) -> Cursor
     requires { ⌜ (Within c at) × (at < length (now file)) × (length (now file) ≤ 65536) ⌝ }
     ensures { λ r. ⌜ Within r (at + 1) ⌝ }
@@ -319,7 +255,7 @@ fn advance(file: &[u8], at: usize, c: Cursor) -> Cursor
     if phase == 2 {
         return on_got(b, at, c);
     }
-    refused()
+    at_phase(3, 0, 0)
 }
 
 // Reads the file: what it holds, or the byte at which it is refused.
@@ -330,13 +266,7 @@ pub fn scan(file: &[u8]) -> Scanned
     if 65536 < n {
         return Scanned::Refused(Refusal::RingFile(65536));
     }
-    let mut c = Cursor {
-        phase: 0,
-        names: 0,
-        start: 0,
-        got: 0,
-        lines: 0,
-    };
+    let mut c = at_phase(0, 0, 0);
     let mut i = 0;
     while i < n {
         c = advance(file, i, c);
@@ -378,7 +308,7 @@ fn word_end(x: &[u8]) -> usize
     i
 }
 
-// Where name number k, from 0, starts.
+// Where name number k, from 0, of the names line that x begins with starts.
 fn place(x: &[u8], k: usize) -> usize
     ensures { λ r. ⌜ ((ns : List (List ℕ)) (t : List ℕ) → All Word ns → now (x .entry) ≡ line ns ++ t → k < length ns → r ≡ place-of ns k) ⌝ }
     ensures { λ r. ⌜ r ≤ length (now (x .entry)) ⌝ }
@@ -393,9 +323,10 @@ fn place(x: &[u8], k: usize) -> usize
     n + 1 + place(&x[n + 1..], k - 1)
 }
 
-// Name number k, from 0, of an accepted file: the part of the file that it fills.
+// Name number k, from 0, of an accepted file: the part of the file that it fills. Of another file or number it is some part of the file.
 pub fn name_of(file: &[u8], k: usize) -> &[u8]
-    ensures { λ r. ⌜ ((ns : List (List ℕ)) (vss : List (List Value)) → Rules ns vss → now (file .entry) ≡ file-bytes ns vss → k < length ns → now r ≡ getD ns k []) ⌝ }
+    ensures { λ r. ⌜ ((ns : List (List ℕ)) (vss : List (List Value)) → Rules ns vss → now (file .entry) ≡ file-bytes ns vss → k < length ns
+        → now r ≡ getD ns k []) ⌝ }
 {
     if 256 <= k {
         return &file[0..0];
@@ -406,9 +337,12 @@ pub fn name_of(file: &[u8], k: usize) -> &[u8]
     &file[start..end]
 }
 
-// Value number i of value line l, both from 0, of an accepted file with so many names and a names line of head bytes.
+// Whether value number i of value line l, both from 0, is `1`, in an accepted file with so many names and a names line of head bytes.
+// Of other numbers the answer means nothing.
 pub fn value_of(file: &[u8], names: usize, head: usize, l: usize, i: usize) -> bool
-    ensures { λ r. ⌜ ((ns : List (List ℕ)) (vss : List (List Value)) → Rules ns vss → now (file .entry) ≡ file-bytes ns vss → length (now (file .entry)) ≤ 65536 → names ≡ length ns → head ≡ length (line ns) → l < length vss → i < length ns → r ≡ in-group (getD (getD vss l []) i off)) ⌝ }
+    ensures { λ r. ⌜ ((ns : List (List ℕ)) (vss : List (List Value)) → Rules ns vss → now (file .entry) ≡ file-bytes ns vss
+        → length (now (file .entry)) ≤ 65536 → names ≡ length ns → head ≡ length (line ns) → l < length vss
+        → i < length ns → r ≡ in-group (getD (getD vss l []) i off)) ⌝ }
 {
     if 256 < names {
         return false;
@@ -432,7 +366,9 @@ pub fn value_of(file: &[u8], names: usize, head: usize, l: usize, i: usize) -> b
 // Writes the leaves from number i + 1 on that have the value `1` in value line l, rising, to the start of the list, and says how many.
 fn group_from(file: &[u8], names: usize, head: usize, l: usize, i: usize, list: &mut [u16]) -> usize
     requires { ⌜ (names ≤ 256) × (names ≤ i + length (now list)) ⌝ }
-    ensures { λ r. ⌜ ((ns : List (List ℕ)) (vss : List (List Value)) → Rules ns vss → now (file .entry) ≡ file-bytes ns vss → length (now (file .entry)) ≤ 65536 → names ≡ length ns → head ≡ length (line ns) → l < length vss → Wrote (leaves-after i (getD vss l [])) (now (list .entry)) (now (list .exit)) r) ⌝ }
+    ensures { λ r. ⌜ ((ns : List (List ℕ)) (vss : List (List Value)) → Rules ns vss → now (file .entry) ≡ file-bytes ns vss
+        → length (now (file .entry)) ≤ 65536 → names ≡ length ns → head ≡ length (line ns) → l < length vss
+        → Wrote (leaves-after i (getD vss l [])) (now (list .entry)) (now (list .exit)) r) ⌝ }
     ensures { λ r. ⌜ r ≤ 256 - i ⌝ }
 {
     if i >= names {
@@ -445,9 +381,12 @@ fn group_from(file: &[u8], names: usize, head: usize, l: usize, i: usize, list: 
     1 + group_from(file, names, head, l, i + 1, &mut list[1..])
 }
 
-// Writes the group of value line l, from 0, of an accepted file to the start of the list: its leaves, rising. Returns how many.
+// Writes the group of value line l, from 0, of an accepted file to the start of the list: its leaves, rising. Returns how many. The list has
+// a place for each leaf of the ring; with fewer places, nothing is written. Of other numbers the answer means nothing.
 pub fn group_of(file: &[u8], names: usize, head: usize, l: usize, list: &mut [u16]) -> usize
-    ensures { λ r. ⌜ ((ns : List (List ℕ)) (vss : List (List Value)) → Rules ns vss → now (file .entry) ≡ file-bytes ns vss → length (now (file .entry)) ≤ 65536 → names ≡ length ns → head ≡ length (line ns) → l < length vss → length ns ≤ length (now (list .entry)) → Wrote (leaves-on (getD vss l [])) (now (list .entry)) (now (list .exit)) r) ⌝ }
+    ensures { λ r. ⌜ ((ns : List (List ℕ)) (vss : List (List Value)) → Rules ns vss → now (file .entry) ≡ file-bytes ns vss
+        → length (now (file .entry)) ≤ 65536 → names ≡ length ns → head ≡ length (line ns) → l < length vss
+        → length ns ≤ length (now (list .entry)) → Wrote (leaves-on (getD vss l [])) (now (list .entry)) (now (list .exit)) r) ⌝ }
     ensures { λ r. ⌜ r ≤ 256 ⌝ }
 {
     if 256 < names {

@@ -1,4 +1,4 @@
--- Every viable state can be finished: others to every node that wants some, the others to the root.
+-- Every viable state can be finished: leaves to every node that wants some, the others to the root.
 use mathlib.Core.Path.{_≡_, refl, sym, _∙_, ap, subst}
 use mathlib.Core.List.{List, [], _∷_, _++_, append-nil}
 use Prim.Native.Nat.{ℕ, suc, _+_, _-_, _≤_}

@@ -166,7 +166,8 @@ letter-high C = omega arith
 due-node : {c : ℕ} {cs l x : List ℕ} (b : ℕ) → Letter b → Due c cs l (b ∷ x) → Open ((c - 1) ∷ cs) l x
 due-node {c} {cs} {l} {x} b k d = go (d .f) (d .has) (d .good) (d .two) (d .each) (d .is)
   where
-    go : (f : Forest) → 1 ≤ length (items f) → Forked f → c ≤ length (items f) → Perm l (frontier f ++ frontiers (d .fs)) → b ∷ x ≡ text f ++ (41 ∷ bytes (d .fs)) → Open ((c - 1) ∷ cs) l x
+    go : (f : Forest) → 1 ≤ length (items f) → Forked f → c ≤ length (items f) → Perm l (frontier f ++ frontiers (d .fs))
+        → b ∷ x ≡ text f ++ (41 ∷ bytes (d .fs)) → Open ((c - 1) ∷ cs) l x
     go nil h g n p e = absurd (omega arith)
     go (leaf m f) h g n p e =
         let r = first-byte (digits m) (digits-nonempty m) b x (more f ++ (41 ∷ bytes (d .fs))) (e ∙ simp append-assoc) in
@@ -205,7 +206,8 @@ node-due {c} {cs} {l} {x} b k o = go (o .then .fs) (o .then .fits) (o .then .eac
 due-leaf : {c : ℕ} {cs l x : List ℕ} (b : ℕ) → ((k : Kind) → b ≡ letter k → ⊥) → Due c cs l (b ∷ x) → Num (b ∷ []) ((c - 1) ∷ cs) l x
 due-leaf {c} {cs} {l} {x} b k d = go (d .f) (d .has) (d .good) (d .two) (d .each) (d .is)
   where
-    go : (f : Forest) → 1 ≤ length (items f) → Forked f → c ≤ length (items f) → Perm l (frontier f ++ frontiers (d .fs)) → b ∷ x ≡ text f ++ (41 ∷ bytes (d .fs)) → Num (b ∷ []) ((c - 1) ∷ cs) l x
+    go : (f : Forest) → 1 ≤ length (items f) → Forked f → c ≤ length (items f) → Perm l (frontier f ++ frontiers (d .fs))
+        → b ∷ x ≡ text f ++ (41 ∷ bytes (d .fs)) → Num (b ∷ []) ((c - 1) ∷ cs) l x
     go nil h g n p e = absurd (omega arith)
     go (leaf m f) h g n (next {k = j} p q) e =
         let r = first-byte (digits m) (digits-nonempty m) b x (more f ++ (41 ∷ bytes (d .fs))) (e ∙ simp append-assoc) in
@@ -274,7 +276,8 @@ num-digit {ds} {cs} {l} {x} b s n = go (n .tail) (n .name) (n .is)
 digit-num : {ds cs l x : List ℕ} (b : ℕ) → Num (ds ++ (b ∷ [])) cs l x → Num ds cs l (b ∷ x)
 digit-num {ds} b n = record { m = n .m; tail = b ∷ n .tail; k = n .k; y = n .y; name = n .name ∙ simp append-assoc; pick = n .pick; is = ap (_∷_ b) (n .is); then = n .then }
 
-deriv-map : (s t : State) (b : ℕ) (o : Option State) → ((x : List ℕ) → Lang s (b ∷ x) → Lang t (b ∷ x)) → ((x : List ℕ) → Lang t (b ∷ x) → Lang s (b ∷ x)) → Deriv t b o → Deriv s b o
+deriv-map : (s t : State) (b : ℕ) (o : Option State) → ((x : List ℕ) → Lang s (b ∷ x) → Lang t (b ∷ x))
+    → ((x : List ℕ) → Lang t (b ∷ x) → Lang s (b ∷ x)) → Deriv t b o → Deriv s b o
 deriv-map s t b none f g (stop h) = stop (λ x l. h x (f x l))
 deriv-map s t b (some u) f g (goes v h k) = goes v (λ x l. h x (f x l)) (λ x l. g x (k x l))
 

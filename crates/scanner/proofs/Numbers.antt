@@ -71,7 +71,7 @@ or-false : (a : Bool) → a ≡ a || false
 or-false true = refl
 or-false false = refl
 
--- For others of at most three digits.
+-- For leaves of at most three digits.
 pub starts-is : (v m : ℕ) → 1 ≤ v → m < 1000 → begins (digits v) (digits m) ≡ starts v m
 starts-is v m h g = go (decLe 10 m) (decLe 100 m)
   where

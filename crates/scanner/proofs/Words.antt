@@ -1,4 +1,4 @@
--- The scanner's searches among the others that are left.
+-- The scanner's searches among the leaves that are left.
 use mathlib.Core.Path.{_≡_, refl, sym, _∙_, ap₂, subst}
 use mathlib.Core.Logic.{_⊎_, inl, inr}
 use mathlib.Core.Bool.{Bool, true, false, _||_, _&&_}
@@ -76,7 +76,8 @@ first-alike ds l m h n k e (there {m = g} p) = subst (λ t. Perm l (t ∷ g)) (d
 
 not-first : (ds l : List ℕ) (m : ℕ) → same ds (digits m) ≡ false → (n : ℕ) (k : List ℕ) → digits n ≡ ds → Pick n (m ∷ l) k
     → (j : List ℕ) × (k ≡ m ∷ j) × Pick n l j
-not-first ds l m h n k e here = absurd (let g = subst (λ t. same t (digits n) ≡ true) e (same-decides (digits n) (digits n) .1 refl) in let z : _≡_ {A = ℕ} 0 1 = cc in omega arith)
+not-first ds l m h n k e here =
+    absurd (let g = subst (λ t. same t (digits n) ≡ true) e (same-decides (digits n) (digits n) .1 refl) in let z : _≡_ {A = ℕ} 0 1 = cc in omega arith)
 not-first ds l m h n k e (there {m = g} p) = (g, refl, p)
 
 put-view : (ds l : List ℕ) (m : ℕ) → same ds (digits m) ≡ false → (o : Option (List ℕ)) → Seek ds l o → Seek ds (m ∷ l) (put m o)

@@ -71,7 +71,8 @@ module _ (x : List ℕ) (at many : ℕ) (used : List ℕ) (h : at < length x) (s
           forest = leaf (r .leaf) nil;
           some-item = omega arith;
           wrote = leaf-wrote (r .leaf) old room;
-          bytes = drop-step x at h ∙ ap (λ l. getD x at 0 ∷ l) (g .bytes) ∙ ap (λ l. l ++ drop (r .at) x) (sym (append-nil (digits (r .leaf)) ∙ g .name ∙ ap (λ l. l ++ g .tail) digit));
+          bytes = drop-step x at h ∙ ap (λ l. getD x at 0 ∷ l) (g .bytes)
+              ∙ ap (λ l. l ++ drop (r .at) x) (sym (append-nil (digits (r .leaf)) ∙ g .name ∙ ap (λ l. l ++ g .tail) digit));
           moves = λ cs w. begins cs ∙ g .moves (c - 1) cs;
           marks = marks-set (r .leaf) m (g .marked) (g .free);
           onward = omega (arith, g .onward);

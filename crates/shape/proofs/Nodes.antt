@@ -34,7 +34,9 @@ mutual
   text-append : (f g : Forest) → 1 ≤ length (items f) → text (append f g) ≡ text f ++ more g
   text-append nil g h = absurd (omega arith)
   text-append (leaf b f) g h = ap (λ l. digits b ++ l) (more-append f g) ∙ sym (append-assoc (digits b) (more f) (more g))
-  text-append (node k i f) g h = ap (λ l. letter k ∷ 40 ∷ (text i ++ (41 ∷ l))) (more-append f g) ∙ ap (λ l. letter k ∷ 40 ∷ l) (sym (append-assoc (text i) (41 ∷ more f) (more g)))
+  text-append (node k i f) g h =
+      ap (λ l. letter k ∷ 40 ∷ (text i ++ (41 ∷ l))) (more-append f g)
+      ∙ ap (λ l. letter k ∷ 40 ∷ l) (sym (append-assoc (text i) (41 ∷ more f) (more g)))
 
   more-append : (f g : Forest) → more (append f g) ≡ more f ++ more g
   more-append nil g = refl
@@ -61,7 +63,10 @@ pub node-wrote : {old part : List ℕ} {k t : ℕ} (j : Kind) (f : Forest) → 0
     → Wrote (encode (plain f)) (take (length old - 1) (drop 1 old)) part k
     → Wrote (encode (plain (node j f nil))) old (set (putMid 1 (length old - 1) old part) 0 t) (1 + k)
 node-wrote {old} {part} {k} {t} j f h e w =
-    rw (encode-node E j (plain f), e, w .many) (subst (λ n. Wrote (node-token E j (length (encode (plain f))) ∷ encode (plain f)) old (set (putMid 1 (length old - 1) old part) 0 (node-token E j (length (encode (plain f))))) (1 + n)) (w .many) (wrote-head (node-token E j (length (encode (plain f)))) old h w))
+    let m = length (encode (plain f)) in
+    let token = node-token E j m in
+    rw (encode-node E j (plain f), e, w .many)
+    (subst (λ n. Wrote (token ∷ encode (plain f)) old (set (putMid 1 (length old - 1) old part) 0 token) (1 + n)) (w .many) (wrote-head token old h w))
 
 module _ (x : List ℕ) (at c want many : ℕ) (used : List ℕ) (m : Marks many used) where
   pub item-ends : {used' old new : List ℕ} → length x ≤ at → ItemRead x at c want many used used' old new (record { ok = false; at = at; left = 0; count = 0 })
@@ -84,7 +89,8 @@ module _ (x : List ℕ) (at c want many : ℕ) (used : List ℕ) (m : Marks many
 
       pub item-node : {used' old part : List ℕ} {t : ℕ} (r : Reached) → r .ok ≡ true → 0 < length old → t ≡ node-token E (kind-of (getD x at 0)) (r .count)
           → OpenedRead x (at + 1) inner many used used' (take (length old - 1) (drop 1 old)) part r
-          → ItemRead x at c want many used used' old (set (putMid 1 (length old - 1) old part) 0 t) (record { ok = true; at = r .at + 1; left = r .left; count = 1 + r .count })
+          → ItemRead x at c want many used used' old (set (putMid 1 (length old - 1) old part) 0 t)
+          (record { ok = true; at = r .at + 1; left = r .left; count = 1 + r .count })
       item-node {used'} r f s t o = let p = o .0 .goes f in let q = o .1 f in record {
         stops = λ e. absurd (true≢false e);
         goes = λ e. record {
@@ -191,11 +197,15 @@ module _ (x : List ℕ) (at c want many : ℕ) (used : List ℕ) where
 
         module _ (l : 1 + (inner + want) ≤ r .left) where
           goes-on : (cs : List ℕ) → need cs ≡ want → run-at x at (due c cs (unused 0 used)) ≡ run-at x (r .at + 1) (due rest cs (unused 0 used'))
-          goes-on cs w = first .moves cs w ∙ after-space x (r .at) h (c - 1) cs (unused 0 used') s (omega (arith, first .marks .count)) ∙ ap (λ d. run-at x (r .at + 1) (due d cs (unused 0 used'))) (sym n)
+          goes-on cs w =
+              first .moves cs w
+              ∙ after-space x (r .at) h (c - 1) cs (unused 0 used') s (omega (arith, first .marks .count))
+              ∙ ap (λ d. run-at x (r .at + 1) (due d cs (unused 0 used'))) (sym n)
 
           pub items-stops : {used'' old' new' new : List ℕ} (q : Reached) → q .ok ≡ false → ItemsRead x (r .at + 1) rest want (r .left) used' used'' old' new' q
               → ItemsRead x at c want many used used'' old new q
-          items-stops q f j = (record { stops = λ e cs w. goes-on cs w ∙ j .0 .stops e cs w; goes = λ e. absurd (true≢false (sym e ∙ f)) }, λ e. absurd (true≢false (sym e ∙ f)))
+          items-stops q f j =
+              (record { stops = λ e cs w. goes-on cs w ∙ j .0 .stops e cs w; goes = λ e. absurd (true≢false (sym e ∙ f)) }, λ e. absurd (true≢false (sym e ∙ f)))
 
           pub items-read : {used'' part : List ℕ} (q : Reached) → q .ok ≡ true
               → ItemsRead x (r .at + 1) rest want (r .left) used' used'' (take (length mid - r .count) (drop (r .count) mid)) part q
@@ -210,7 +220,8 @@ module _ (x : List ℕ) (at c want many : ℕ) (used : List ℕ) where
                 wrote = rw (plain-append (first .forest) (p .forest), encode-append) (wrote-then (first .wrote) (p .wrote));
                 bytes = first .bytes ∙ ap (λ l. text (first .forest) ++ l) (drop-step x (r .at) h ∙ ap₂ _∷_ s (p .bytes))
                     ∙ sym (append-assoc (text (first .forest)) (32 ∷ text (p .forest)) (drop (q .at) x))
-                    ∙ ap (λ l. l ++ drop (q .at) x) (sym (text-append (first .forest) (p .forest) (first .some-item) ∙ ap (λ l. text (first .forest) ++ l) (more-text (p .forest) (p .some-item))));
+                    ∙ ap (λ l. l ++ drop (q .at) x) (sym (text-append (first .forest) (p .forest) (first .some-item)
+                    ∙ ap (λ l. text (first .forest) ++ l) (more-text (p .forest) (p .some-item))));
                 moves = λ cs w. goes-on cs w ∙ p .moves cs w;
                 marks = p .marks;
                 onward = omega (arith, first .onward, p .onward);

@@ -35,7 +35,7 @@ fn leaf(text: &[u8], at: usize, many: usize, used: &mut [u8], out: &mut [u16]) -
         → ItemRead (now (text .entry)) at c want many (now (used .entry)) (now (used .exit)) (now (out .entry)) (now (out .exit)) r) ⌝ }
 {
     let b = text[at];
-    if b < 49 {
+    if b <= 48 {
         return Reached {
             ok: false,
             at: at,

@@ -1,2 +1,4 @@
 pub mod Laws
 pub mod Calls
+pub mod Reading
+pub mod RoundTrip

@@ -1,17 +1,20 @@
-// The tree text, written from tokens, and the call that writes it.
+// The tree text, written from tokens, and the calls that write and read it.
 ghost use mathlib.Core.Path.{_≡_};
 ghost use Prim.Native.Nat.{_≤_, _<_};
 ghost use lib.ListN.{length, replicate};
 ghost use Rattle.orders.specs.Tree.{Forest};
 ghost use Rattle.orders.specs.TreeText.{digits, text, tree-text};
-ghost use Rattle.calls.specs.Calls.{filled-as, write-call};
+ghost use Rattle.calls.specs.Calls.{ring, filled-as, write-call, ReadCall};
 ghost use Rattle.tokens.specs.Tokens.{Judged, tree, plain, encode, Wrote};
 ghost use Rattle.order.specs.Room.{Room};
 ghost use Rattle.records.specs.Rows.{Formed};
 ghost use Rattle.text.specs.Around.{opening, gap, closing};
 ghost use Rattle.text.specs.Fills.{Fills};
+use book::Checked;
 use calls::Answer;
+use calls::Refusal;
 use checks::Lent;
+use reading::Read;
 
 // Writes the decimal digits of v, without leading zeros, and says how many.
 pub fn write_number(v: usize, out: &mut [u8]) -> usize
@@ -152,5 +155,25 @@ pub fn write(n: usize, nodes: &[u16], have: usize, bytes: &mut [u8]) -> Answer
     match checks::lent_tree(n, nodes, have, bytes.len() < 2048, &mut toks) {
         Lent::Refused(r) => Answer::Refused(r),
         Lent::Tree(k) => Answer::Done(fill(&toks[0..k], bytes)),
+    }
+}
+
+// Reads a tree text for n leaves, lent exactly: the node table gets its tree, and the book is emptied. Answers the count of groups, 0; or refuses
+// (1, 2, 12), and leaves both tables as they were.
+pub fn read(n: usize, nodes: &mut [u16], have: usize, book: &mut [u64], text: &[u8]) -> Answer
+    ensures { λ r. ⌜ ReadCall n have (now (text .entry)) (now (nodes .entry)) (now (book .entry)) (ring r (now (nodes .exit)) (now (book .exit))) ⌝ }
+{
+    if let Checked::Bad(refusal) = checks::check_tables(n, nodes, have, book.len() < 384) {
+        return Answer::Refused(refusal);
+    }
+    let mut toks = [0u16; 512];
+    let found = reading::read_text(text, n, &mut toks);
+    match found {
+        Read::Refused(byte) => Answer::Refused(Refusal::TreeText(byte)),
+        Read::Tree(k) => {
+            records::store(&toks[0..k], nodes);
+            book::clear(book);
+            Answer::Done(0)
+        }
     }
 }

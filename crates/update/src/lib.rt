@@ -21,7 +21,7 @@ use parts::find_partial;
 use parts::pack_state;
 
 // Writes the first item reduced. tmp is scratch.
-pub fn reduced(x: &[u16], out: &mut [u16], tmp: &mut [u16]) -> usize
+fn reduced(x: &[u16], out: &mut [u16], tmp: &mut [u16]) -> usize
     requires { ⌜ (FitsBoth first-reduced (now x) (now out) (now tmp)) × (length (now x) ≤ 512) × (length (now out) ≤ 512) × (length (now tmp) ≤ 512) ⌝ }
     ensures { λ r. ⌜ ((j : Judged) → now (x .entry) ≡ encode j
         → Begins (flat (first-reduced (totals j))) (now (out .exit)) r) ⌝ }

@@ -5,8 +5,7 @@ use Prim.Native.Nat.{ℕ}
 use native.Mathlib.Omega.{arith}
 use borrow.Author.Needs.{needs}
 use denote.Ref.{now}
-use Rattle.tokens.proofs.Writes.{read-part}
-use Rattle.tokens.proofs.Writes.{wrote-most}
+use Rattle.tokens.proofs.Writes.{read-part, wrote-most}
 use Rattle.checks.specs.Lent.{RingLent, LendsRing}
 use Rattle.aim.proofs.Calls.{aim-refused, lent-lends, aim-there}
 use Rattle.aim.proofs.aim.Statement.{statement}

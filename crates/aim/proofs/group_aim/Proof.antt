@@ -10,8 +10,7 @@ use Rattle.marks.specs.Marks.{marked}
 use Rattle.book.proofs.Laws.{group-part}
 use Rattle.tokens.specs.Tokens.{plain}
 use Rattle.tokens.proofs.Sequences.{tree-plain}
-use Rattle.tokens.proofs.Writes.{read-part}
-use Rattle.tokens.proofs.Writes.{wrote-most}
+use Rattle.tokens.proofs.Writes.{read-part, wrote-most}
 use Rattle.aim.specs.Starts.{aim-in}
 use Rattle.aim.proofs.Sizes.{book-few, group-within}
 use Rattle.aim.proofs.Calls.{number-zero, number-past, number-there, order-room}

@@ -3,8 +3,7 @@ use mathlib.Core.Path.{subst}
 use native.Mathlib.Omega.{arith}
 use denote.Ref.{now}
 use lib.ListN.{replicate}
-use Rattle.tokens.proofs.Writes.{read-part}
-use Rattle.records.proofs.Loading.{wrote-most}
+use Rattle.tokens.proofs.Writes.{read-part, wrote-most}
 use Rattle.checks.specs.Lent.{RingLent, LendsRing}
 use Rattle.planner.proofs.Laws.{ring-refused, attempt-is}
 use borrow.Author.Needs.{needs}

@@ -3,9 +3,8 @@ use mathlib.Core.Path.{subst}
 use native.Mathlib.Omega.{arith}
 use denote.Ref.{now}
 use lib.ListN.{replicate}
-use Rattle.tokens.proofs.Writes.{read-part}
+use Rattle.tokens.proofs.Writes.{read-part, wrote-most}
 use Rattle.records.specs.Rows.{Formed}
-use Rattle.records.proofs.Loading.{wrote-most}
 use Rattle.planner.specs.Attempts.{JoinedRing, Attempts}
 use Rattle.planner.proofs.Laws.{join-refused, join-done, join-demand}
 use borrow.Author.Needs.{needs}

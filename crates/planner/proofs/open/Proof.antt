@@ -6,9 +6,8 @@ use denote.Ref.{now}
 use lib.ListN.{length}
 use Rattle.orders.specs.Join.{fresh}
 use Rattle.orders.proofs.Fresh.{fresh-form}
-use Rattle.tokens.proofs.Writes.{read-part}
+use Rattle.tokens.proofs.Writes.{read-part, wrote-most}
 use Rattle.records.specs.Rows.{Formed}
-use Rattle.records.proofs.Loading.{wrote-most}
 use Rattle.calls.specs.Refusals.{down, short}
 use Rattle.calls.specs.Calls.{table-checks}
 use Rattle.book.specs.Lists.{verdict}

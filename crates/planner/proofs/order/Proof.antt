@@ -6,8 +6,7 @@ use lib.ListN.{length, replicate}
 use Rattle.orders.specs.Form.{standard}
 use Rattle.tokens.specs.Tokens.{plain, Wrote}
 use Rattle.tokens.proofs.Sequences.{tree-plain}
-use Rattle.tokens.proofs.Writes.{read-part}
-use Rattle.records.proofs.Loading.{wrote-most}
+use Rattle.tokens.proofs.Writes.{read-part, wrote-most}
 use Rattle.calls.specs.Refusals.{short}
 use Rattle.checks.specs.Lent.{TreeLent, LendsTree}
 use Rattle.planner.proofs.Laws.{order-refused, order-length, order-done, order-demand}

@@ -1,9 +1,8 @@
-use mathlib.Core.Path.{_≡_, sym, _∙_}
+use mathlib.Core.Path.{sym, _∙_}
 use mathlib.Core.List.{[]}
 use Prim.Native.Nat.{_-_, _+_}
 use native.Mathlib.Omega.{arith}
-use denote.Ref.{now}
-use lib.ListN.{length, getD, length-set}
+use lib.ListN.{length, getD, length-set, length-take, length-drop}
 use borrow.Author.Needs.{needs}
 use borrow.Author.Tests.{not-true, not-false}
 use Rattle.tokens.proofs.Writes.{wrote-none, wrote-one, wrote-then}
@@ -78,7 +77,7 @@ group-from-part-group-from-end : (t : ℕ) → group-from-lts.Need-part-group-fr
 group-from-part-group-from-end t c = search needs
 
 group-from-group-from-requires-2 : (t : ℕ) → group-from-lts.Need-group-from-requires-2 (group-from-calls t) (group-from-at t) group-from.Post
-group-from-group-from-requires-2 t c κs = (omega arith, (c .before .before .before .before .before .before .pre .1 .0, omega (arith, c .before .before .before .before .before .before .pre .1 .1, c .group-from-arg2 .given, length-set (c .before .before .before .before .before .before .args .list .now) 0 (c .before .before .before .before .before .before .args .i + 1))))
+group-from-group-from-requires-2 t c κs = (omega arith, (c .before .before .before .before .before .before .pre .1 .0, simp (length-take, length-drop, length-set) (omega (arith, c .before .before .before .before .before .before .pre .1 .1, c .before .before .before .if1 .left))))
 
 group-from-add-result : (t : ℕ) → group-from-lts.Need-add-result (group-from-calls t) (group-from-at t) group-from.Post
 group-from-add-result t c = omega (arith, c .before .before .group-from2 .ensures .1)

@@ -6,7 +6,7 @@ use Rattle.ringfile.proofs.advance.Lts as lts
 use Rattle.ringfile.proofs.on_got.Reads as on-got-reads
 use Rattle.ringfile.proofs.on_name.Reads as on-name-reads
 use Rattle.ringfile.proofs.on_value.Reads as on-value-reads
-use Rattle.ringfile.proofs.refused.Reads as refused-reads
+use Rattle.ringfile.proofs.at_phase.Reads as at-phase-reads
 use denote.Ref.{now}
 use native.Mathlib.Omega.{arith}
 use Rattle.ringfile.proofs.Scanning.{at-name, at-due, at-got, at-none}
@@ -32,11 +32,11 @@ on-got-requires c κs = search needs
 returns-3 : tie.Need-returns-3
 returns-3 c = (c .on-got .ensures .0, at-got (now (c .before .before .before .before .before .before .args .file)) (c .before .before .before .before .before .before .args .at) (c .before .before .before .before .before .before .args .c) (c .on-got .result) (c .before .if3 .taken) (c .on-got .ensures .1))
 
-refused-requires : tie.Need-refused-requires
-refused-requires c κs = search needs
+at-phase-requires : tie.Need-at-phase-requires
+at-phase-requires c κs = search needs
 
 returns-4 : tie.Need-returns-4
-returns-4 c = (omega (arith, c .refused .ensures), at-none (now (c .before .before .before .before .before .before .args .file)) (c .before .before .before .before .before .before .args .at) (c .before .before .before .before .before .before .args .c) (c .refused .result) (c .before .before .before .before .if1 .left) (c .before .before .if2 .left) (c .before .if3 .left))
+returns-4 c = (omega (arith, c .at-phase .ensures), at-none (now (c .before .before .before .before .before .before .args .file)) (c .before .before .before .before .before .before .args .at) (c .before .before .before .before .before .before .args .c) (c .at-phase .result) (c .before .before .before .before .if1 .left) (c .before .before .if2 .left) (c .before .if3 .left))
 
 pub advance-spec : {M : Type 1} → statement M
 advance-spec =
@@ -49,5 +49,5 @@ advance-spec =
     returns-2
     on-got-requires
     returns-3
-    refused-requires
+    at-phase-requires
     returns-4)

@@ -1,6 +1,6 @@
 use mathlib.Core.List.{[]}
 use native.Mathlib.Omega.{arith}
-use lib.ListN.{length, getD}
+use lib.ListN.{getD}
 use Rattle.ringfile.proofs.Groups.{leaves-all}
 use borrow.Author.Needs.{needs}
 use Rattle.ringfile.proofs.group_of.Statement.{statement}

@@ -5,9 +5,8 @@ use Rattle.ringfile.proofs.is_new.Reads as reads
 use Rattle.ringfile.proofs.is_new.Lts as lts
 use Rattle.ringfile.proofs.is_among.Reads as is-among-reads
 use denote.Ref.{now}
-use mathlib.Core.Path.{sym, _∙_, ap}
+use mathlib.Core.Path.{sym}
 use native.Mathlib.Omega.{arith}
-use mathlib.Core.Bool.{true, false}
 use Rattle.ringfile.proofs.NamesLine.{name-words, new-empty, new-is}
 
 returns : tie.Need-returns
@@ -17,10 +16,7 @@ is-among-requires : tie.Need-is-among-requires
 is-among-requires c κs = search needs
 
 returns-2 : tie.Need-returns-2
-returns-2 c = λ ns h e. new-is ns (now (c .before .before .before .before .before .args .w)) true (omega arith) (sym (c .before .is-among .ensures ns (name-words ns h) e) ∙ c .if2 .taken)
-
-returns-3 : tie.Need-returns-3
-returns-3 c = λ ns h e. new-is ns (now (c .before .before .before .before .before .args .w)) false (omega arith) (sym (c .before .is-among .ensures ns (name-words ns h) e) ∙ c .if2 .left)
+returns-2 c = λ ns h e. new-is ns (now (c .before .before .before .before .args .w)) (c .is-among .result) (omega arith) (sym (c .is-among .ensures ns (name-words ns h) e))
 
 pub is-new-spec : {M : Type 1} → statement M
-is-new-spec = tie.close (tie.spec returns is-among-requires returns-2 returns-3)
+is-new-spec = tie.close (tie.spec returns is-among-requires returns-2)

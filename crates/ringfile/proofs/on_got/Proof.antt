@@ -3,11 +3,11 @@ use Rattle.ringfile.proofs.on_got.Statement.{statement}
 use Rattle.ringfile.proofs.on_got.Tie as tie
 use Rattle.ringfile.proofs.on_got.Reads as reads
 use Rattle.ringfile.proofs.on_got.Lts as lts
-use Rattle.ringfile.proofs.refused.Reads as refused-reads
-use mathlib.Core.Path.{refl, sym, _∙_, ap}
+use Rattle.ringfile.proofs.at_phase.Reads as at-phase-reads
+use mathlib.Core.Path.{refl}
 use mathlib.Core.List.{[], _∷_, _++_}
 use native.Mathlib.Omega.{arith}
-use lib.ListN.{length, length-append}
+use lib.ListN.{length-append}
 use Prim.Native.Nat.{_+_}
 use Rattle.ringfile.proofs.Scanning.{space-on, space-off, end-on, end-off, got-odd}
 
@@ -17,29 +17,29 @@ add-more c = search needs
 returns : tie.Need-returns
 returns c = (omega arith, λ ns vss vs v q. space-on (record { phase = 1; names = c .before .before .before .args .c .names; start = c .before .before .before .args .c .start; got = c .before .before .before .args .c .got + 1; lines = c .before .before .before .args .c .lines }) ns vss vs (c .before .before .before .args .b) v (c .before .if1 .taken) (omega (arith, q .1, q .3)) (refl, q .1, q .2, omega (arith, q .3, length-append vs (v ∷ [])), q .4))
 
-refused-requires : tie.Need-refused-requires
-refused-requires c κs = search needs
+at-phase-requires : tie.Need-at-phase-requires
+at-phase-requires c κs = search needs
 
 returns-2 : tie.Need-returns-2
-returns-2 c = (omega (arith, c .refused .ensures), λ ns vss vs v q. space-off (c .refused .result) ns vss vs (c .before .before .before .before .args .b) v (c .before .before .if1 .taken) (omega (arith, q .1, q .3)) (c .refused .ensures .0))
+returns-2 c = (omega (arith, c .at-phase .ensures), λ ns vss vs v q. space-off (c .at-phase .result) ns vss vs (c .before .before .before .before .args .b) v (c .before .before .if1 .taken) (omega (arith, q .1, q .3)) (c .at-phase .ensures .0))
 
-add-t9 : tie.Need-add-t9
-add-t9 c = search needs
+add-next : tie.Need-add-next
+add-next c = search needs
 
 returns-3 : tie.Need-returns-3
 returns-3 c = (omega arith, λ ns vss vs v q. end-on (record { phase = 1; names = c .before .before .before .before .before .args .c .names; start = c .before .before .before .before .before .args .c .start; got = 0; lines = c .before .before .before .before .before .args .c .lines + 1 }) ns vss vs (c .before .before .before .before .before .args .b) v (c .before .before .if3 .taken) (omega (arith, q .1, q .3)) (refl, q .1, q .2, refl, omega (arith, q .4, length-append vss ((vs ++ (v ∷ [])) ∷ []))))
 
-refused-requires-2 : tie.Need-refused-requires-2
-refused-requires-2 c κs = search needs
+at-phase-requires-2 : tie.Need-at-phase-requires-2
+at-phase-requires-2 c κs = search needs
 
 returns-4 : tie.Need-returns-4
-returns-4 c = (omega (arith, c .refused2 .ensures), λ ns vss vs v q. end-off (c .refused2 .result) ns vss vs (c .before .before .before .before .before .args .b) v (c .before .before .if3 .taken) (omega (arith, q .1, q .3)) (c .refused2 .ensures .0))
+returns-4 c = (omega (arith, c .at-phase2 .ensures), λ ns vss vs v q. end-off (c .at-phase2 .result) ns vss vs (c .before .before .before .before .before .args .b) v (c .before .before .if3 .taken) (omega (arith, q .1, q .3)) (c .at-phase2 .ensures .0))
 
-refused-requires-3 : tie.Need-refused-requires-3
-refused-requires-3 c κs = search needs
+at-phase-requires-3 : tie.Need-at-phase-requires-3
+at-phase-requires-3 c κs = search needs
 
 returns-5 : tie.Need-returns-5
-returns-5 c = (omega (arith, c .refused3 .ensures), λ ns vss vs v q. got-odd (c .refused3 .result) ns vss vs (c .before .before .before .before .args .b) v (c .before .before .if1 .left) (c .before .if3 .left) (c .refused3 .ensures .0))
+returns-5 c = (omega (arith, c .at-phase3 .ensures), λ ns vss vs v q. got-odd (c .at-phase3 .result) ns vss vs (c .before .before .before .before .args .b) v (c .before .before .if1 .left) (c .before .if3 .left) (c .at-phase3 .ensures .0))
 
 pub on-got-spec : {M : Type 1} → statement M
 on-got-spec =
@@ -47,11 +47,11 @@ on-got-spec =
     (tie.spec
     add-more
     returns
-    refused-requires
+    at-phase-requires
     returns-2
-    add-t9
+    add-next
     returns-3
-    refused-requires-2
+    at-phase-requires-2
     returns-4
-    refused-requires-3
+    at-phase-requires-3
     returns-5)

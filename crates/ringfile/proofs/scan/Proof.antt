@@ -3,12 +3,12 @@ use Rattle.ringfile.proofs.scan.Tie as tie
 use Rattle.ringfile.proofs.scan.Reads as reads
 use Rattle.ringfile.proofs.scan.Lts as lts
 use Rattle.ringfile.proofs.advance.Reads as advance-reads
+use Rattle.ringfile.proofs.at_phase.Reads as at-phase-reads
 use native.Mathlib.Omega.{arith}
 use Prim.Native.Nat.{_≤_, _-_}
 use mathlib.Core.Path.{_≡_, refl}
 use denote.Ref.{now}
 use lib.ListN.{length}
-use borrow.Author.Needs.{needs}
 use Rattle.ringfile.specs.RingFile.{too-long}
 use Rattle.ringfile.specs.Cursors.{Within}
 use Rattle.ringfile.proofs.Scanning.{Reach, reach-start, reach-next, says-bad, says-ring, says-short}
@@ -22,14 +22,17 @@ abbrev μ-loop : tie.MeasureT-loop
 returns : tie.Need-returns Inv-loop μ-loop
 returns c = too-long (c .if1 .taken) refl
 
+at-phase-requires : tie.Need-at-phase-requires Inv-loop μ-loop
+at-phase-requires c κs = tt
+
 loop-holds : tie.Need-loop-holds Inv-loop μ-loop
-loop-holds c = (refl, omega arith, omega arith, omega arith, reach-start (now (c .before .before .args .file)) _ refl refl refl)
+loop-holds c = (refl, omega arith, omega arith, omega (arith, c .at-phase .ensures), reach-start (now (c .before .before .before .args .file)) (c .at-phase .result) (c .at-phase .ensures .0) (c .at-phase .ensures .1) (c .at-phase .ensures .2))
 
 advance-requires : tie.Need-advance-requires Inv-loop μ-loop
 advance-requires c κs = (c .before .loop .inv .3, omega arith, c .before .loop .inv .1)
 
 returns-2 : tie.Need-returns-2 Inv-loop μ-loop
-returns-2 c = says-bad (now (c .before .before .before .before .before .before .args .file)) (c .before .before .before .loop .i) (c .before .before .before .loop .c) (c .before .advance .result) (omega arith) (c .before .advance .ensures .1) (c .before .before .before .loop .inv .4) (c .before .before .before .loop .inv .1) (c .if2 .taken)
+returns-2 c = says-bad (now (c .before .before .before .before .before .before .before .args .file)) (c .before .before .before .loop .i) (c .before .before .before .loop .c) (c .before .advance .result) (omega arith) (c .before .advance .ensures .1) (c .before .before .before .loop .inv .4) (c .before .before .before .loop .inv .1) (c .if2 .taken)
 
 add-i : tie.Need-add-i Inv-loop μ-loop
 add-i c = omega arith
@@ -38,16 +41,16 @@ loop-less : tie.Need-loop-less Inv-loop μ-loop
 loop-less c = omega arith
 
 loop-again : tie.Need-loop-again Inv-loop μ-loop
-loop-again c = (refl, c .before .before .before .loop .inv .1, omega arith, c .before .advance .ensures .0, reach-next (now (c .before .before .before .before .before .before .args .file)) (c .before .before .before .loop .i) (c .before .before .before .loop .c) (c .before .advance .result) (omega arith) (c .before .advance .ensures .1) (c .before .before .before .loop .inv .4) (c .if2 .left))
+loop-again c = (refl, c .before .before .before .loop .inv .1, omega arith, c .before .advance .ensures .0, reach-next (now (c .before .before .before .before .before .before .before .args .file)) (c .before .before .before .loop .i) (c .before .before .before .loop .c) (c .before .advance .result) (omega arith) (c .before .advance .ensures .1) (c .before .before .before .loop .inv .4) (c .if2 .left))
 
 returns-3 : tie.Need-returns-3 Inv-loop μ-loop
-returns-3 c = says-short (now (c .before .before .before .before .before .args .file)) (c .before .before .loop .i) (c .before .before .loop .c) (c .before .before .loop .inv .1) (c .before .before .loop .inv .4) (omega arith) (λ q. omega (arith, q .0))
+returns-3 c = says-short (now (c .before .before .before .before .before .before .args .file)) (c .before .before .loop .i) (c .before .before .loop .c) (c .before .before .loop .inv .1) (c .before .before .loop .inv .4) (omega arith) (λ q. omega (arith, q .0))
 
 returns-4 : tie.Need-returns-4 Inv-loop μ-loop
-returns-4 c = says-short (now (c .before .before .before .before .before .before .args .file)) (c .before .before .before .loop .i) (c .before .before .before .loop .c) (c .before .before .before .loop .inv .1) (c .before .before .before .loop .inv .4) (omega arith) (λ q. omega (arith, q .1))
+returns-4 c = says-short (now (c .before .before .before .before .before .before .before .args .file)) (c .before .before .before .loop .i) (c .before .before .before .loop .c) (c .before .before .before .loop .inv .1) (c .before .before .before .loop .inv .4) (omega arith) (λ q. omega (arith, q .1))
 
 returns-5 : tie.Need-returns-5 Inv-loop μ-loop
-returns-5 c = says-ring (now (c .before .before .before .before .before .before .args .file)) (c .before .before .before .loop .i) (c .before .before .before .loop .c) (c .before .before .before .loop .inv .1) (c .before .before .before .loop .inv .4) (omega arith) (omega arith) (omega arith)
+returns-5 c = says-ring (now (c .before .before .before .before .before .before .before .args .file)) (c .before .before .before .loop .i) (c .before .before .before .loop .c) (c .before .before .before .loop .inv .1) (c .before .before .before .loop .inv .4) (omega arith) (omega arith) (omega arith)
 
 pub scan-spec : {M : Type 1} → statement M
 scan-spec =
@@ -56,6 +59,7 @@ scan-spec =
     Inv-loop
     μ-loop
     returns
+    at-phase-requires
     loop-holds
     advance-requires
     returns-2

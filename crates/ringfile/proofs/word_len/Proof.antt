@@ -5,7 +5,6 @@ use Rattle.ringfile.proofs.word_len.Lts as lts
 use native.Mathlib.Omega.{arith}
 use Prim.Native.Nat.{_≤_, _-_, _+_}
 use mathlib.Core.Path.{_≡_}
-use mathlib.Core.Logic.{inl, inr}
 use lib.ListN.{length, drop}
 use denote.Ref.{now}
 use Rattle.ringfile.specs.Words.{word-length}

@@ -32,7 +32,7 @@ same-length : tie.Need-same-length
 same-length c = search needs
 
 returns-3 : tie.Need-returns-3
-returns-3 c = λ i w e. leaf-none (c .before .before .before .before .before .before .before .before .before .args .text .now) (c .before .before .before .before .before .before .before .before .before .args .at) (c .before .before .before .before .before .before .before .before .before .args .many) (c .before .before .before .before .before .before .before .before .before .args .used .now) (c .before .before .before .before .before .before .before .before .before .pre .0) (c .before .before .before .before .before .before .before .before .before .pre .1) (c .before .before .before .before .before .before .before .before .before .pre .2) i w (c .before .before .before .before .if1 .left) (c .before .before .before .if2 .left) (sym (c .before .any-start .ensures) ∙ not-true _ (c .if3 .taken))
+returns-3 c = λ i w e. leaf-none (c .before .before .before .before .before .before .before .before .before .args .text .now) (c .before .before .before .before .before .before .before .before .before .args .at) (c .before .before .before .before .before .before .before .before .before .args .many) (c .before .before .before .before .before .before .before .before .before .args .used .now) (c .before .before .before .before .before .before .before .before .before .pre .0) (c .before .before .before .before .before .before .before .before .before .pre .1) (c .before .before .before .before .before .before .before .before .before .pre .2) i w (omega arith) (c .before .before .before .if2 .left) (sym (c .before .any-start .ensures) ∙ not-true _ (c .if3 .taken))
 
 add-number : tie.Need-add-number
 add-number c = search needs
@@ -44,7 +44,7 @@ same-length-2 : tie.Need-same-length-2
 same-length-2 c = search needs
 
 returns-4 : tie.Need-returns-4
-returns-4 c = λ i w e. leaf-stops (c .before .before .before .before .before .before .before .before .before .before .before .before .before .args .text .now) (c .before .before .before .before .before .before .before .before .before .before .before .before .before .args .at) (c .before .before .before .before .before .before .before .before .before .before .before .before .before .args .many) (c .before .before .before .before .before .before .before .before .before .before .before .before .before .args .used .now) (c .before .before .before .before .before .before .before .before .before .before .before .before .before .pre .0) (c .before .before .before .before .before .before .before .before .before .before .before .before .before .pre .1) (c .before .before .before .before .before .before .before .before .before .before .before .before .before .pre .2) i w (c .before .before .before .before .before .before .before .before .if1 .left) (c .before .before .before .before .before .before .before .if2 .left) (sym (c .before .before .before .before .before .any-start .ensures) ∙ not-false _ (c .before .before .before .before .if3 .left)) _ (c .before .before .number .ensures) (not-true _ (c .if4 .taken))
+returns-4 c = λ i w e. leaf-stops (c .before .before .before .before .before .before .before .before .before .before .before .before .before .args .text .now) (c .before .before .before .before .before .before .before .before .before .before .before .before .before .args .at) (c .before .before .before .before .before .before .before .before .before .before .before .before .before .args .many) (c .before .before .before .before .before .before .before .before .before .before .before .before .before .args .used .now) (c .before .before .before .before .before .before .before .before .before .before .before .before .before .pre .0) (c .before .before .before .before .before .before .before .before .before .before .before .before .before .pre .1) (c .before .before .before .before .before .before .before .before .before .before .before .before .before .pre .2) i w (omega arith) (c .before .before .before .before .before .before .before .if2 .left) (sym (c .before .before .before .before .before .any-start .ensures) ∙ not-false _ (c .before .before .before .before .if3 .left)) _ (c .before .before .number .ensures) (not-true _ (c .if4 .taken))
 
 slice-write-used : tie.Need-slice-write-used
 slice-write-used c = c .before .before .number .ensures .goes (not-false _ (c .if4 .left)) .marked
@@ -68,7 +68,7 @@ same-length-4 : tie.Need-same-length-4
 same-length-4 c = search needs
 
 returns-5 : tie.Need-returns-5
-returns-5 c = λ i w e. leaf-read (c .before .before .before .before .before .before .before .before .before .before .before .before .before .args .text .now) (c .before .before .before .before .before .before .before .before .before .before .before .before .before .args .at) (c .before .before .before .before .before .before .before .before .before .before .before .before .before .args .many) (c .before .before .before .before .before .before .before .before .before .before .before .before .before .args .used .now) (c .before .before .before .before .before .before .before .before .before .before .before .before .before .pre .0) (c .before .before .before .before .before .before .before .before .before .before .before .before .before .pre .1) (c .before .before .before .before .before .before .before .before .before .before .before .before .before .pre .2) i w (c .before .before .before .before .before .before .before .before .if1 .left) (c .before .before .before .before .before .before .before .if2 .left) (sym (c .before .before .before .before .before .any-start .ensures) ∙ not-false _ (c .before .before .before .before .if3 .left)) _ (c .before .before .number .ensures) _ (c .before .before .before .before .before .before .before .before .before .before .before .before .before .pre .3) e (c .before .before .before .before .before .before .before .before .before .before .before .before .before .pre .4) (not-false _ (c .if4 .left))
+returns-5 c = λ i w e. leaf-read (c .before .before .before .before .before .before .before .before .before .before .before .before .before .args .text .now) (c .before .before .before .before .before .before .before .before .before .before .before .before .before .args .at) (c .before .before .before .before .before .before .before .before .before .before .before .before .before .args .many) (c .before .before .before .before .before .before .before .before .before .before .before .before .before .args .used .now) (c .before .before .before .before .before .before .before .before .before .before .before .before .before .pre .0) (c .before .before .before .before .before .before .before .before .before .before .before .before .before .pre .1) (c .before .before .before .before .before .before .before .before .before .before .before .before .before .pre .2) i w (omega arith) (c .before .before .before .before .before .before .before .if2 .left) (sym (c .before .before .before .before .before .any-start .ensures) ∙ not-false _ (c .before .before .before .before .if3 .left)) _ (c .before .before .number .ensures) _ (c .before .before .before .before .before .before .before .before .before .before .before .before .before .pre .3) e (c .before .before .before .before .before .before .before .before .before .before .before .before .before .pre .4) (not-false _ (c .if4 .left))
 
 pub leaf-spec : {M : Type 1} → statement M
 leaf-spec =

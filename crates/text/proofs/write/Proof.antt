@@ -6,8 +6,7 @@ use native.Mathlib.Omega.{arith}
 use borrow.Author.Needs.{needs}
 use denote.Ref.{now}
 use Rattle.calls.specs.Refusals.{short}
-use Rattle.tokens.proofs.Writes.{read-part}
-use Rattle.tokens.proofs.Writes.{wrote-most}
+use Rattle.tokens.proofs.Writes.{read-part, wrote-most}
 use Rattle.checks.specs.Lent.{TreeLent, LendsTree}
 use Rattle.text.proofs.Calls.{write-refused, lent-formed, lent-long, write-done}
 use Rattle.text.proofs.write.Statement.{statement}

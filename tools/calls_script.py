@@ -1,0 +1,379 @@
+#!/usr/bin/env python3
+"""Writes crates/vectors_calls/data/script.txt, a script of calls, and crates/vectors_calls/stdout, what the program must print for it.
+
+    tools/calls_script.py [ORACLE]      ORACLE: the folder of oracle.py (../shared/oracle beside the repository)
+
+Every answer, and what every table holds afterwards, is the oracle's. crates/vectors_calls/src/script.rt says what a command is.
+"""
+import itertools
+import os
+
+from calls_oracle import HERE, ROW, ROWS, WORDS, Script
+
+LARGEST = 2 ** 64 - 1
+
+
+class Random:
+    """A linear congruential generator, so that the script is the same everywhere."""
+
+    def __init__(self, seed):
+        self.x = seed
+
+    def below(self, k):
+        self.x = (self.x * 6364136223846793005 + 1442695040888963407) % 2 ** 64
+        return (self.x >> 33) % k
+
+    def pick(self, xs):
+        return xs[self.below(len(xs))]
+
+    def shuffled(self, xs):
+        xs = list(xs)
+        for i in range(len(xs) - 1, 0, -1):
+            j = self.below(i + 1)
+            xs[i], xs[j] = xs[j], xs[i]
+        return xs
+
+
+def whole(n):
+    return list(range(1, n + 1))
+
+
+# ---- document 01's circles
+
+def circles(s):
+    rings = [
+        ("a", 1, [[1]]), ("b", 2, [[1], [2, 1]]), ("c", 3, [[2], [3, 1], [1, 2, 3]]),
+        ("d e f g", 5, [[1, 3], [3, 5], [1, 5], [2, 4]]),
+        ("h", 4, [[1, 2], [3, 4], [2, 3], [1, 4]]), ("i", 5, [[1, 2], [3, 4], [2, 3], [1, 4]]),
+        ("j", 6, [[1, 2], [3, 4], [2, 3]]), ("k", 6, [[2, 4], [2, 5]]), ("l", 5, [[2, 3, 4, 5]]),
+    ]
+    for _, n, groups in rings:
+        s.open(n)
+        s.order(n)
+        s.text(n)
+        count = 0
+        for g in groups:
+            s.trial(n, count, g)
+            s.conflict(n, count, g)
+            count += s.join(n, count, g)[0] == 0
+            s.order(n)
+            s.text(n)
+        for k in range(count + 2):
+            s.aim(n, count, k)
+
+
+# ---- refusals
+
+BAD_N = [0, 257, LARGEST]
+SHORT = [dict(have=255), dict(a=ROWS - 1), dict(b=WORDS - 1)]
+E = [[1, 3], [3, 5]]
+
+
+def pairs(*causes):
+    """Whether at most two of the causes are there, or all of them."""
+    return sum(map(bool, causes)) <= 2 or all(causes)
+
+
+def sequence(s):
+    """Calls with several causes at once: the first down the table counts."""
+    for full, damage in itertools.product((False, True), (None, "nodes", "book", "both")):
+        if damage is None:
+            s.ring(5, E + [whole(5)] * (94 if full else 0))
+            kept = s.kept()
+        count = 96 if full else 2
+        s.restore(kept)
+        if damage in ("nodes", "both"):
+            s.node(ROW + 3, 5)
+        if damage in ("book", "both"):
+            s.word(4, kept[1][4] + 32)
+        for n, short, much, group in itertools.product([5] + BAD_N, [{}] + SHORT, (count, 97), ([2, 4], [1, 5], [], [9], [2, 2])):
+            if not pairs(n != 5, short, damage or much == 97, group != [2, 4], full):
+                continue
+            s.trial(n, much, group, **short)
+            if s.join(n, much, group, **short)[0] == 0:
+                s.restore(kept)
+            if not short or "b" in short:
+                s.conflict(n, much, group, **short)
+                s.conflict(n, much, group, c=95, **short)
+        for n, short, much, k in itertools.product([5] + BAD_N, [{}] + SHORT, (count, 97), (1, 0, 3, 98, LARGEST)):
+            if not full and pairs(n != 5, short, damage or much == 97, k != 1):
+                s.aim(n, much, k, **short)
+        if not full:
+            s.words(0, [2, 5])  # not consecutive in the standard order, 1 2 4 5 3
+            for n, short, much in itertools.product([5] + BAD_N, [{}] + SHORT, (count, 97)):
+                s.aim(n, much, 1, **short)
+            s.words(0, E[0])
+        for n, short in itertools.product([5] + BAD_N, [{}, dict(have=255), dict(a=ROWS - 1)]):
+            if damage in (None, "nodes") and not full:
+                s.order(n, c=5, **short)
+                s.order(n, c=4, **short)
+                s.text(n, c=2048, **short)
+                s.text(n, c=2047, **short)
+    for n, short in itertools.product([5] + BAD_N, [{}] + SHORT):
+        for t in (b"1 C(P(2 4) 5 3)", b"1 C(P(2 4) 5 3", b"", b"1 C(P(2 4) 3 5)", b"1 C(P(4 2) 5 3)"):
+            s.read(n, t, **short)
+        s.open(n, **short)
+
+
+def sizes(s):
+    for n in [1, 2, 3, 4, 5, 63, 64, 65, 127, 128, 129, 191, 192, 193, 254, 255, 256, 257, 258, 65535, 65536, 65537, 2 ** 32 + 5, LARGEST, 0]:
+        s.open(n, a=65793, b=385)
+        s.trial(n, 0, [1], have=LARGEST, a=65793, b=385)
+        s.order(n, c=min(n, 257))
+        if 1 <= n <= 256:
+            s.order(n, c=n - 1)
+            s.order(n, c=257, have=1000, a=65793)
+            s.join(n, 0, [n])
+            s.join(n, 1, whole(n))
+            s.join(n, 2, whole(n)[:n // 2] or [1])
+            s.conflict(n, 3, [n], b=385, c=97)
+            for k in range(5):
+                s.aim(n, 3, k)
+        s.text(n)
+    for short in (dict(have=0), dict(a=0), dict(b=0), dict(have=0, a=0, b=0), dict(have=LARGEST, a=ROWS - 1), dict(have=255, a=65793, b=385)):
+        s.open(5, **short)
+        s.trial(5, 0, [1], **short)
+        s.join(5, 0, [1], **short)
+    s.order(0, c=0)
+    s.order(5, c=0)
+    s.conflict(5, 0, [1], b=0, c=0)
+    s.text(5, c=0)
+
+
+def lists(s):
+    cases = [
+        (1, [[1], [2], [0], [1, 1], [1, 2], [2, 1]]),
+        (2, [[1], [2], [1, 2], [2, 1], [3], [1, 2, 1], [1, 2, 3], [2, 2], [65535]]),
+        (5, [[2, 2, 9], [9, 2, 2], [2, 9, 2], [2, 0, 2], [0], [6], [5, 5], [0, 0], [6, 6], [3, 3, 0], [3, 0, 3], [65535, 1], [1, 65535],
+             [1, 2, 3, 4, 5, 5], [1, 2, 3, 4, 5, 6], [1, 2, 3, 4, 5, 0], [5, 4, 3, 2, 1, 1], [5, 4, 3, 2, 1], [1, 3, 1], [3, 1, 1, 0]]),
+        (64, [[64], [65], [0], [64, 1, 64], whole(64) + [1], whole(64) + [65]]),
+        (256, [[256], [257], [256, 256], [255, 257], [300, 256], whole(256), whole(256) + [1], whole(256) + [256], whole(256) + [257],
+               whole(256) + [0], whole(256)[::-1] + [256], whole(255) + [255], [65535], [513], [256, 512]]),
+    ]
+    for n, groups in cases:
+        s.open(n)
+        kept = s.kept()
+        for g in groups:
+            s.trial(n, 0, g)
+            s.conflict(n, 0, g)
+            if s.join(n, 0, g)[0] == 0:
+                s.restore(kept)
+
+
+def full_book(s):
+    for n, first in ((5, E), (256, [])):
+        s.ring(n, first)
+        for k in range(len(first), 94):
+            s.words(k, whole(n))
+        for count in (94, 95):
+            assert s.join(n, count, whole(n)) == (0, count + 1)
+        for g in (whole(n), [1, 5], [1], [], [n + 1], [3, 3]):
+            for count in (96, 97, 95, LARGEST):
+                if len(g) < 256 or count == 96:
+                    s.trial(n, count, g)
+                    s.join(n, count, g)
+                    s.conflict(n, count, g)
+        for k in (1, 2, 3, 95, 96, 97):
+            s.aim(n, 96, k)
+    # 97 groups, one entry past the words
+    s.open(5)
+    s.word(384, 31)
+    s.trial(5, 97, [1], b=385)
+    s.word(384, 12345)
+
+
+# ---- damage
+
+def ask(s, n, count, group, kept, which="JTSAWC"):
+    if "T" in which:
+        s.trial(n, count, group)
+    if "J" in which and s.join(n, count, group)[0] == 0:
+        s.restore(kept)
+    if "S" in which:
+        s.order(n)
+    if "A" in which:
+        s.aim(n, count, 1)
+    if "W" in which:
+        s.text(n)
+    if "C" in which:
+        s.conflict(n, count, group)
+
+
+def damage(s):
+    s.ring(5, E)
+    kept = s.kept()
+    places = [ROW * r + i for r in range(4) for i in range(8)]
+    places += [8, 100, 255, 256, ROW + 256, 2 * ROW + 100, 100 * ROW, 100 * ROW + 1, 254 * ROW + 256, 255 * ROW, 255 * ROW + 1, 65790, 65791, 65792]
+    for i in places:
+        for v in {0, 1, kept[0][i] + 1, 4, 65535} - {kept[0][i]}:
+            s.node(i, v)
+            ask(s, 5, 2, [2, 4], kept, "JTSW" if v in (0, 65535) else "TS")
+            s.node(i, kept[0][i])
+    words = list(range(12)) + [100, 379, 380, 381, 382, 383, 384]
+    for i in words:
+        for v in {0, 1, kept[1][i] + 1, 32, LARGEST} - {kept[1][i]}:
+            s.word(i, v)
+            ask(s, 5, 2, [2, 4], s.kept(), "JTAC")
+            s.word(i, kept[1][i])
+    for n in (1, 2, 3, 4, 6, 256):
+        ask(s, n, 2, [1], kept)
+    for count in (0, 1, 3, 96, 97, 2 ** 32 + 2, LARGEST):
+        ask(s, 5, count, [2, 4], kept, "JTAC")
+
+
+def random_damage(s, r):
+    """Random trees with one or two entries changed, mostly where the tree stands."""
+    for _ in range(60):
+        n = 3 + r.below(10)
+        groups = random_groups(r, n, 6)
+        s.open(n)
+        count = 0
+        for g in groups:
+            count += s.join(n, count, g)[0] == 0
+        used = next(i for i in range(256) if s.nodes.cells[ROW * i] == 0)
+        kept = s.kept()
+        for _ in range(6):
+            for _ in range(1 + r.below(2)):
+                row = r.below(used + 1)
+                i = ROW * row + r.below(2 + s.nodes.cells[ROW * row + 1] % 256 + 1)
+                v = r.pick([0, 1, 2, 3, s.nodes.cells[i] + 1, n, n + 1, 256, 257, 258, 256 + used, 1 + r.below(n), 1 + r.below(n), r.below(65536)])
+                s.node(i, v % 65536)
+            ask(s, n, count, r.pick(groups), s.kept(), "TSW")
+            s.restore(kept)
+
+
+def other_books(s, r):
+    """Books that nobody joined: groups in any sequence, impossible together, not consecutive in the standard order."""
+    for _ in range(60):
+        n = r.pick([1, 2, 3, 4, 5, 6, 8, 12])
+        s.open(n)
+        count = 1 + r.below(7)
+        for k in range(count):
+            s.words(k, r.shuffled(whole(n))[:1 + r.below(n)])
+        for k in range(1, count + 1):
+            s.aim(n, count, k)
+        for g in random_groups(r, n, 3):
+            s.conflict(n, count, g)
+        s.conflict(n, count, whole(n))
+        s.trial(n, count, whole(n))
+        s.trial(n, count - 1, whole(n))
+
+
+# ---- large trees
+
+def large(s):
+    # nested groups: 96 nodes in each other; neighbours: one long C-node
+    for n, groups in ((256, [list(range(256 - k, 257)) for k in range(1, 97)]), (97, [[k, k + 1] for k in range(1, 97)])):
+        s.ring(n, groups[:95])
+        for g in ([1, n], [1, n // 2], [2, n], [n - 1, n], whole(n)[:50], groups[95]):
+            s.trial(n, 95, g)
+            s.conflict(n, 95, g)
+        s.join(n, 95, groups[95])
+        s.order(n)
+        s.text(n)
+        for k in range(1, 97, 5):
+            s.aim(n, 96, k)
+    # as many nodes as there can be, 254
+    n = 256
+    s.open(n)
+    text = "1 " + "".join("%s(%d " % ("PC"[k % 2], k) for k in range(2, n)) + str(n) + ")" * (n - 2)
+    for t in (text[:-1], text + ")", text.replace("256", "255"), text.replace("C(255 256)", "C(256 255)"), text):
+        s.read(n, t.encode())
+    kept = s.kept()
+    for g in ([255, 256], [2, 3], [1, 2], [1, 256], [1, 100, 256], list(range(100, 257))):
+        s.trial(n, 0, g)
+    s.order(n)
+    s.text(n)
+    for i in (0, 1, 2, 3, 4, 5, 256, 257):
+        for r in (252, 253, 254, 255):
+            s.node(ROW * r + i % ROW, s.nodes.cells[ROW * r + i % ROW] + 1)
+            s.order(n)
+            s.restore(kept)
+    s.join(n, 0, [2, 4])
+    s.join(n, 1, [1, 256])
+    s.order(n)
+    s.text(n)
+
+
+# ---- random rings
+
+def random_groups(r, n, many):
+    """Runs of one circular order, so that many are kept, and some at random."""
+    order = r.shuffled(whole(n))
+    groups = []
+    for _ in range(many):
+        size = 1 + r.below(n)
+        start = r.below(n)
+        if r.below(4) == 0:
+            groups.append(r.shuffled(whole(n))[:size])
+        else:
+            groups.append(r.shuffled((order + order)[start:start + size]))
+    return groups
+
+
+def random_rings(s, r):
+    ns = [1 + i % 12 for i in range(290)] + [64] * 8 + [256] * 4
+    for n in ns:
+        a, b = (ROWS, WORDS) if r.below(2) else (65793, 385)
+        s.node(65792, r.below(65536))
+        s.word(384, r.below(2 ** 31))
+        s.open(n, a=a, b=b)
+        count = 0
+        for g in random_groups(r, n, 8 if n <= 64 else 12):
+            if r.below(2):
+                s.trial(n, count, g, a=a, b=b)
+            answer = s.join(n, count, g, a=a, b=b)
+            if answer[0]:
+                s.conflict(n, count, g)
+            count += answer[0] == 0
+            if r.below(3) == 0:
+                s.order(n, c=n + r.below(258 - n))
+        s.order(n)
+        s.text(n)
+        for k in range(1, count + 1, 1 + n % 3):
+            s.aim(n, count, k)
+        if n <= 64 and r.below(2):
+            read_back(s, r, n)
+
+
+def read_back(s, r, n):
+    """The tree's text read into a fresh ring, whole and damaged."""
+    text = s.tree_text(n)
+    s.open(n)
+    for _ in range(2):
+        t = list(text)
+        i = r.below(len(t))
+        kind = r.below(4)
+        if kind == 0:
+            t[i] = r.pick(list(b" ()PC0123456789") + [r.below(256)])
+        elif kind == 1:
+            del t[i]
+        elif kind == 2:
+            t.insert(i, r.pick(list(b" ()PC12")))
+        else:
+            del t[i:]
+        s.read(n, t)
+    s.read(n, text)
+    s.order(n)
+
+
+def main():
+    s = Script()
+    r = Random(20260101)
+    for part in (circles, sequence, sizes, lists, full_book, damage, large):
+        part(s)
+    for part in (random_damage, other_books, random_rings):
+        part(s, r)
+    folder = os.path.join(HERE, "crates", "vectors_calls")
+    os.makedirs(os.path.join(folder, "data"), exist_ok=True)
+    with open(os.path.join(folder, "data", "script.txt"), "w") as f:
+        f.write("\n".join(s.lines) + "\n")
+    with open(os.path.join(folder, "stdout"), "w") as f:
+        f.write("\n".join(s.out) + "\n")
+    print("%d commands, %d calls" % (len(s.lines), len(s.out)))
+    for letter in "OJTSACWR":
+        print(letter, " ".join("%d:%d" % (k, v) for (l, k), v in sorted(s.seen.items()) if l == letter))
+
+
+if __name__ == "__main__":
+    main()
