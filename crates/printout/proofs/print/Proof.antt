@@ -3,10 +3,10 @@ use Prim.Native.Nat.{_-_}
 use native.Mathlib.Omega.{arith}
 use lib.ListN.{length, length-take}
 use Rattle.tokens.proofs.Writes.{wrote-most}
-use Rattle.lister.proofs.print.Statement.{statement}
-use Rattle.lister.proofs.print.Tie as tie
-use Rattle.lister.proofs.print.Reads as reads
-use Rattle.lister.proofs.print.Lts as lts
+use Rattle.printout.proofs.print.Statement.{statement}
+use Rattle.printout.proofs.print.Tie as tie
+use Rattle.printout.proofs.print.Reads as reads
+use Rattle.printout.proofs.print.Lts as lts
 use Rattle.io.proofs.large_buffer.Reads as large-buffer-reads
 use Rattle.io.proofs.write_all.Reads as write-all-reads
 use Rattle.listing.proofs.part.Reads as part-reads
