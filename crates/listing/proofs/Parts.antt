@@ -6,6 +6,7 @@ use native.Mathlib.Omega.{arith}
 use lib.ListN.{length, getD, take, drop, length-append}
 use Rattle.tokens.specs.Tokens.{Wrote}
 use Rattle.tokens.proofs.Writes.{wrote-none}
+use Rattle.output.specs.Appends.{Appends}
 use Rattle.ringfile.specs.RingFile.{Value, value-word, further, line, value-lines, file-bytes, Holds}
 use Rattle.listing.specs.declared.Piece.{Piece}
 use Rattle.listing.specs.Listing.{printed}
@@ -36,12 +37,13 @@ module _ (ls : List (List ℕ)) (from : ℕ) where
   pub shown-none : (old : List ℕ) → Shown from old old 0
   shown-none old = rw (printed-none from ls) (wrote-none old)
 
-  pub shown-more : (i : ℕ) {old new : List ℕ} {at : ℕ} → from ≤ i → i < length ls
-      → Wrote ((printed (take (i - from) (drop from ls)) ++ getD ls i []) ++ (10 ∷ [])) old new at → Shown (i + 1) old new at
-  shown-more i {old} {new} {at} h l w =
-      subst (λ (xs : List ℕ). Wrote xs old new at)
+  -- A line and its line end.
+  pub shown-more : (i : ℕ) {base old mid new : List ℕ} {at a r : ℕ} → from ≤ i → i < length ls → Shown i base old at
+      → Appends (getD ls i []) at old mid a → Appends (10 ∷ []) a mid new r → Shown (i + 1) base new r
+  shown-more i {base} {new = new} {r = r} h l w p q =
+      subst (λ (xs : List ℕ). Wrote xs base new r)
       (append-assoc (printed (take (i - from) (drop from ls))) (getD ls i []) (10 ∷ []) ∙ sym (printed-more from i ls h l))
-      w
+      (q .after (printed (take (i - from) (drop from ls)) ++ getD ls i []) base (p .after (printed (take (i - from) (drop from ls))) base w))
 
   -- The part that ends before line i: for want of room, or with the last line.
   pub short-part : {i at : ℕ} {old new : List ℕ} → from ≤ i → (i ≡ from → at ≡ 0) → length new ≡ length old → length new - at < 4096 → i < length ls

@@ -13,6 +13,8 @@ use Rattle.tokens.specs.Tokens.{tree, plain, encode}
 use Rattle.tokens.proofs.Sequences.{tree-plain}
 use Rattle.parts.specs.Writers.{flat}
 use Rattle.update.specs.Update.{Published}
+use Rattle.output.specs.Appends.{Appends}
+use Rattle.output.proofs.Laws.{appends-then, appends-as}
 use Rattle.ringfile.specs.RingFile.{leaves-on, Holds}
 use Rattle.ledger.specs.Ledger.{outcome, state-at}
 use Rattle.ledger.specs.Stands.{lists-of, StandsAt}
@@ -22,13 +24,17 @@ use Rattle.listing.specs.Listing.{listing}
 use Rattle.listing.specs.Printing.{group-line, final, ending}
 use Rattle.listing.proofs.Lines.{listing-length, head-line, middle-line, end-line}
 
--- A group line of the file.
-pub line-is : {x : List ℕ} {n h k : ℕ} (f : Holds x n h k) (ord : List ℕ) (l : ℕ) {list : List ℕ} → list ≡ leaves-on (getD (f .vss) l [])
-    → digits (l + 1) ++ fields (f .ns) ord (state-at n (lists-of f) l) list (outcome n (state-at n (lists-of f) l) list) ≡ group-line (f .ns) ord (lists-of f) l
+-- A group line of the file: its number and its fields.
+pub line-appends : {x : List ℕ} {n h k : ℕ} (f : Holds x n h k) (ord : List ℕ) (l : ℕ) {list old mid new : List ℕ} {at a r : ℕ} → list ≡ leaves-on (getD (f .vss) l [])
+    → Appends (digits (l + 1)) at old mid a
+    → Appends (fields (f .ns) ord (state-at n (lists-of f) l) list (outcome n (state-at n (lists-of f) l) list)) a mid new r
+    → Appends (group-line (f .ns) ord (lists-of f) l) at old new r
 unfolding group-line
-line-is f ord l e =
-    ap₂ (λ (n : ℕ) (list : List ℕ). digits (l + 1) ++ fields (f .ns) ord (state-at n (lists-of f) l) list (outcome n (state-at n (lists-of f) l) list))
-    (f .leaves) (e ∙ sym (list-at f l))
+line-appends f ord l e p q =
+    appends-as
+    (ap₂ (λ (n : ℕ) (list : List ℕ). digits (l + 1) ++ fields (f .ns) ord (state-at n (lists-of f) l) list (outcome n (state-at n (lists-of f) l) list))
+    (f .leaves) (e ∙ sym (list-at f l)))
+    (appends-then p q)
 
 -- The four lines.
 module _ (names : List (List ℕ)) (t : Forest) {j : ℕ} where

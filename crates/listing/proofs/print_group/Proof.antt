@@ -6,13 +6,12 @@ use denote.Ref.{now}
 use lib.ListN.{length, take, drop, getD}
 use Rattle.orders.specs.TreeText.{digits}
 use Rattle.tokens.proofs.Writes.{read-part}
-use Rattle.output.proofs.Laws.{appends-then, appends-as}
 use Rattle.ringfile.specs.RingFile.{leaves-on, Holds}
 use Rattle.ledger.specs.Ledger.{state-at}
 use Rattle.ledger.specs.Stands.{Line, lists-of}
 use Rattle.ledger.proofs.Files.{file-line, stands-more}
 use Rattle.fields.proofs.Words.{digits-few}
-use Rattle.listing.proofs.Printing.{line-is}
+use Rattle.listing.proofs.Printing.{line-appends}
 use borrow.Author.Needs.{needs}
 use Rattle.listing.proofs.print_group.Statement.{statement}
 use Rattle.listing.proofs.print_group.Tie as tie
@@ -99,8 +98,8 @@ returns c = (
   λ f h.
       let s = c .before .before .before .before .before .before .before .before .before .before .before .before .before .before .before .before .before .before .advance .ensures (state-at (c .before .before .before .before .before .before .before .before .before .before .before .before .before .before .before .before .before .before .before .before .before .before .before .before .before .before .before .before .before .before .before .before .before .args .names) (lists-of f) (c .before .before .before .before .before .before .before .before .before .before .before .before .before .before .before .before .before .before .before .before .before .before .before .before .before .before .before .before .before .before .before .before .before .args .l)) h in (
         stands-more f (c .before .before .before .before .before .before .before .before .before .before .before .before .before .before .before .before .before .before .before .before .before .before .before .before .before .before .before .before .before .before .before .before .before .args .l) (c .before .before .before .before .before .before .before .before .before .before .before .before .before .before .before .before .before .before .before .before .before .before .before .before .before .before .before .before .before .before .before .before .before .pre .2) (leaves (c .before .before .before .before .before .before .before .before .before .before .before .before .before .before .before .before .before .before .before .before .before .before .before .before .before) f) s,
-        appends-as (line-is f (now (c .before .before .before .before .before .before .before .before .before .before .before .before .before .before .before .before .before .before .before .before .before .before .before .before .before .before .before .before .before .before .before .before .before .args .order)) (c .before .before .before .before .before .before .before .before .before .before .before .before .before .before .before .before .before .before .before .before .before .before .before .before .before .before .before .before .before .before .before .before .before .args .l) (leaves (c .before .before .before .before .before .before .before .before .before .before .before .before .before .before .before .before .before .before .before .before .before .before .before .before .before) f))
-            (appends-then (c .before .before .before .before .before .before .before .before .before .before .put-number .ensures) (c .before .before .put-fields .ensures .1 f (state-at (c .before .before .before .before .before .before .before .before .before .before .before .before .before .before .before .before .before .before .before .before .before .before .before .before .before .before .before .before .before .before .before .before .before .args .names) (lists-of f) (c .before .before .before .before .before .before .before .before .before .before .before .before .before .before .before .before .before .before .before .before .before .before .before .before .before .before .before .before .before .before .before .before .before .args .l)) (c .before .before .before .before .before .before .before .before .before .before .before .before .before .before .before .before .before .before .before .before .before .before .before .before .before .before .before .before .before .before .before .before .before .args .l + 1) _ _ (h .counted) s)),
+        line-appends f (now (c .before .before .before .before .before .before .before .before .before .before .before .before .before .before .before .before .before .before .before .before .before .before .before .before .before .before .before .before .before .before .before .before .before .args .order)) (c .before .before .before .before .before .before .before .before .before .before .before .before .before .before .before .before .before .before .before .before .before .before .before .before .before .before .before .before .before .before .before .before .before .args .l) (leaves (c .before .before .before .before .before .before .before .before .before .before .before .before .before .before .before .before .before .before .before .before .before .before .before .before .before) f) (c .before .before .before .before .before .before .before .before .before .before .put-number .ensures)
+        (c .before .before .put-fields .ensures .1 f (state-at (c .before .before .before .before .before .before .before .before .before .before .before .before .before .before .before .before .before .before .before .before .before .before .before .before .before .before .before .before .before .before .before .before .before .args .names) (lists-of f) (c .before .before .before .before .before .before .before .before .before .before .before .before .before .before .before .before .before .before .before .before .before .before .before .before .before .before .before .before .before .before .before .before .before .args .l)) (c .before .before .before .before .before .before .before .before .before .before .before .before .before .before .before .before .before .before .before .before .before .before .before .before .before .before .before .before .before .before .before .before .before .args .l + 1) _ _ (h .counted) s),
       ),
 )
 

@@ -96,7 +96,7 @@ loop-again c = (
   λ f b e.
       let w = c .before .before .before .before .before .before .before .before .before .before .before .before .before .before .before .before .before .before .before .before .loop .inv .8 f b e in
       let p = c .before .before .before .before .before .before .before .before .before .before .before .before .before .print-line .ensures .1 f (w .0) e (c .before .before .before .before .before .before .before .before .before .before .before .before .before .before .before .before .before .before .before .loop-test .taken) in
-      (p .0, shown-more (listing (f .ns) (lists-of f)) (c .before .before .before .before .before .before .before .before .before .before .before .before .before .before .before .before .before .before .before .before .before .before .before .before .before .before .before .before .args .from) (c .before .before .before .before .before .before .before .before .before .before .before .before .before .before .before .before .before .before .before .before .loop .i) (c .before .before .before .before .before .before .before .before .before .before .before .before .before .before .before .before .before .before .before .before .loop .inv .0) (omega (arith, c .before .before .before .before .before .before .before .before .before .before .before .before .before .before .before .before .before .before .before .loop-test .taken, listed-length f)) (c .before .before .put .ensures .after _ _ (p .1 .after _ _ (w .1)))),
+      (p .0, shown-more (listing (f .ns) (lists-of f)) (c .before .before .before .before .before .before .before .before .before .before .before .before .before .before .before .before .before .before .before .before .before .before .before .before .before .before .before .before .args .from) (c .before .before .before .before .before .before .before .before .before .before .before .before .before .before .before .before .before .before .before .before .loop .i) (c .before .before .before .before .before .before .before .before .before .before .before .before .before .before .before .before .before .before .before .before .loop .inv .0) (omega (arith, c .before .before .before .before .before .before .before .before .before .before .before .before .before .before .before .before .before .before .before .loop-test .taken, listed-length f)) (w .1) (p .1) (c .before .before .put .ensures)),
 )
 
 same-length-5 : tie.Need-same-length-5 Inv-loop μ-loop
