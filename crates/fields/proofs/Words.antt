@@ -1,17 +1,11 @@
--- Words with one byte between, element by element; a number has few digits.
+-- Words with one byte between, element by element.
 use mathlib.Core.Path.{_≡_, refl, ap, _∙_}
-use mathlib.Core.Logic.{_≢_}
-use mathlib.Core.Bool.{Bool, true, false}
 use mathlib.Core.List.{List, [], _∷_, _++_, map, append-assoc}
-use Prim.Native.Nat.{ℕ, zero, suc, _+_, _-_, _*_, _/_, _%_, _^_, _≤_, _<_}
+use Prim.Native.Nat.{ℕ, zero, suc, _-_, _≤_, _<_}
 use native.Mathlib.Omega.{arith}
-use borrow.Author.Tests.{ltb-true, ltb-false}
-use lib.Dec.{ltb}
-use lib.ListN.{length, getD, take, drop, length-append}
+use lib.ListN.{length, getD, take, drop}
 use lib.Seq.{take-length}
 use Rattle.orders.specs.Lists.{All}
-use Rattle.orders.specs.TreeText.{digits}
-use Rattle.orders.proofs.Digits.{digits-one, digits-step}
 use Rattle.ringfile.specs.RingFile.{Name, Holds}
 use Rattle.fields.specs.Fields.{between}
 
@@ -57,21 +51,3 @@ all-at P d (x ∷ l) (suc i) h k = all-at P d l i (h .1) (omega arith)
 -- A name has at most 8 bytes.
 pub name-few : {x : List ℕ} {n h k : ℕ} (f : Holds x n h k) (i : ℕ) → i < n → length (getD (f .ns) i []) ≤ 8
 name-few f i l = all-at Name [] (f .ns) i (f .rules .names .each) (omega (arith, f .leaves)) .few-bytes
-
--- A number below 10 ^ k has at most k digits.
-abbrev tens : ℕ → ℕ
-tens zero = 1
-tens (suc k) = 10 * tens k
-
-one-more : (v k : ℕ) (b : Bool) → ltb v 10 ≡ b → (10 ≤ v → length (digits (v / 10)) ≤ k) → length (digits v) ≤ suc k
-one-more v k true e h = omega (arith, ap length (digits-one v (ltb-true v 10 e)))
-one-more v k false e h =
-    let l = ltb-false v 10 e in
-    omega (arith, h l, ap length (digits-step v l), length-append (digits (v / 10)) ((48 + v % 10) ∷ []))
-
-digits-below : (k v : ℕ) → v < tens (suc k) → length (digits v) ≤ suc k
-digits-below zero v h = omega (arith, ap length (digits-one v h))
-digits-below (suc k) v h = one-more v (suc k) (ltb v 10) refl (λ l. digits-below k (v / 10) (omega arith))
-
-pub digits-few : (v : ℕ) → v < 2 ^ 64 → length (digits v) ≤ 20
-digits-few v h = digits-below 19 v (omega arith)

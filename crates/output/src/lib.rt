@@ -28,10 +28,10 @@ pub fn put(src: &[u8], out: &mut [u8], at: usize) -> usize
     at + copy(src, &mut out[at..])
 }
 
-// Appends the decimal digits of v.
+// Appends the decimal digits of v, at most 20.
 pub fn put_number(v: usize, out: &mut [u8], at: usize) -> usize
-    requires { ⌜ at + length (digits v) ≤ length (now out) ⌝ }
-    ensures { λ r. ⌜ Appends (digits v) at (now (out .entry)) (now (out .exit)) r ⌝ }
+    requires { ⌜ at + 20 ≤ length (now out) ⌝ }
+    ensures { λ r. ⌜ (r ≤ at + 20) × (Appends (digits v) at (now (out .entry)) (now (out .exit)) r) ⌝ }
 {
     at + text::write_number(v, &mut out[at..])
 }

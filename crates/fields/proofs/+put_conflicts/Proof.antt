@@ -5,7 +5,7 @@ use denote.Ref.{now}
 use lib.ListN.{length, getD}
 use Rattle.orders.specs.TreeText.{digits}
 use Rattle.output.proofs.Laws.{appends-none, appends-then}
-use Rattle.fields.proofs.Words.{words-none, words-one, words-more, all-first, all-tail, digits-few}
+use Rattle.fields.proofs.Words.{words-none, words-one, words-more, all-first, all-tail}
 use Prim.Native.Nat.{ℕ, _+_, _-_, _≤_, _<_}
 use borrow.Fn.Kinds.{In}
 use borrow.Fn.PlainCycle.{Measures, is, falls, and}
@@ -40,10 +40,6 @@ first : {t : ℕ} (c : put-conflicts-lts.Else1 (put-conflicts-calls t) (put-conf
     → (1 ≤ getD (now (c .before .before .before .before .args .numbers)) 0 0) × (getD (now (c .before .before .before .before .args .numbers)) 0 0 ≤ length (now (c .before .before .before .before .args .table)))
 first c = all-first (λ j. (1 ≤ j) × (j ≤ length (now (c .before .before .before .before .args .table)))) (now (c .before .before .before .before .args .numbers)) (c .before .before .before .before .pre .1 .0) (c .if1 .left)
 
-few : {t : ℕ} (c : put-conflicts-lts.Else1 (put-conflicts-calls t) (put-conflicts-at t) put-conflicts.Post)
-    → length (digits (getD (now (c .before .before .before .before .args .table)) (getD (now (c .before .before .before .before .args .numbers)) 0 0 - 1) 0)) ≤ 20
-few c = digits-few (getD (now (c .before .before .before .before .args .table)) (getD (now (c .before .before .before .before .args .numbers)) 0 0 - 1) 0) (omega (arith, c .before .before .shared-slice-known2 .given (getD (now (c .before .before .before .before .args .numbers)) 0 0 - 1)))
-
 put-conflicts-returns : (t : ℕ) → put-conflicts-lts.Need-returns (put-conflicts-calls t) (put-conflicts-at t) put-conflicts.Post
 put-conflicts-returns t c = (omega arith, rw (words-none 44 (λ j. digits (getD (now (c .before .before .before .before .args .table)) (j - 1) 0)) (now (c .before .before .before .before .args .numbers)) (c .if1 .taken)) (appends-none _ _))
 
@@ -63,19 +59,19 @@ put-conflicts-shared-slice-read-put-number : (t : ℕ) → put-conflicts-lts.Nee
 put-conflicts-shared-slice-read-put-number t c = omega (arith, first (c .before .before))
 
 put-conflicts-put-number-requires : (t : ℕ) → put-conflicts-lts.Need-put-number-requires (put-conflicts-calls t) (put-conflicts-at t) put-conflicts.Post
-put-conflicts-put-number-requires t c κs = omega (arith, c .before .before .before .before .before .before .before .pre .1 .1, c .before .before .before .if1 .left, few (c .before .before .before))
+put-conflicts-put-number-requires t c κs = omega (arith, c .before .before .before .before .before .before .before .pre .1 .1, c .before .before .before .if1 .left)
 
 put-conflicts-same-length : (t : ℕ) → put-conflicts-lts.Need-same-length (put-conflicts-calls t) (put-conflicts-at t) put-conflicts.Post
 put-conflicts-same-length t c = c .before .before .before .put-number .kept .1 .0
 
 put-conflicts-returns-2 : (t : ℕ) → put-conflicts-lts.Need-returns-2 (put-conflicts-calls t) (put-conflicts-at t) put-conflicts.Post
-put-conflicts-returns-2 t c = (omega (arith, c .if2 .taken, c .before .before .before .put-number .ensures .past, few (c .before .before .before .before .before .before .before)), rw (words-one 44 (λ j. digits (getD (now (c .before .before .before .before .before .before .before .before .before .before .before .args .table)) (j - 1) 0)) (now (c .before .before .before .before .before .before .before .before .before .before .before .args .numbers)) (c .if2 .taken)) (c .before .before .before .put-number .ensures))
+put-conflicts-returns-2 t c = (omega (arith, c .if2 .taken, c .before .before .before .put-number .ensures .0), rw (words-one 44 (λ j. digits (getD (now (c .before .before .before .before .before .before .before .before .before .before .before .args .table)) (j - 1) 0)) (now (c .before .before .before .before .before .before .before .before .before .before .before .args .numbers)) (c .if2 .taken)) (c .before .before .before .put-number .ensures .1))
 
 put-conflicts-slice-aggregate-put : (t : ℕ) → put-conflicts-lts.Need-slice-aggregate-put (put-conflicts-calls t) (put-conflicts-at t) put-conflicts.Post
 put-conflicts-slice-aggregate-put t c = refl
 
 put-conflicts-put-requires : (t : ℕ) → put-conflicts-lts.Need-put-requires (put-conflicts-calls t) (put-conflicts-at t) put-conflicts.Post
-put-conflicts-put-requires t c κs = omega (arith, c .before .before .before .before .before .before .before .before .before .before .before .before .before .pre .1 .1, c .before .before .before .before .before .before .before .before .before .if1 .left, c .before .before .before .before .before .put-number .ensures .past, c .before .before .before .before .before .put-number .kept .1 .0, few (c .before .before .before .before .before .before .before .before .before))
+put-conflicts-put-requires t c κs = omega (arith, c .before .before .before .before .before .before .before .before .before .before .before .before .before .pre .1 .1, c .before .before .before .before .before .before .before .before .before .if1 .left, c .before .before .before .before .before .put-number .ensures .0, c .before .before .before .before .before .put-number .kept .1 .0)
 
 put-conflicts-sub-put-conflicts : (t : ℕ) → put-conflicts-lts.Need-sub-put-conflicts (put-conflicts-calls t) (put-conflicts-at t) put-conflicts.Post
 put-conflicts-sub-put-conflicts t c = omega (arith, c .before .before .before .before .before .before .before .before .before .before .before .before .if1 .left)
@@ -91,7 +87,7 @@ put-conflicts-put-conflicts-requires t c κs = (
   omega (arith, c .before .before .before .before .before .before .before .before .before .before .before .before .before .before .before .before .before .before .pre .0, c .before .put-conflicts-arg .given, c .before .before .before .before .before .before .before .before .before .before .before .before .before .before .if1 .left),
   (
     all-tail (λ j. (1 ≤ j) × (j ≤ length (now (c .before .before .before .before .before .before .before .before .before .before .before .before .before .before .before .before .before .before .args .table)))) (now (c .before .before .before .before .before .before .before .before .before .before .before .before .before .before .before .before .before .before .args .numbers)) (c .before .before .before .before .before .before .before .before .before .before .before .before .before .before .before .before .before .before .pre .1 .0) (c .before .before .before .before .before .before .before .before .before .before .before .before .before .before .if1 .left),
-    omega (arith, c .before .before .before .before .before .before .before .before .before .before .before .before .before .before .before .before .before .before .pre .1 .1, c .before .put-conflicts-arg .given, c .before .before .before .before .before .before .before .before .before .before .before .before .before .before .if1 .left, few (c .before .before .before .before .before .before .before .before .before .before .before .before .before .before), c .before .before .before .before .put .ensures .past, c .before .before .before .before .put .kept .1 .0, c .before .before .before .before .before .before .before .before .before .before .put-number .ensures .past, c .before .before .before .before .before .before .before .before .before .before .put-number .kept .1 .0),
+    omega (arith, c .before .before .before .before .before .before .before .before .before .before .before .before .before .before .before .before .before .before .pre .1 .1, c .before .put-conflicts-arg .given, c .before .before .before .before .before .before .before .before .before .before .before .before .before .before .if1 .left, c .before .before .before .before .put .ensures .past, c .before .before .before .before .put .kept .1 .0, c .before .before .before .before .before .before .before .before .before .before .put-number .ensures .0, c .before .before .before .before .before .before .before .before .before .before .put-number .kept .1 .0),
   ),
 )
 
@@ -99,7 +95,7 @@ put-conflicts-same-length-2 : (t : ℕ) → put-conflicts-lts.Need-same-length-2
 put-conflicts-same-length-2 t c = c .before .before .put-conflicts .kept .1 .1 .0 ∙ c .before .before .before .before .before .before .before .put .kept .1 .0 ∙ c .before .before .before .before .before .before .before .before .before .before .before .before .before .put-number .kept .1 .0
 
 put-conflicts-returns-3 : (t : ℕ) → put-conflicts-lts.Need-returns-3 (put-conflicts-calls t) (put-conflicts-at t) put-conflicts.Post
-put-conflicts-returns-3 t c = (omega (arith, c .before .before .put-conflicts .ensures .0, c .before .before .before .before .put-conflicts-arg .given, c .before .before .before .before .before .before .before .before .before .before .before .before .before .before .before .before .before .if1 .left, c .before .before .before .before .before .before .before .put .ensures .past, c .before .before .before .before .before .before .before .before .before .before .before .before .before .put-number .ensures .past, few (c .before .before .before .before .before .before .before .before .before .before .before .before .before .before .before .before .before)), rw (words-more 44 (λ j. digits (getD (now (c .before .before .before .before .before .before .before .before .before .before .before .before .before .before .before .before .before .before .before .before .before .args .table)) (j - 1) 0)) (now (c .before .before .before .before .before .before .before .before .before .before .before .before .before .before .before .before .before .before .before .before .before .args .numbers)) (c .before .before .before .before .before .before .before .before .before .before .before .before .before .before .before .before .before .if1 .left) (c .before .before .before .before .before .before .before .before .before .before .if2 .left)) (appends-then (appends-then (c .before .before .before .before .before .before .before .before .before .before .before .before .before .put-number .ensures) (c .before .before .before .before .before .before .before .put .ensures)) (c .before .before .put-conflicts .ensures .1)))
+put-conflicts-returns-3 t c = (omega (arith, c .before .before .put-conflicts .ensures .0, c .before .before .before .before .put-conflicts-arg .given, c .before .before .before .before .before .before .before .before .before .before .before .before .before .before .before .before .before .if1 .left, c .before .before .before .before .before .before .before .put .ensures .past, c .before .before .before .before .before .before .before .before .before .before .before .before .before .put-number .ensures .0), rw (words-more 44 (λ j. digits (getD (now (c .before .before .before .before .before .before .before .before .before .before .before .before .before .before .before .before .before .before .before .before .before .args .table)) (j - 1) 0)) (now (c .before .before .before .before .before .before .before .before .before .before .before .before .before .before .before .before .before .before .before .before .before .args .numbers)) (c .before .before .before .before .before .before .before .before .before .before .before .before .before .before .before .before .before .if1 .left) (c .before .before .before .before .before .before .before .before .before .before .if2 .left)) (appends-then (appends-then (c .before .before .before .before .before .before .before .before .before .before .before .before .before .put-number .ensures .1) (c .before .before .before .before .before .before .before .put .ensures)) (c .before .before .put-conflicts .ensures .1)))
 
 pub +put-conflicts-spec : {M : Type 1} → statement M
 +put-conflicts-spec = close μ-put-conflicts λ t. put-conflicts-lts.spec (put-conflicts-calls t)

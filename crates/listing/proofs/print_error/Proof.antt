@@ -1,6 +1,5 @@
 use native.Mathlib.Omega.{arith}
 use Rattle.tokens.proofs.Writes.{wrote-none}
-use Rattle.fields.proofs.Words.{digits-few}
 use Rattle.listing.proofs.Answers.{no-part, error-part}
 use borrow.Author.Needs.{needs}
 use Rattle.listing.proofs.print_error.Statement.{statement}
@@ -23,19 +22,19 @@ put-requires : tie.Need-put-requires
 put-requires c κs = search needs
 
 put-number-requires : tie.Need-put-number-requires
-put-number-requires c κs = omega (arith, c .before .before .before .before .before .before .if2 .left, c .before .before .before .put .ensures .past, c .before .before .before .put .kept .1 .0, digits-few (c .before .before .before .before .before .before .before .before .before .args .byte) (omega (arith, c .before .before .before .before .before .before .before .before .before .fits .byte)))
+put-number-requires c κs = omega (arith, c .before .before .before .before .before .before .if2 .left, c .before .before .before .put .ensures .past, c .before .before .before .put .kept .1 .0)
 
 slice-aggregate-put-2 : tie.Need-slice-aggregate-put-2
 slice-aggregate-put-2 c = search needs
 
 put-requires-2 : tie.Need-put-requires-2
-put-requires-2 c κs = omega (arith, c .before .before .before .before .before .before .before .before .before .before .before .if2 .left, c .before .before .before .before .before .before .before .before .put .ensures .past, c .before .before .before .before .before .before .before .before .put .kept .1 .0, c .before .before .before .before .put-number .ensures .past, c .before .before .before .before .put-number .kept .1 .0, digits-few (c .before .before .before .before .before .before .before .before .before .before .before .before .before .before .args .byte) (omega (arith, c .before .before .before .before .before .before .before .before .before .before .before .before .before .before .fits .byte)))
+put-requires-2 c κs = omega (arith, c .before .before .before .before .before .before .before .before .before .before .before .if2 .left, c .before .before .before .before .before .before .before .before .put .ensures .past, c .before .before .before .before .before .before .before .before .put .kept .1 .0, c .before .before .before .before .put-number .ensures .0, c .before .before .before .before .put-number .kept .1 .0)
 
 same-length : tie.Need-same-length
 same-length c = search needs
 
 returns-3 : tie.Need-returns-3
-returns-3 c = error-part (c .before .before .before .before .before .before .before .before .before .before .before .before .before .before .before .before .before .args .byte) (c .before .before .before .before .before .before .before .before .before .before .before .before .before .before .before .before .before .args .from) (λ z. omega (arith, c .before .before .before .before .before .before .before .before .before .before .before .before .before .before .before .if1 .left, z)) (wrote-none _) (c .before .before .before .before .before .before .before .before .before .before .before .put .ensures) (c .before .before .before .before .before .before .before .put-number .ensures) (c .before .before .put2 .ensures)
+returns-3 c = error-part (c .before .before .before .before .before .before .before .before .before .before .before .before .before .before .before .before .before .args .byte) (c .before .before .before .before .before .before .before .before .before .before .before .before .before .before .before .before .before .args .from) (λ z. omega (arith, c .before .before .before .before .before .before .before .before .before .before .before .before .before .before .before .if1 .left, z)) (wrote-none _) (c .before .before .before .before .before .before .before .before .before .before .before .put .ensures) (c .before .before .before .before .before .before .before .put-number .ensures .1) (c .before .before .put2 .ensures)
 
 pub print-error-spec : {M : Type 1} → statement M
 print-error-spec =

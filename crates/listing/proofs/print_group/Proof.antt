@@ -4,13 +4,11 @@ use Prim.Native.Nat.{_+_, _-_, _≤_}
 use native.Mathlib.Omega.{arith}
 use denote.Ref.{now}
 use lib.ListN.{length, take, drop, getD}
-use Rattle.orders.specs.TreeText.{digits}
 use Rattle.tokens.proofs.Writes.{read-part}
 use Rattle.ringfile.specs.RingFile.{leaves-on, Holds}
 use Rattle.ledger.specs.Ledger.{state-at}
 use Rattle.ledger.specs.Stands.{Line, lists-of}
 use Rattle.ledger.proofs.Files.{file-line, stands-more}
-use Rattle.fields.proofs.Words.{digits-few}
 use Rattle.listing.proofs.Printing.{line-appends}
 use borrow.Author.Needs.{needs}
 use Rattle.listing.proofs.print_group.Statement.{statement}
@@ -22,16 +20,13 @@ use Rattle.ledger.proofs.advance.Reads as advance-reads
 use Rattle.output.proofs.put_number.Reads as put-number-reads
 use Rattle.ringfile.proofs.group_of.Reads as group-of-reads
 
--- The leaves that were read, and the line's number.
+-- The leaves that were read.
 leaves : (c : tie.After-group-of) (f : Holds (now (c .before .before .before .before .before .before .before .before .args .file)) (c .before .before .before .before .before .before .before .before .args .names) (c .before .before .before .before .before .before .before .before .args .head) (c .before .before .before .before .before .before .before .before .args .lines))
     → take (c .group-of .result - 0) (drop 0 (c .group-of .last .1 .1 .1 .1 .0)) ≡ leaves-on (getD (f .vss) (c .before .before .before .before .before .before .before .before .args .l) [])
 leaves c f = read-part (c .group-of .ensures .0 (f .ns) (f .vss) (f .rules) (f .bytes) (f .size) (f .leaves) (f .head) (omega (arith, c .before .before .before .before .before .before .before .before .pre .2, f .lines)) (omega (arith, f .rules .names .few-names)))
 
 line : (c : tie.After-group-of) → Line (c .before .before .before .before .before .before .before .before .args .names) (take (c .group-of .result - 0) (drop 0 (c .group-of .last .1 .1 .1 .1 .0)))
 line c = rw (leaves c (c .before .before .before .before .before .before .before .before .pre .0)) (file-line (c .before .before .before .before .before .before .before .before .pre .0) (c .before .before .before .before .before .before .before .before .args .l) (c .before .before .before .before .before .before .before .before .pre .2))
-
-few : (c : tie.After-group-of) → length (digits (c .before .before .before .before .before .before .before .before .args .l + 1)) ≤ 20
-few c = digits-few (c .before .before .before .before .before .before .before .before .args .l + 1) (omega (arith, c .before .before .before .before .before .before .before .before .pre .2, c .before .before .before .before .before .before .before .before .fits .lines))
 
 slice-aggregate-group-of : tie.Need-slice-aggregate-group-of
 slice-aggregate-group-of c = search needs
@@ -58,7 +53,7 @@ add-put-number : tie.Need-add-put-number
 add-put-number c = search needs
 
 put-number-requires : tie.Need-put-number-requires
-put-number-requires c κs = omega (arith, few (c .before .before .before .before .before .before .before .before .before .before .before .before .before .before), c .before .before .before .before .before .before .before .before .before .before .before .before .before .before .before .before .before .before .before .before .before .before .pre .5)
+put-number-requires c κs = omega (arith, c .before .before .before .before .before .before .before .before .before .before .before .before .before .before .before .before .before .before .before .before .before .before .pre .5)
 
 sub-put-fields : tie.Need-sub-put-fields
 sub-put-fields c = search needs
@@ -77,7 +72,7 @@ put-fields-requires c κs = (
   omega (arith, c .before .before .before .before .before .before .before .before .before .before .before .before .before .before .before .before .before .before .before .before .before .before .before .before .before .before .before .before .before .before .pre .3 .1, c .before .before .before .before .before .before .before .before .before .before .before .before .before .before .before .advance .kept .1 .1 .1 .1 .1 .0),
   omega (arith, c .before .before .before .before .before .before .before .before .before .before .before .before .before .before .before .before .before .before .before .before .before .before .before .before .before .before .before .before .before .before .pre .3 .2, c .before .before .before .before .before .before .before .before .before .before .before .before .before .before .before .advance .kept .1 .1 .1 .1 .1 .1 .0),
   c .before .before .before .before .before .before .before .before .before .before .before .before .before .before .before .before .before .before .before .before .before .before .before .before .before .before .before .before .before .before .pre .1 .few,
-  omega (arith, c .before .before .before .before .before .before .before .before .before .before .before .before .before .before .before .before .before .before .before .before .before .before .before .before .before .before .before .before .before .before .pre .5, few (c .before .before .before .before .before .before .before .before .before .before .before .before .before .before .before .before .before .before .before .before .before .before), c .before .before .before .before .before .before .before .put-number .ensures .past, c .before .before .before .before .before .before .before .put-number .kept .1 .0),
+  omega (arith, c .before .before .before .before .before .before .before .before .before .before .before .before .before .before .before .before .before .before .before .before .before .before .before .before .before .before .before .before .before .before .pre .5, c .before .before .before .before .before .before .before .put-number .ensures .0, c .before .before .before .before .before .before .before .put-number .kept .1 .0),
 )
 
 same-length : tie.Need-same-length
@@ -94,12 +89,12 @@ same-length-4 c = search needs
 
 returns : tie.Need-returns
 returns c = (
-  omega (arith, c .before .before .put-fields .ensures .0, c .before .before .before .before .before .before .before .before .before .before .put-number .ensures .past, few (c .before .before .before .before .before .before .before .before .before .before .before .before .before .before .before .before .before .before .before .before .before .before .before .before .before)),
+  omega (arith, c .before .before .put-fields .ensures .0, c .before .before .before .before .before .before .before .before .before .before .put-number .ensures .0),
   λ f h.
       let s = c .before .before .before .before .before .before .before .before .before .before .before .before .before .before .before .before .before .before .advance .ensures (state-at (c .before .before .before .before .before .before .before .before .before .before .before .before .before .before .before .before .before .before .before .before .before .before .before .before .before .before .before .before .before .before .before .before .before .args .names) (lists-of f) (c .before .before .before .before .before .before .before .before .before .before .before .before .before .before .before .before .before .before .before .before .before .before .before .before .before .before .before .before .before .before .before .before .before .args .l)) h in (
         stands-more f (c .before .before .before .before .before .before .before .before .before .before .before .before .before .before .before .before .before .before .before .before .before .before .before .before .before .before .before .before .before .before .before .before .before .args .l) (c .before .before .before .before .before .before .before .before .before .before .before .before .before .before .before .before .before .before .before .before .before .before .before .before .before .before .before .before .before .before .before .before .before .pre .2) (leaves (c .before .before .before .before .before .before .before .before .before .before .before .before .before .before .before .before .before .before .before .before .before .before .before .before .before) f) s,
-        line-appends f (now (c .before .before .before .before .before .before .before .before .before .before .before .before .before .before .before .before .before .before .before .before .before .before .before .before .before .before .before .before .before .before .before .before .before .args .order)) (c .before .before .before .before .before .before .before .before .before .before .before .before .before .before .before .before .before .before .before .before .before .before .before .before .before .before .before .before .before .before .before .before .before .args .l) (leaves (c .before .before .before .before .before .before .before .before .before .before .before .before .before .before .before .before .before .before .before .before .before .before .before .before .before) f) (c .before .before .before .before .before .before .before .before .before .before .put-number .ensures)
-        (c .before .before .put-fields .ensures .1 f (state-at (c .before .before .before .before .before .before .before .before .before .before .before .before .before .before .before .before .before .before .before .before .before .before .before .before .before .before .before .before .before .before .before .before .before .args .names) (lists-of f) (c .before .before .before .before .before .before .before .before .before .before .before .before .before .before .before .before .before .before .before .before .before .before .before .before .before .before .before .before .before .before .before .before .before .args .l)) (c .before .before .before .before .before .before .before .before .before .before .before .before .before .before .before .before .before .before .before .before .before .before .before .before .before .before .before .before .before .before .before .before .before .args .l + 1) _ _ (h .counted) s),
+        line-appends f (now (c .before .before .before .before .before .before .before .before .before .before .before .before .before .before .before .before .before .before .before .before .before .before .before .before .before .before .before .before .before .before .before .before .before .args .order)) (c .before .before .before .before .before .before .before .before .before .before .before .before .before .before .before .before .before .before .before .before .before .before .before .before .before .before .before .before .before .before .before .before .before .args .l) (leaves (c .before .before .before .before .before .before .before .before .before .before .before .before .before .before .before .before .before .before .before .before .before .before .before .before .before) f) (c .before .before .before .before .before .before .before .before .before .before .put-number .ensures .1)
+            (c .before .before .put-fields .ensures .1 f (state-at (c .before .before .before .before .before .before .before .before .before .before .before .before .before .before .before .before .before .before .before .before .before .before .before .before .before .before .before .before .before .before .before .before .before .args .names) (lists-of f) (c .before .before .before .before .before .before .before .before .before .before .before .before .before .before .before .before .before .before .before .before .before .before .before .before .before .before .before .before .before .before .before .before .before .args .l)) (c .before .before .before .before .before .before .before .before .before .before .before .before .before .before .before .before .before .before .before .before .before .before .before .before .before .before .before .before .before .before .before .before .before .args .l + 1) _ _ (h .counted) s),
       ),
 )
 

@@ -1,5 +1,7 @@
-use borrow.Author.Needs.{needs}
+use native.Mathlib.Omega.{arith}
 use Rattle.output.proofs.Laws.{part-appends}
+use Rattle.output.proofs.Digits.{digits-few}
+use borrow.Author.Needs.{needs}
 use Rattle.output.proofs.put_number.Statement.{statement}
 use Rattle.output.proofs.put_number.Tie as tie
 use Rattle.output.proofs.put_number.Reads as reads
@@ -16,16 +18,16 @@ part-write-number-end : tie.Need-part-write-number-end
 part-write-number-end c = search needs
 
 write-number-requires : tie.Need-write-number-requires
-write-number-requires c κs = search needs
+write-number-requires c κs = omega (arith, c .before .before .pre, c .write-number-arg .given, digits-few (c .before .before .args .v) (omega (arith, c .before .before .fits .v)))
 
 add-result : tie.Need-add-result
-add-result c = search needs
+add-result c = omega (arith, c .before .before .before .before .before .pre, c .before .before .write-number .ensures .many, c .before .before .before .before .before .good .1 .0, digits-few (c .before .before .before .before .before .args .v) (omega (arith, c .before .before .before .before .before .fits .v)))
 
 same-length : tie.Need-same-length
 same-length c = search needs
 
 returns : tie.Need-returns
-returns c = part-appends (c .before .before .write-number .ensures)
+returns c = (omega (arith, c .before .before .write-number .ensures .many, digits-few (c .before .before .before .before .before .args .v) (omega (arith, c .before .before .before .before .before .fits .v))), part-appends (c .before .before .write-number .ensures))
 
 pub put-number-spec : {M : Type 1} → statement M
 put-number-spec =
