@@ -46,7 +46,7 @@ unfolding flat
 store-requires c κs = let j = new-tree (c .before .before .before) in (record { size = c .before .before .before .before .before .before .before .before .before .before .before .before .before .before .args .n; shown = j .tree; is = read-part (j .wrote); in-form = j .in-form; few = j .few-leaves }, j .all-rows)
 
 put-requires : tie.Need-put-requires
-put-requires c κs = let j = new-tree (c .before .before .before .before .before .before .before) in (j .place-left, j .all-words)
+put-requires c κs = let j = new-tree (c .before .before .before .before .before .before .before) in (omega (arith, j .place-left), j .all-words)
 
 add-t21 : tie.Need-add-t21
 add-t21 c = omega (arith, new-tree (c .before .before .before .before .before .before .before .before .before .before) .place-left)

@@ -49,7 +49,7 @@ lent : (c : tie.After-enum-told) → TableLent (c .before .before .before .befor
 lent c = tables-lent (c .before .before .before .before .before .before .args .n) (c .before .before .before .before .before .before .args .have) (now (c .before .before .before .before .before .before .args .nodes)) (short 384 (now (c .before .before .before .before .before .before .args .book))) (fine c)
 
 fresh-requires : tie.Need-fresh-requires
-fresh-requires c κs = let l = lent (c .before) in (l .few-leaves, omega (arith, l .few-leaves))
+fresh-requires c κs = let l = lent (c .before) in (omega (arith, l .few-leaves), omega (arith, l .few-leaves))
 
 sub-store : tie.Need-sub-store
 sub-store c = search needs
