@@ -7,6 +7,7 @@ ghost use lib.ListN.{length, getD, set, take, drop};
 ghost use Rattle.lent.specs.Rows.{zero-node, row-of, rows-of, put-row, node-at, with-rows, Sound};
 
 // A record of the node table (docs/NODE-TABLE.md).
+#[repr(C)]
 pub struct Node {
     pub kind: u8,
     pub count: u16,

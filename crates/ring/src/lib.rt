@@ -1,7 +1,8 @@
-// The calls of document 01 on a ring as it is lent: a node table of records, and a book.
+// The calls of document 01 on a ring as it is lent, a node table of records and a book; and the ring file, read.
 ghost use mathlib.Core.Path.{_≡_};
-ghost use Prim.Native.Nat.{_≤_};
-ghost use lib.ListN.{length, take};
+ghost use mathlib.Core.List.{List, []};
+ghost use Prim.Native.Nat.{ℕ, _+_, _≤_, _<_};
+ghost use lib.ListN.{length, take, getD};
 ghost use Rattle.orders.specs.Lists.{elem};
 ghost use Rattle.orders.specs.CircularOrder.{WellFormed};
 ghost use Rattle.orders.specs.Tree.{Forest};
@@ -9,10 +10,14 @@ ghost use Rattle.orders.specs.Form.{StandardOrder};
 ghost use Rattle.calls.specs.Calls.{ring, filled-as, open-call, join-call, trial-call, order-call, aim-call, write-call, ReadCall, conflict-call};
 ghost use Rattle.calls.specs.Demands.{LentTree, LentRing, ImpossibleIff, Joins};
 ghost use Rattle.conflict.specs.Demand.{LentBook, Named};
+ghost use Rattle.tokens.specs.Tokens.{Wrote};
+ghost use Rattle.ringfile.specs.RingFile.{Value, off, in-group, line, file-bytes, NameAt, leaves-on, Rules, Says};
 ghost use Rattle.lent.specs.Rows.{node-rows};
 ghost use Rattle.ring.specs.Records.{Left};
 use calls::Answer;
 use lent::Node;
+use ringfile::Part;
+use ringfile::Scanned;
 
 // Opens a ring of n leaves: its node table gets the fresh tree, and its book is emptied. Answers the count of groups, 0; or refuses (1, 2), and
 // leaves both tables as they were.
@@ -108,4 +113,49 @@ pub fn conflict(n: usize, book: &[u64], count: usize, list: &[u16], conflicts: &
         → Named n (now (book .entry)) count (now (list .entry)) r (now (conflicts .exit))) ⌝ }
 {
     conflict::conflict(n, book, count, list, conflicts)
+}
+
+// Reads the file: what it holds, or the byte at which it is refused.
+pub fn scan(file: &[u8]) -> Scanned
+    ensures { λ r. ⌜ Says (now (file .entry)) r ⌝ }
+{
+    ringfile::scan(file)
+}
+
+// Where name number k, from 0, of an accepted file stands. Of another file or number it is some part of the file.
+pub fn name_at(file: &[u8], k: usize) -> Part
+    ensures { λ r. ⌜ ((ns : List (List ℕ)) (vss : List (List Value)) → Rules ns vss → now (file .entry) ≡ file-bytes ns vss → k < length ns
+        → NameAt (now (file .entry)) ns k (r .start) (r .length)) ⌝ }
+    ensures { λ r. ⌜ r .start + r .length ≤ length (now (file .entry)) ⌝ }
+{
+    ringfile::name_at(file, k)
+}
+
+// Name number k, from 0, of an accepted file: the part of the file that it fills. Of another file or number it is some part of the file.
+pub fn name_of(file: &[u8], k: usize) -> &[u8]
+    ensures { λ r. ⌜ ((ns : List (List ℕ)) (vss : List (List Value)) → Rules ns vss → now (file .entry) ≡ file-bytes ns vss → k < length ns
+        → now r ≡ getD ns k []) ⌝ }
+{
+    ringfile::name_of(file, k)
+}
+
+// Whether value number i of value line l, both from 0, is `1`, in an accepted file with so many names and a names line of head bytes.
+// Of other numbers the answer means nothing.
+pub fn value_of(file: &[u8], names: usize, head: usize, l: usize, i: usize) -> bool
+    ensures { λ r. ⌜ ((ns : List (List ℕ)) (vss : List (List Value)) → Rules ns vss → now (file .entry) ≡ file-bytes ns vss
+        → length (now (file .entry)) ≤ 65536 → names ≡ length ns → head ≡ length (line ns) → l < length vss
+        → i < length ns → r ≡ in-group (getD (getD vss l []) i off)) ⌝ }
+{
+    ringfile::value_of(file, names, head, l, i)
+}
+
+// Writes the group of value line l, from 0, of an accepted file to the start of the list: its leaves, rising. Returns how many. The list has
+// a place for each leaf of the ring; with fewer places, nothing is written. Of other numbers the answer means nothing.
+pub fn group_of(file: &[u8], names: usize, head: usize, l: usize, list: &mut [u16]) -> usize
+    ensures { λ r. ⌜ ((ns : List (List ℕ)) (vss : List (List Value)) → Rules ns vss → now (file .entry) ≡ file-bytes ns vss
+        → length (now (file .entry)) ≤ 65536 → names ≡ length ns → head ≡ length (line ns) → l < length vss
+        → length ns ≤ length (now (list .entry)) → Wrote (leaves-on (getD vss l [])) (now (list .entry)) (now (list .exit)) r) ⌝ }
+    ensures { λ r. ⌜ r ≤ 256 ⌝ }
+{
+    ringfile::group_of(file, names, head, l, list)
 }

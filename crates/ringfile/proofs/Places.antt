@@ -11,8 +11,8 @@ use lib.ListN.{length, length-append, length-take, take, drop, getD, drop-of-len
 use lib.Seq.{drop-cons, take-append-seam, drop-append-add}
 use borrow.Author.Tests.{ne-eqb}
 use Rattle.orders.specs.Lists.{All}
-use Rattle.ringfile.specs.RingFile.{NameByte, Name, Value, further, line, value-lines, file-bytes, Rules}
-use Rattle.ringfile.specs.Words.{word-length, word-end, Word, place-of}
+use Rattle.ringfile.specs.RingFile.{NameByte, Name, Value, further, line, value-lines, file-bytes, place-of, NameAt, Rules}
+use Rattle.ringfile.specs.Words.{word-length, word-end, Word}
 use Rattle.ringfile.proofs.Words.{no-space, no-end}
 use Rattle.ringfile.proofs.Slices.{word-at, rest-is, after-space, part-len}
 
@@ -96,15 +96,18 @@ module _ (x t : List ℕ) (n k : ℕ) (q : n ≡ word-length x) (k1 : 1 ≤ k) w
       let u : x ≡ w ++ (32 ∷ (line (v ∷ ws) ++ t)) = e ∙ append-assoc w (further (v ∷ ws)) t in
       absurd (omega (arith, q, ap word-length u, word-at w (line (v ∷ ws) ++ t) (h .0), ap length u, length-append w (32 ∷ (line (v ∷ ws) ++ t))))
 
--- The name that the code cuts out.
-pub name-there : (x : List ℕ) (ns : List (List ℕ)) (vss : List (List Value)) (k s n : ℕ) → Rules ns vss → x ≡ file-bytes ns vss → k < length ns
+-- The part of the file in which the code finds the name, and the bytes that it cuts out.
+pub found-at : (x : List ℕ) (ns : List (List ℕ)) (vss : List (List Value)) (k s n : ℕ) → Rules ns vss → x ≡ file-bytes ns vss → k < length ns
     → s ≡ place-of ns k
-    → n ≡ word-end (take (length x - s) (drop s x)) → take (s + n - s) (drop s x) ≡ getD ns k []
-name-there x ns vss k s n r e l p q =
+    → n ≡ word-end (take (length x - s) (drop s x)) → NameAt x ns k s n
+found-at x ns vss k s n r e l p q =
     let d = at-place ns k (value-lines vss) (r .names .each) l in
     let f : drop s x ≡ drop (place-of ns k) (file-bytes ns vss) = ap₂ (λ j y. drop j y) p e in
     let m : n ≡ length (getD ns k []) = q ∙ ap word-end (rest-is s x ∙ f) ∙ d .size in
-    part-len s n x ∙ ap₂ (λ j y. take j y) m f ∙ d .is
+    record { starts = p; bytes = m; name = ap₂ (λ j y. take j y) m f ∙ d .is }
+
+pub name-there : (x : List ℕ) (ns : List (List ℕ)) (k s n : ℕ) → NameAt x ns k s n → take (s + n - s) (drop s x) ≡ getD ns k []
+name-there x ns k s n h = part-len s n x ∙ h .name
 
 pub end-inside : (x : List ℕ) (s n : ℕ) → s ≤ length x → n ≡ word-end (take (length x - s) (drop s x)) → s + n ≤ length x
 end-inside x s n h q = omega (arith, q, end-le (take (length x - s) (drop s x)), length-take (length x - s) (drop s x))

@@ -2,8 +2,8 @@
 use mathlib.Core.Path.{_≡_}
 use mathlib.Core.Bool.{Bool, true, false}
 use mathlib.Core.List.{List, [], _∷_, _++_, map}
-use Prim.Native.Nat.{ℕ, suc, _-_, _≤_, _<_}
-use lib.ListN.{length, take, getD}
+use Prim.Native.Nat.{ℕ, zero, suc, _+_, _-_, _≤_, _<_}
+use lib.ListN.{length, take, drop, getD}
 use Rattle.orders.specs.Lists.{All, Distinct, In, filter, range}
 use Rattle.calls.specs.declared.Refusal.the-variants.{RingFile}
 use Rattle.ringfile.specs.declared.Scanned.{Scanned}
@@ -66,6 +66,18 @@ file-bytes ns vss = line ns ++ value-lines vss
 pub record Rules (ns : List (List ℕ)) (vss : List (List Value)) : Type 0 where
   pub names : Names ns
   pub values : All (λ vs. length vs ≡ length ns) vss
+
+-- Where word number k, from 0, of a line starts.
+abbrev pub place-of : List (List ℕ) → ℕ → ℕ
+place-of [] k = 0
+place-of (w ∷ ws) zero = 0
+place-of (w ∷ ws) (suc k) = length w + 1 + place-of ws k
+
+-- Name number k, from 0, of the file x stands in s and the bytes after it, n of them.
+pub record NameAt (x : List ℕ) (ns : List (List ℕ)) (k s n : ℕ) : Type 0 where
+  pub starts : s ≡ place-of ns k
+  pub bytes : n ≡ length (getD ns k [])
+  pub name : take n (drop s x) ≡ getD ns k []
 
 -- The group of a line: the leaves with the value `1`, rising. A leaf's number is its place in the line, from 1.
 unfoldable pub leaves-on : List Value → List ℕ

@@ -2,7 +2,7 @@
 use mathlib.Core.Path.{_≡_}
 use mathlib.Core.Bool.{Bool, cond}
 use mathlib.Core.List.{List, [], _∷_, _++_}
-use Prim.Native.Nat.{ℕ, zero, suc, _+_, _-_}
+use Prim.Native.Nat.{ℕ, suc, _+_, _-_}
 use lib.Dec.{eqb}
 use lib.ListN.{length, take, getD}
 use Rattle.orders.specs.Lists.{All, some-of, filter, same, range}
@@ -25,12 +25,6 @@ Word w = All (λ b. b ≡ 32 → ⊥) w
 abbrev pub spaced : List (List ℕ) → List ℕ
 spaced [] = []
 spaced (w ∷ ws) = w ++ (32 ∷ spaced ws)
-
--- Where word number k, from 0, of a line starts.
-abbrev pub place-of : List (List ℕ) → ℕ → ℕ
-place-of [] k = 0
-place-of (w ∷ ws) zero = 0
-place-of (w ∷ ws) (suc k) = length w + 1 + place-of ws k
 
 -- The tests whether w is one of the words, and whether v begins with t.
 abbrev pub among : List (List ℕ) → List ℕ → Bool

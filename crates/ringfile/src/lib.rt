@@ -5,8 +5,8 @@ ghost use Prim.Native.Nat.{ℕ, _+_, _-_, _≤_, _<_};
 ghost use lib.ListN.{length, take, getD};
 ghost use Rattle.orders.specs.Lists.{All, Distinct, elem, same, filter};
 ghost use Rattle.tokens.specs.Tokens.{Wrote};
-ghost use Rattle.ringfile.specs.RingFile.{alphabet, Name, Value, off, in-group, line, file-bytes, leaves-on, Rules, Says};
-ghost use Rattle.ringfile.specs.Words.{word-length, word-end, Word, spaced, place-of, among, begins, leaves-after};
+ghost use Rattle.ringfile.specs.RingFile.{alphabet, Name, Value, off, in-group, line, file-bytes, place-of, NameAt, leaves-on, Rules, Says};
+ghost use Rattle.ringfile.specs.Words.{word-length, word-end, Word, spaced, among, begins, leaves-after};
 ghost use Rattle.ringfile.specs.Scanner.{room, is-new, naming, due, got, step, Naming};
 ghost use Rattle.ringfile.specs.Cursors.{Stands, Stepped, Advances, Within};
 use calls::Refusal;
@@ -19,6 +19,12 @@ pub enum Scanned {
         lines: usize,
     },
     Refused(Refusal),
+}
+
+// A part of a file: its first byte, and how many bytes it has.
+pub struct Part {
+    pub start: usize,
+    pub length: usize,
 }
 
 // Where the scanner stands. phase: 0 in the names line, 1 a value is due, 2 after a value, 3 refused. names: whole names.
@@ -323,17 +329,31 @@ fn place(x: &[u8], k: usize) -> usize
     n + 1 + place(&x[n + 1..], k - 1)
 }
 
+// Where name number k, from 0, of an accepted file stands. Of another file or number it is some part of the file.
+pub fn name_at(file: &[u8], k: usize) -> Part
+    ensures { λ r. ⌜ ((ns : List (List ℕ)) (vss : List (List Value)) → Rules ns vss → now (file .entry) ≡ file-bytes ns vss → k < length ns
+        → NameAt (now (file .entry)) ns k (r .start) (r .length)) ⌝ }
+    ensures { λ r. ⌜ r .start + r .length ≤ length (now (file .entry)) ⌝ }
+{
+    if 256 <= k {
+        return Part {
+            start: 0,
+            length: 0,
+        };
+    }
+    let start = place(file, k);
+    let length = word_end(&file[start..]);
+    Part { start, length }
+}
+
 // Name number k, from 0, of an accepted file: the part of the file that it fills. Of another file or number it is some part of the file.
 pub fn name_of(file: &[u8], k: usize) -> &[u8]
     ensures { λ r. ⌜ ((ns : List (List ℕ)) (vss : List (List Value)) → Rules ns vss → now (file .entry) ≡ file-bytes ns vss → k < length ns
         → now r ≡ getD ns k []) ⌝ }
 {
-    if 256 <= k {
-        return &file[0..0];
-    }
-    let start = place(file, k);
-    let n = word_end(&file[start..]);
-    let end = start + n;
+    let part = name_at(file, k);
+    let start = part.start;
+    let end = start + part.length;
     &file[start..end]
 }
 
