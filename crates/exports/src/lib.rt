@@ -1,0 +1,188 @@
+// The calls of document 01 for C and Rust. Each returns 0, or the number of its refusal, and writes one number through `value`: its own answer; or
+// the place or byte of the refusal, 0 where the table names none.
+ghost use mathlib.Core.Path.{_≡_};
+ghost use mathlib.Core.List.{List, []};
+ghost use Prim.Native.Nat.{ℕ, _+_, _≤_, _<_};
+ghost use lib.ListN.{length, take, getD};
+ghost use Rattle.orders.specs.Lists.{elem};
+ghost use Rattle.orders.specs.CircularOrder.{WellFormed};
+ghost use Rattle.orders.specs.Tree.{Forest};
+ghost use Rattle.orders.specs.Form.{StandardOrder};
+ghost use Rattle.calls.specs.Calls.{ring, filled-as, open-call, join-call, trial-call, order-call, aim-call, write-call, ReadCall, conflict-call};
+ghost use Rattle.calls.specs.Demands.{LentTree, LentRing, ImpossibleIff, Joins};
+ghost use Rattle.conflict.specs.Demand.{LentBook, Named};
+ghost use Rattle.tokens.specs.Tokens.{Wrote};
+ghost use Rattle.ringfile.specs.RingFile.{Value, line, file-bytes, NameAt, leaves-on, Rules, Says};
+ghost use Rattle.lent.specs.Rows.{node-rows};
+ghost use Rattle.ring.specs.Records.{Left};
+ghost use Rattle.exports.specs.Codes.{answer-of, Coded, scanned, ScanCoded};
+use calls::Answer;
+use lent::Node;
+use ringfile::Scanned;
+
+// The number of an answer; its value is written.
+fn code(answer: Answer, value: &mut usize) -> u8
+    ensures { λ r. ⌜ (answer-of r (now (value .exit)) ≡ answer) × Coded r (now (value .exit)) ⌝ }
+{
+    match answer {
+        Answer::Done(number) => {
+            *value = number;
+            0
+        }
+        Answer::Refused(refusal) => {
+            *value = calls::place(refusal);
+            calls::number(refusal)
+        }
+    }
+}
+
+// Opens a ring of n leaves: `ring::open`. The value is the count of groups, 0.
+#[no_mangle]
+pub extern "C" fn tokuwhape_open(n: usize, nodes: &mut [Node], book: &mut [u64], value: &mut usize) -> u8
+    ensures { λ r. ⌜ ((ring (answer-of r (now (value .exit))) (node-rows (now (nodes .exit))) (now (book .exit))
+        ≡ open-call n (length (now (nodes .entry))) (node-rows (now (nodes .entry))) (now (book .entry)))
+        × Left (answer-of r (now (value .exit))) (now (nodes .entry)) (now (nodes .exit)))
+        × Coded r (now (value .exit)) ⌝ }
+{
+    let answer = ring::open(n, nodes, book);
+    code(answer, value)
+}
+
+// Joins the list's group: `ring::join`. The value is the new count of groups.
+#[no_mangle]
+pub extern "C" fn tokuwhape_join(n: usize, nodes: &mut [Node], book: &mut [u64], count: usize, list: &[u16], value: &mut usize) -> u8
+    ensures { λ r. ⌜ ((ring (answer-of r (now (value .exit))) (node-rows (now (nodes .exit))) (now (book .exit))
+        ≡ join-call n (length (now (nodes .entry))) (node-rows (now (nodes .entry))) (now (book .entry)) count (now (list .entry)))
+        × ((t : Forest) → LentRing n (length (now (nodes .entry))) (node-rows (now (nodes .entry))) (now (book .entry)) count t
+        → WellFormed n (now (list .entry)) → Joins n (elem (now (list .entry))) t (answer-of r (now (value .exit))) (node-rows (now (nodes .exit))))
+        × Left (answer-of r (now (value .exit))) (now (nodes .entry)) (now (nodes .exit)))
+        × Coded r (now (value .exit)) ⌝ }
+{
+    let answer = ring::join(n, nodes, book, count, list);
+    code(answer, value)
+}
+
+// Answers as joining the list's group would, and changes nothing: `ring::trial`.
+#[no_mangle]
+pub extern "C" fn tokuwhape_trial(n: usize, nodes: &[Node], book: &[u64], count: usize, list: &[u16], value: &mut usize) -> u8
+    ensures { λ r. ⌜ ((answer-of r (now (value .exit))
+        ≡ trial-call n (length (now (nodes .entry))) (node-rows (now (nodes .entry))) (now (book .entry)) count (now (list .entry)))
+        × ((t : Forest) → LentRing n (length (now (nodes .entry))) (node-rows (now (nodes .entry))) (now (book .entry)) count t
+        → WellFormed n (now (list .entry)) → ImpossibleIff (elem (now (list .entry))) t (answer-of r (now (value .exit)))))
+        × Coded r (now (value .exit)) ⌝ }
+{
+    let answer = ring::trial(n, nodes, book, count, list);
+    code(answer, value)
+}
+
+// Writes the standard order to the first n places of order: `ring::order`. The value is n.
+#[no_mangle]
+pub extern "C" fn tokuwhape_order(n: usize, nodes: &[Node], order: &mut [u16], value: &mut usize) -> u8
+    ensures { λ r. ⌜ ((filled-as (answer-of r (now (value .exit))) (now (order .exit))
+        ≡ order-call n (length (now (nodes .entry))) (node-rows (now (nodes .entry))) (now (order .entry)))
+        × ((t : Forest) → LentTree n (length (now (nodes .entry))) (node-rows (now (nodes .entry))) t → n ≤ length (now (order .entry))
+        → StandardOrder t (take n (now (order .exit)))))
+        × Coded r (now (value .exit)) ⌝ }
+{
+    let answer = ring::order(n, nodes, order);
+    code(answer, value)
+}
+
+// The leaf at which the book's group with this number is aimed: `ring::aim`. The value is the leaf.
+#[no_mangle]
+pub extern "C" fn tokuwhape_aim(n: usize, nodes: &[Node], book: &[u64], count: usize, group: usize, value: &mut usize) -> u8
+    ensures { λ r. ⌜ (answer-of r (now (value .exit))
+        ≡ aim-call n (length (now (nodes .entry))) (node-rows (now (nodes .entry))) (now (book .entry)) count group)
+        × Coded r (now (value .exit)) ⌝ }
+{
+    let answer = ring::aim(n, nodes, book, count, group);
+    code(answer, value)
+}
+
+// Writes the tree text to the first 2,048 bytes, zeros after it: `ring::write`. The value is its length.
+#[no_mangle]
+pub extern "C" fn tokuwhape_write(n: usize, nodes: &[Node], bytes: &mut [u8], value: &mut usize) -> u8
+    ensures { λ r. ⌜ (filled-as (answer-of r (now (value .exit))) (now (bytes .exit))
+        ≡ write-call n (length (now (nodes .entry))) (node-rows (now (nodes .entry))) (now (bytes .entry)))
+        × Coded r (now (value .exit)) ⌝ }
+{
+    let answer = ring::write(n, nodes, bytes);
+    code(answer, value)
+}
+
+// Reads a tree text for n leaves: `ring::read`. The value is the count of groups, 0.
+#[no_mangle]
+pub extern "C" fn tokuwhape_read(n: usize, nodes: &mut [Node], book: &mut [u64], text: &[u8], value: &mut usize) -> u8
+    ensures { λ r. ⌜ (ReadCall n (length (now (nodes .entry))) (now (text .entry)) (node-rows (now (nodes .entry))) (now (book .entry))
+        (ring (answer-of r (now (value .exit))) (node-rows (now (nodes .exit))) (now (book .exit)))
+        × Left (answer-of r (now (value .exit))) (now (nodes .entry)) (now (nodes .exit)))
+        × Coded r (now (value .exit)) ⌝ }
+{
+    let answer = ring::read(n, nodes, book, text);
+    code(answer, value)
+}
+
+// Writes the numbers of the groups in conflict with the list's group to the first 96 places of conflicts: `ring::conflict`. The value is how many.
+#[no_mangle]
+pub extern "C" fn tokuwhape_conflict(n: usize, book: &[u64], count: usize, list: &[u16], conflicts: &mut [u16], value: &mut usize) -> u8
+    ensures { λ r. ⌜ ((filled-as (answer-of r (now (value .exit))) (now (conflicts .exit))
+        ≡ conflict-call n (now (book .entry)) count (now (list .entry)) (now (conflicts .entry)))
+        × (LentBook n (now (book .entry)) count (now (list .entry)) (now (conflicts .entry))
+        → Named n (now (book .entry)) count (now (list .entry)) (answer-of r (now (value .exit))) (now (conflicts .exit))))
+        × Coded r (now (value .exit)) ⌝ }
+{
+    let answer = ring::conflict(n, book, count, list, conflicts);
+    code(answer, value)
+}
+
+// Reads a ring file: `ring::scan`. The value is how many names it has; the names line's bytes and the count of value lines are written too.
+#[no_mangle]
+pub extern "C" fn tokuwhape_scan(file: &[u8], head: &mut usize, lines: &mut usize, value: &mut usize) -> u8
+    ensures { λ r. ⌜ Says (now (file .entry)) (scanned r (now (value .exit)) (now (head .exit)) (now (lines .exit)))
+        × ScanCoded r (now (value .exit)) (now (head .exit)) (now (lines .exit)) ⌝ }
+{
+    let found = ring::scan(file);
+    match found {
+        Scanned::Ring {
+            names,
+            head: bytes,
+            lines: groups,
+        } => {
+            *value = names;
+            *head = bytes;
+            *lines = groups;
+            0
+        }
+        Scanned::Refused(refusal) => {
+            *value = calls::place(refusal);
+            *head = 0;
+            *lines = 0;
+            calls::number(refusal)
+        }
+    }
+}
+
+// Where name number k, from 0, of an accepted file stands: returns how many bytes it has, and writes the first one's number. Of another file or
+// number it is some part of the file.
+#[no_mangle]
+pub extern "C" fn tokuwhape_name(file: &[u8], k: usize, start: &mut usize) -> usize
+    ensures { λ r. ⌜ ((ns : List (List ℕ)) (vss : List (List Value)) → Rules ns vss → now (file .entry) ≡ file-bytes ns vss → k < length ns
+        → NameAt (now (file .entry)) ns k (now (start .exit)) r) ⌝ }
+    ensures { λ r. ⌜ now (start .exit) + r ≤ length (now (file .entry)) ⌝ }
+{
+    let part = ring::name_at(file, k);
+    *start = part.start;
+    part.length
+}
+
+// Writes the group of value line l, from 0, of an accepted file with so many names and a names line of head bytes to the start of the list: its
+// leaves, rising. Returns how many.
+#[no_mangle]
+pub extern "C" fn tokuwhape_group(file: &[u8], names: usize, head: usize, l: usize, list: &mut [u16]) -> usize
+    ensures { λ r. ⌜ ((ns : List (List ℕ)) (vss : List (List Value)) → Rules ns vss → now (file .entry) ≡ file-bytes ns vss
+        → length (now (file .entry)) ≤ 65536 → names ≡ length ns → head ≡ length (line ns) → l < length vss
+        → length ns ≤ length (now (list .entry)) → Wrote (leaves-on (getD vss l [])) (now (list .entry)) (now (list .exit)) r) ⌝ }
+    ensures { λ r. ⌜ r ≤ 256 ⌝ }
+{
+    ring::group_of(file, names, head, l, list)
+}
