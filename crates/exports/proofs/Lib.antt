@@ -1,1 +1,3 @@
 pub mod Coding
+pub mod Says
+pub mod Steps
