@@ -1,3 +1,2 @@
 pub mod Coding
 pub mod Says
-pub mod Steps

@@ -1,8 +1,8 @@
-// The calls of document 01 for C and Rust. Each returns 0, or the number of its refusal, and writes one number through `value`: its own answer; or
-// the place or byte of the refusal, 0 where the table names none.
+// The calls of document 01 for C and Rust, on a node table of rows of 257 numbers, one row a record. Each returns 0, or the number of its refusal,
+// and writes one number through `value`: its own answer; or the place or byte of the refusal, 0 where the table names none.
 ghost use mathlib.Core.Path.{_≡_};
 ghost use mathlib.Core.List.{List, []};
-ghost use Prim.Native.Nat.{ℕ, _+_, _≤_, _<_};
+ghost use Prim.Native.Nat.{ℕ, _+_, _/_, _≤_, _<_};
 ghost use lib.ListN.{length, take, getD};
 ghost use Rattle.orders.specs.Lists.{elem};
 ghost use Rattle.orders.specs.CircularOrder.{WellFormed};
@@ -13,11 +13,8 @@ ghost use Rattle.calls.specs.Demands.{LentTree, LentRing, ImpossibleIff, Joins}
 ghost use Rattle.conflict.specs.Demand.{LentBook, Named};
 ghost use Rattle.tokens.specs.Tokens.{Wrote};
 ghost use Rattle.ringfile.specs.RingFile.{Value, line, file-bytes, NameAt, leaves-on, Rules, Says};
-ghost use Rattle.lent.specs.Rows.{node-rows};
-ghost use Rattle.ring.specs.Records.{Left};
 ghost use Rattle.exports.specs.Codes.{answer-of, Coded, scanned, ScanCoded};
 use calls::Answer;
-use lent::Node;
 use ringfile::Scanned;
 
 // The number of an answer; its value is written.
@@ -36,112 +33,173 @@ fn code(answer: Answer, value: &mut usize) -> u8
     }
 }
 
-// Opens a ring of n leaves: `ring::open`. The value is the count of groups, 0.
+// How many whole records the rows are.
+fn records(nodes: &[u16]) -> usize
+    ensures { λ r. ⌜ r ≡ length (now (nodes .entry)) / 257 ⌝ }
+{
+    nodes.len() / 257
+}
+
+// Opens a ring of n leaves: its node table gets the fresh tree, and its book is emptied. The value is the count of groups, 0.
 #[no_mangle]
-pub extern "C" fn tokuwhape_open(n: usize, nodes: &mut [Node], book: &mut [u64], value: &mut usize) -> u8
-    ensures { λ r. ⌜ ((ring (answer-of r (now (value .exit))) (node-rows (now (nodes .exit))) (now (book .exit))
-        ≡ open-call n (length (now (nodes .entry))) (node-rows (now (nodes .entry))) (now (book .entry)))
-        × Left (answer-of r (now (value .exit))) (now (nodes .entry)) (now (nodes .exit)))
+pub extern "C" fn tokuwhape_open(
+    n: usize,
+    nodes: &mut [u16],
+    book: &mut [u64],
+    value: &mut usize,
+) -> u8
+    ensures { λ r. ⌜ (ring (answer-of r (now (value .exit))) (now (nodes .exit)) (now (book .exit))
+        ≡ open-call n (length (now (nodes .entry)) / 257) (now (nodes .entry)) (now (book .entry)))
         × Coded r (now (value .exit)) ⌝ }
 {
-    let answer = ring::open(n, nodes, book);
+    let have = records(nodes);
+    let answer = planner::open(n, nodes, have, book);
     code(answer, value)
 }
 
-// Joins the list's group: `ring::join`. The value is the new count of groups.
+// Joins the list's group: the node table gets the new tree, and the group takes the book's next place. The value is the new count of groups.
 #[no_mangle]
-pub extern "C" fn tokuwhape_join(n: usize, nodes: &mut [Node], book: &mut [u64], count: usize, list: &[u16], value: &mut usize) -> u8
-    ensures { λ r. ⌜ ((ring (answer-of r (now (value .exit))) (node-rows (now (nodes .exit))) (now (book .exit))
-        ≡ join-call n (length (now (nodes .entry))) (node-rows (now (nodes .entry))) (now (book .entry)) count (now (list .entry)))
-        × ((t : Forest) → LentRing n (length (now (nodes .entry))) (node-rows (now (nodes .entry))) (now (book .entry)) count t
-        → WellFormed n (now (list .entry)) → Joins n (elem (now (list .entry))) t (answer-of r (now (value .exit))) (node-rows (now (nodes .exit))))
-        × Left (answer-of r (now (value .exit))) (now (nodes .entry)) (now (nodes .exit)))
+pub extern "C" fn tokuwhape_join(
+    n: usize,
+    nodes: &mut [u16],
+    book: &mut [u64],
+    count: usize,
+    list: &[u16],
+    value: &mut usize,
+) -> u8
+    ensures { λ r. ⌜ ((ring (answer-of r (now (value .exit))) (now (nodes .exit)) (now (book .exit))
+        ≡ join-call n (length (now (nodes .entry)) / 257) (now (nodes .entry)) (now (book .entry)) count (now (list .entry)))
+        × ((t : Forest) → LentRing n (length (now (nodes .entry)) / 257) (now (nodes .entry)) (now (book .entry)) count t
+        → WellFormed n (now (list .entry)) → Joins n (elem (now (list .entry))) t (answer-of r (now (value .exit))) (now (nodes .exit))))
         × Coded r (now (value .exit)) ⌝ }
 {
-    let answer = ring::join(n, nodes, book, count, list);
+    let have = records(nodes);
+    let answer = planner::join(n, nodes, have, book, count, list);
     code(answer, value)
 }
 
-// Answers as joining the list's group would, and changes nothing: `ring::trial`.
+// Answers as joining the list's group would, and changes nothing.
 #[no_mangle]
-pub extern "C" fn tokuwhape_trial(n: usize, nodes: &[Node], book: &[u64], count: usize, list: &[u16], value: &mut usize) -> u8
+pub extern "C" fn tokuwhape_trial(
+    n: usize,
+    nodes: &[u16],
+    book: &[u64],
+    count: usize,
+    list: &[u16],
+    value: &mut usize,
+) -> u8
     ensures { λ r. ⌜ ((answer-of r (now (value .exit))
-        ≡ trial-call n (length (now (nodes .entry))) (node-rows (now (nodes .entry))) (now (book .entry)) count (now (list .entry)))
-        × ((t : Forest) → LentRing n (length (now (nodes .entry))) (node-rows (now (nodes .entry))) (now (book .entry)) count t
+        ≡ trial-call n (length (now (nodes .entry)) / 257) (now (nodes .entry)) (now (book .entry)) count (now (list .entry)))
+        × ((t : Forest) → LentRing n (length (now (nodes .entry)) / 257) (now (nodes .entry)) (now (book .entry)) count t
         → WellFormed n (now (list .entry)) → ImpossibleIff (elem (now (list .entry))) t (answer-of r (now (value .exit)))))
         × Coded r (now (value .exit)) ⌝ }
 {
-    let answer = ring::trial(n, nodes, book, count, list);
+    let answer = planner::trial(n, nodes, records(nodes), book, count, list);
     code(answer, value)
 }
 
-// Writes the standard order to the first n places of order: `ring::order`. The value is n.
+// Writes the standard order to the first n places of order. The value is n.
 #[no_mangle]
-pub extern "C" fn tokuwhape_order(n: usize, nodes: &[Node], order: &mut [u16], value: &mut usize) -> u8
+pub extern "C" fn tokuwhape_order(
+    n: usize,
+    nodes: &[u16],
+    order: &mut [u16],
+    value: &mut usize,
+) -> u8
     ensures { λ r. ⌜ ((filled-as (answer-of r (now (value .exit))) (now (order .exit))
-        ≡ order-call n (length (now (nodes .entry))) (node-rows (now (nodes .entry))) (now (order .entry)))
-        × ((t : Forest) → LentTree n (length (now (nodes .entry))) (node-rows (now (nodes .entry))) t → n ≤ length (now (order .entry))
+        ≡ order-call n (length (now (nodes .entry)) / 257) (now (nodes .entry)) (now (order .entry)))
+        × ((t : Forest) → LentTree n (length (now (nodes .entry)) / 257) (now (nodes .entry)) t → n ≤ length (now (order .entry))
         → StandardOrder t (take n (now (order .exit)))))
         × Coded r (now (value .exit)) ⌝ }
 {
-    let answer = ring::order(n, nodes, order);
+    let answer = planner::order(n, nodes, records(nodes), order);
     code(answer, value)
 }
 
-// The leaf at which the book's group with this number is aimed: `ring::aim`. The value is the leaf.
+// Finds the leaf at which the book's group with this number is aimed (document 01's aim), in the standard order. The value is the leaf.
 #[no_mangle]
-pub extern "C" fn tokuwhape_aim(n: usize, nodes: &[Node], book: &[u64], count: usize, group: usize, value: &mut usize) -> u8
+pub extern "C" fn tokuwhape_aim(
+    n: usize,
+    nodes: &[u16],
+    book: &[u64],
+    count: usize,
+    group: usize,
+    value: &mut usize,
+) -> u8
     ensures { λ r. ⌜ (answer-of r (now (value .exit))
-        ≡ aim-call n (length (now (nodes .entry))) (node-rows (now (nodes .entry))) (now (book .entry)) count group)
+        ≡ aim-call n (length (now (nodes .entry)) / 257) (now (nodes .entry)) (now (book .entry)) count group)
         × Coded r (now (value .exit)) ⌝ }
 {
-    let answer = ring::aim(n, nodes, book, count, group);
+    let answer = aim::aim(n, nodes, records(nodes), book, count, group);
     code(answer, value)
 }
 
-// Writes the tree text to the first 2,048 bytes, zeros after it: `ring::write`. The value is its length.
+// Writes the tree text to the first 2,048 bytes, zeros after it. The value is its length.
 #[no_mangle]
-pub extern "C" fn tokuwhape_write(n: usize, nodes: &[Node], bytes: &mut [u8], value: &mut usize) -> u8
+pub extern "C" fn tokuwhape_write(
+    n: usize,
+    nodes: &[u16],
+    bytes: &mut [u8],
+    value: &mut usize,
+) -> u8
     ensures { λ r. ⌜ (filled-as (answer-of r (now (value .exit))) (now (bytes .exit))
-        ≡ write-call n (length (now (nodes .entry))) (node-rows (now (nodes .entry))) (now (bytes .entry)))
+        ≡ write-call n (length (now (nodes .entry)) / 257) (now (nodes .entry)) (now (bytes .entry)))
         × Coded r (now (value .exit)) ⌝ }
 {
-    let answer = ring::write(n, nodes, bytes);
+    let answer = text::write(n, nodes, records(nodes), bytes);
     code(answer, value)
 }
 
-// Reads a tree text for n leaves: `ring::read`. The value is the count of groups, 0.
+// Reads a tree text for n leaves, lent exactly: the node table gets its tree, and the book is emptied. The value is the count of groups, 0.
 #[no_mangle]
-pub extern "C" fn tokuwhape_read(n: usize, nodes: &mut [Node], book: &mut [u64], text: &[u8], value: &mut usize) -> u8
-    ensures { λ r. ⌜ (ReadCall n (length (now (nodes .entry))) (now (text .entry)) (node-rows (now (nodes .entry))) (now (book .entry))
-        (ring (answer-of r (now (value .exit))) (node-rows (now (nodes .exit))) (now (book .exit)))
-        × Left (answer-of r (now (value .exit))) (now (nodes .entry)) (now (nodes .exit)))
+pub extern "C" fn tokuwhape_read(
+    n: usize,
+    nodes: &mut [u16],
+    book: &mut [u64],
+    text: &[u8],
+    value: &mut usize,
+) -> u8
+    ensures { λ r. ⌜ ReadCall n (length (now (nodes .entry)) / 257) (now (text .entry)) (now (nodes .entry)) (now (book .entry))
+        (ring (answer-of r (now (value .exit))) (now (nodes .exit)) (now (book .exit)))
         × Coded r (now (value .exit)) ⌝ }
 {
-    let answer = ring::read(n, nodes, book, text);
+    let have = records(nodes);
+    let answer = text::read(n, nodes, have, book, text);
     code(answer, value)
 }
 
-// Writes the numbers of the groups in conflict with the list's group to the first 96 places of conflicts: `ring::conflict`. The value is how many.
+// Writes the numbers of the groups in conflict with the list's group to the first 96 places of conflicts, rising, and zeros up to 96 places. The value is how many.
 #[no_mangle]
-pub extern "C" fn tokuwhape_conflict(n: usize, book: &[u64], count: usize, list: &[u16], conflicts: &mut [u16], value: &mut usize) -> u8
+pub extern "C" fn tokuwhape_conflict(
+    n: usize,
+    book: &[u64],
+    count: usize,
+    list: &[u16],
+    conflicts: &mut [u16],
+    value: &mut usize,
+) -> u8
     ensures { λ r. ⌜ ((filled-as (answer-of r (now (value .exit))) (now (conflicts .exit))
         ≡ conflict-call n (now (book .entry)) count (now (list .entry)) (now (conflicts .entry)))
         × (LentBook n (now (book .entry)) count (now (list .entry)) (now (conflicts .entry))
         → Named n (now (book .entry)) count (now (list .entry)) (answer-of r (now (value .exit))) (now (conflicts .exit))))
         × Coded r (now (value .exit)) ⌝ }
 {
-    let answer = ring::conflict(n, book, count, list, conflicts);
+    let answer = conflict::conflict(n, book, count, list, conflicts);
     code(answer, value)
 }
 
-// Reads a ring file: `ring::scan`. The value is how many names it has; the names line's bytes and the count of value lines are written too.
+// Reads a ring file. The value is how many names it has; the names line's bytes and the count of value lines are written too.
 #[no_mangle]
-pub extern "C" fn tokuwhape_scan(file: &[u8], head: &mut usize, lines: &mut usize, value: &mut usize) -> u8
+pub extern "C" fn tokuwhape_scan(
+    file: &[u8],
+    head: &mut usize,
+    lines: &mut usize,
+    value: &mut usize,
+) -> u8
     ensures { λ r. ⌜ Says (now (file .entry)) (scanned r (now (value .exit)) (now (head .exit)) (now (lines .exit)))
         × ScanCoded r (now (value .exit)) (now (head .exit)) (now (lines .exit)) ⌝ }
 {
-    let found = ring::scan(file);
+    let found = ringfile::scan(file);
     match found {
         Scanned::Ring {
             names,
@@ -170,7 +228,7 @@ pub extern "C" fn tokuwhape_name(file: &[u8], k: usize, start: &mut usize) -> us
         → NameAt (now (file .entry)) ns k (now (start .exit)) r) ⌝ }
     ensures { λ r. ⌜ now (start .exit) + r ≤ length (now (file .entry)) ⌝ }
 {
-    let part = ring::name_at(file, k);
+    let part = ringfile::name_at(file, k);
     *start = part.start;
     part.length
 }
@@ -178,11 +236,17 @@ pub extern "C" fn tokuwhape_name(file: &[u8], k: usize, start: &mut usize) -> us
 // Writes the group of value line l, from 0, of an accepted file with so many names and a names line of head bytes to the start of the list: its
 // leaves, rising. Returns how many.
 #[no_mangle]
-pub extern "C" fn tokuwhape_group(file: &[u8], names: usize, head: usize, l: usize, list: &mut [u16]) -> usize
+pub extern "C" fn tokuwhape_group(
+    file: &[u8],
+    names: usize,
+    head: usize,
+    l: usize,
+    list: &mut [u16],
+) -> usize
     ensures { λ r. ⌜ ((ns : List (List ℕ)) (vss : List (List Value)) → Rules ns vss → now (file .entry) ≡ file-bytes ns vss
         → length (now (file .entry)) ≤ 65536 → names ≡ length ns → head ≡ length (line ns) → l < length vss
         → length ns ≤ length (now (list .entry)) → Wrote (leaves-on (getD vss l [])) (now (list .entry)) (now (list .exit)) r) ⌝ }
     ensures { λ r. ⌜ r ≤ 256 ⌝ }
 {
-    ring::group_of(file, names, head, l, list)
+    ringfile::group_of(file, names, head, l, list)
 }

@@ -5,7 +5,7 @@ use Rattle.exports.proofs.tokuwhape_scan.Reads as reads
 use Rattle.exports.proofs.tokuwhape_scan.Lts as lts
 use Rattle.calls.proofs.number.Reads as number-reads
 use Rattle.calls.proofs.place.Reads as place-reads
-use Rattle.ring.proofs.scan.Reads as scan-reads
+use Rattle.ringfile.proofs.scan.Reads as scan-reads
 use denote.Ref.{now}
 use Rattle.exports.proofs.Coding.{ring-coded, not-read-coded}
 
