@@ -1,2 +1,2 @@
--- What the exported calls answer, as numbers.
-pub mod Codes
+-- What the exported scan of a ring file answers, as numbers.
+pub mod Scan

@@ -13,25 +13,9 @@ ghost use Rattle.calls.specs.Demands.{LentTree, LentRing, ImpossibleIff, Joins}
 ghost use Rattle.conflict.specs.Demand.{LentBook, Named};
 ghost use Rattle.tokens.specs.Tokens.{Wrote};
 ghost use Rattle.ringfile.specs.RingFile.{Value, line, file-bytes, NameAt, leaves-on, Rules, Says};
-ghost use Rattle.exports.specs.Codes.{answer-of, Coded, scanned, ScanCoded};
-use calls::Answer;
+ghost use Rattle.calls.specs.Codes.{answer-of, Coded};
+ghost use Rattle.exports.specs.Scan.{scanned, ScanCoded};
 use ringfile::Scanned;
-
-// The number of an answer; its value is written.
-fn code(answer: Answer, value: &mut usize) -> u8
-    ensures { λ r. ⌜ (answer-of r (now (value .exit)) ≡ answer) × Coded r (now (value .exit)) ⌝ }
-{
-    match answer {
-        Answer::Done(number) => {
-            *value = number;
-            0
-        }
-        Answer::Refused(refusal) => {
-            *value = calls::place(refusal);
-            calls::number(refusal)
-        }
-    }
-}
 
 // How many whole records the rows are.
 fn records(nodes: &[u16]) -> usize
@@ -54,7 +38,7 @@ pub extern "C" fn tokuwhape_open(
 {
     let have = records(nodes);
     let answer = planner::open(n, nodes, have, book);
-    code(answer, value)
+    calls::code(answer, value)
 }
 
 // Joins the list's group: the node table gets the new tree, and the group takes the book's next place. The value is the new count of groups.
@@ -75,7 +59,7 @@ pub extern "C" fn tokuwhape_join(
 {
     let have = records(nodes);
     let answer = planner::join(n, nodes, have, book, count, list);
-    code(answer, value)
+    calls::code(answer, value)
 }
 
 // Answers as joining the list's group would, and changes nothing.
@@ -95,7 +79,7 @@ pub extern "C" fn tokuwhape_trial(
         × Coded r (now (value .exit)) ⌝ }
 {
     let answer = planner::trial(n, nodes, records(nodes), book, count, list);
-    code(answer, value)
+    calls::code(answer, value)
 }
 
 // Writes the standard order to the first n places of order. The value is n.
@@ -113,7 +97,7 @@ pub extern "C" fn tokuwhape_order(
         × Coded r (now (value .exit)) ⌝ }
 {
     let answer = planner::order(n, nodes, records(nodes), order);
-    code(answer, value)
+    calls::code(answer, value)
 }
 
 // Finds the leaf at which the book's group with this number is aimed (document 01's aim), in the standard order. The value is the leaf.
@@ -131,7 +115,7 @@ pub extern "C" fn tokuwhape_aim(
         × Coded r (now (value .exit)) ⌝ }
 {
     let answer = aim::aim(n, nodes, records(nodes), book, count, group);
-    code(answer, value)
+    calls::code(answer, value)
 }
 
 // Writes the tree text to the first 2,048 bytes, zeros after it. The value is its length.
@@ -147,7 +131,7 @@ pub extern "C" fn tokuwhape_write(
         × Coded r (now (value .exit)) ⌝ }
 {
     let answer = text::write(n, nodes, records(nodes), bytes);
-    code(answer, value)
+    calls::code(answer, value)
 }
 
 // Reads a tree text for n leaves, lent exactly: the node table gets its tree, and the book is emptied. The value is the count of groups, 0.
@@ -165,7 +149,7 @@ pub extern "C" fn tokuwhape_read(
 {
     let have = records(nodes);
     let answer = text::read(n, nodes, have, book, text);
-    code(answer, value)
+    calls::code(answer, value)
 }
 
 // Writes the numbers of the groups in conflict with the list's group to the first 96 places of conflicts, rising, and zeros up to 96 places. The value is how many.
@@ -185,7 +169,7 @@ pub extern "C" fn tokuwhape_conflict(
         × Coded r (now (value .exit)) ⌝ }
 {
     let answer = conflict::conflict(n, book, count, list, conflicts);
-    code(answer, value)
+    calls::code(answer, value)
 }
 
 // Reads a ring file. The value is how many names it has; the names line's bytes and the count of value lines are written too.
@@ -247,6 +231,7 @@ pub extern "C" fn tokuwhape_group(
         → length (now (file .entry)) ≤ 65536 → names ≡ length ns → head ≡ length (line ns) → l < length vss
         → length ns ≤ length (now (list .entry)) → Wrote (leaves-on (getD vss l [])) (now (list .entry)) (now (list .exit)) r) ⌝ }
     ensures { λ r. ⌜ r ≤ 256 ⌝ }
+    ensures { λ r. ⌜ (length (now (list .entry)) < names → (r ≡ 0) × (now (list .exit) ≡ now (list .entry))) ⌝ }
 {
     ringfile::group_of(file, names, head, l, list)
 }

@@ -5,7 +5,7 @@ use Rattle.exports.proofs.tokuwhape_aim.Tie as tie
 use Rattle.exports.proofs.tokuwhape_aim.Reads as reads
 use Rattle.exports.proofs.tokuwhape_aim.Lts as lts
 use Rattle.aim.proofs.aim.Reads as aim-reads
-use Rattle.exports.proofs.code.Reads as code-reads
+use Rattle.calls.proofs.code.Reads as code-reads
 use Rattle.exports.proofs.records.Reads as records-reads
 
 records-requires : tie.Need-records-requires

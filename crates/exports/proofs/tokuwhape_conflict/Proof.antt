@@ -6,7 +6,7 @@ use Rattle.exports.proofs.tokuwhape_conflict.Tie as tie
 use Rattle.exports.proofs.tokuwhape_conflict.Reads as reads
 use Rattle.exports.proofs.tokuwhape_conflict.Lts as lts
 use Rattle.conflict.proofs.conflict.Reads as conflict-reads
-use Rattle.exports.proofs.code.Reads as code-reads
+use Rattle.calls.proofs.code.Reads as code-reads
 
 conflict-requires : tie.Need-conflict-requires
 conflict-requires c κs = search needs

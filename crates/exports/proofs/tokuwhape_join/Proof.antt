@@ -4,7 +4,7 @@ use Rattle.exports.proofs.tokuwhape_join.Statement.{statement}
 use Rattle.exports.proofs.tokuwhape_join.Tie as tie
 use Rattle.exports.proofs.tokuwhape_join.Reads as reads
 use Rattle.exports.proofs.tokuwhape_join.Lts as lts
-use Rattle.exports.proofs.code.Reads as code-reads
+use Rattle.calls.proofs.code.Reads as code-reads
 use Rattle.exports.proofs.records.Reads as records-reads
 use Rattle.planner.proofs.join.Reads as join-reads
 

@@ -4,7 +4,7 @@ use Rattle.exports.proofs.tokuwhape_open.Statement.{statement}
 use Rattle.exports.proofs.tokuwhape_open.Tie as tie
 use Rattle.exports.proofs.tokuwhape_open.Reads as reads
 use Rattle.exports.proofs.tokuwhape_open.Lts as lts
-use Rattle.exports.proofs.code.Reads as code-reads
+use Rattle.calls.proofs.code.Reads as code-reads
 use Rattle.exports.proofs.records.Reads as records-reads
 use Rattle.planner.proofs.open.Reads as open-reads
 

@@ -4,7 +4,7 @@ use Rattle.exports.proofs.tokuwhape_order.Statement.{statement}
 use Rattle.exports.proofs.tokuwhape_order.Tie as tie
 use Rattle.exports.proofs.tokuwhape_order.Reads as reads
 use Rattle.exports.proofs.tokuwhape_order.Lts as lts
-use Rattle.exports.proofs.code.Reads as code-reads
+use Rattle.calls.proofs.code.Reads as code-reads
 use Rattle.exports.proofs.records.Reads as records-reads
 use Rattle.planner.proofs.order.Reads as order-reads
 

@@ -4,7 +4,7 @@ use Rattle.exports.proofs.tokuwhape_read.Statement.{statement}
 use Rattle.exports.proofs.tokuwhape_read.Tie as tie
 use Rattle.exports.proofs.tokuwhape_read.Reads as reads
 use Rattle.exports.proofs.tokuwhape_read.Lts as lts
-use Rattle.exports.proofs.code.Reads as code-reads
+use Rattle.calls.proofs.code.Reads as code-reads
 use Rattle.exports.proofs.records.Reads as records-reads
 use Rattle.text.proofs.read.Reads as read-reads
 

@@ -7,7 +7,7 @@ use Rattle.calls.proofs.number.Reads as number-reads
 use Rattle.calls.proofs.place.Reads as place-reads
 use Rattle.ringfile.proofs.scan.Reads as scan-reads
 use denote.Ref.{now}
-use Rattle.exports.proofs.Coding.{ring-coded, not-read-coded}
+use Rattle.exports.proofs.Coding.{ring-coded, refused-coded}
 
 scan-requires : tie.Need-scan-requires
 scan-requires c κs = search needs
@@ -28,7 +28,7 @@ returns : tie.Need-returns
 returns c = ring-coded (now (c .before .before .before .before .before .args .file)) (c .before .before .before .scan .result) (c .before .before .before .scan .ensures) (c .before .found .given .0 .0) (c .before .found .given .0 .1 .0) (c .before .found .given .0 .1 .1 .0) (c .before .found .given .1)
 
 returns-2 : tie.Need-returns-2
-returns-2 c = not-read-coded (now (c .before .before .before .before .before .before .before .args .file)) (c .before .before .before .before .before .scan .result) (c .before .before .before .before .before .scan .ensures) (c .number .result) (c .before .place .result) (c .before .before .before .found2 .given .0 .0) (c .before .before .before .found2 .given .1) (c .number .ensures) (c .before .place .ensures)
+returns-2 c = refused-coded (now (c .before .before .before .before .before .before .before .args .file)) (c .before .before .before .before .before .scan .result) (c .before .before .before .before .before .scan .ensures) (c .number .result) (c .before .place .result) (c .before .before .before .found2 .given .0 .0) (c .before .before .before .found2 .given .1) (c .number .ensures) (c .before .place .ensures)
 
 pub tokuwhape-scan-spec : {M : Type 1} → statement M
 tokuwhape-scan-spec =

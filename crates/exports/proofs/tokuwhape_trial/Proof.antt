@@ -4,7 +4,7 @@ use Rattle.exports.proofs.tokuwhape_trial.Statement.{statement}
 use Rattle.exports.proofs.tokuwhape_trial.Tie as tie
 use Rattle.exports.proofs.tokuwhape_trial.Reads as reads
 use Rattle.exports.proofs.tokuwhape_trial.Lts as lts
-use Rattle.exports.proofs.code.Reads as code-reads
+use Rattle.calls.proofs.code.Reads as code-reads
 use Rattle.exports.proofs.records.Reads as records-reads
 use Rattle.planner.proofs.trial.Reads as trial-reads
 

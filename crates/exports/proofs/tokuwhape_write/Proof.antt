@@ -4,7 +4,7 @@ use Rattle.exports.proofs.tokuwhape_write.Statement.{statement}
 use Rattle.exports.proofs.tokuwhape_write.Tie as tie
 use Rattle.exports.proofs.tokuwhape_write.Reads as reads
 use Rattle.exports.proofs.tokuwhape_write.Lts as lts
-use Rattle.exports.proofs.code.Reads as code-reads
+use Rattle.calls.proofs.code.Reads as code-reads
 use Rattle.exports.proofs.records.Reads as records-reads
 use Rattle.text.proofs.write.Reads as write-reads
 

@@ -1,6 +1,6 @@
 #!/usr/bin/env python3
-# Writes crates/exports/proofs/tokuwhape_NAME/Proof.antt of the exported calls over a slice of node records. Run at the repository's root:
-#     python3 tools/exported.py [NAME..]
+# Writes crates/ring_exports/proofs/ring_NAME/Proof.antt of the exported calls over a slice of node records. Run at the repository's root:
+#     python3 tools/ring_exports.py [NAME..]
 # Each is   { let answer = ring::NAME(.., nodes, ..); code(answer, value) }   with `value: &mut usize` last, and numbers, `&[T]` and `&mut [T]`
 # before it, in the sequence in which `ring::NAME` takes them. The proof walks the function's MIR; its two calls are the steps of proofs/Steps.antt.
 import os
@@ -145,7 +145,7 @@ class Param:
 class Walk:
     def __init__(self, call):
         kinds, self.says = CALLS[call]
-        self.call, self.name, self.dashed = call, "tokuwhape_" + call, "tokuwhape-" + call
+        self.call, self.name, self.dashed = call, "ring_" + call, "ring-" + call
         self.params = []
         for x, kind in kinds:
             self.params.append(Param(len(self.params), sum(p.lent for p in self.params), x, kind))
@@ -166,9 +166,9 @@ class Walk:
     def last(self, r, p):
         return at(f"{r} .1", self.muts.index(p))
 
-    def ensured(self, answer, last):
+    def ensured(self, last):
         before = " ".join(p.now for p in self.params)
-        return f"{self.says} {before}" + "".join(f" ({last(p)})" for p in self.muts) + f" {answer}"
+        return f"{self.says} {before}" + "".join(f" ({last(p)})" for p in self.muts)
 
     def had(self):
         text = "ftrue"
@@ -192,7 +192,7 @@ class Walk:
 
     def said(self):
         ws = product(p.list if p.mut else "Unit {0}" for p in self.params)
-        says = self.ensured("r", lambda p: at("ws", p.i))
+        says = self.ensured(lambda p: at("ws", p.i)) + " r"
         c = Context(["lasts", "rest"])
         for p in self.params:
             c.split("fsplit", "lasts", "one", "lasts")
@@ -293,7 +293,7 @@ class Walk:
         exits = nest([self.last("x", p) if p.mut else "tt" for p in self.params] + ["v′"])
         fits = nest([at("h .1", self.muts.index(p)) if p.mut else "tt" for p in self.params] + ["tt"])
         fact = "h .1" + " .1" * len(self.muts)
-        law = f"(subst (λ (y : Answer). {self.ensured('y', lambda p: self.last('x', p))}) (sym (coded .0)) ({fact}), coded .1)"
+        law = f"(subst ({self.ensured(lambda p: self.last('x', p))}) (sym (coded .0)) ({fact}), coded .1)"
         yield f"suffices ! _ (ends-at 𝓤 H A this.ended stayed (this.clauses 𝓤 H A mem run) W {self.bound} w r {exits} {fits}) $ says ! {law} $"
         for p in self.lent:
             c.split("fsplit", "left", "t-" + p.name, "left")
@@ -317,7 +317,7 @@ class Walk:
 
     def proof(self):
         name, κs, qs, args, vals = self.name, *self.own
-        yield f"-- `exports::{name}` meets its contract: a walk of its MIR, by hand, whose two calls are steps of proofs/Steps.antt. Written by tools/exported.py."
+        yield f"-- `ring_exports::{name}` meets its contract: a walk of its MIR, by hand, whose two calls are steps of proofs/Steps.antt. Written by tools/ring_exports.py."
         yield "-- Assumes nothing."
         yield HEAD.format(says=self.says, call=self.call, name=name, types=", ".join(sorted({p.row for p in self.params if p.row != "T.the-row"} | {"u8", "usize"})))
         yield "-- what the function still has of each parameter at exit: a `&mut` is given for good"
@@ -336,7 +336,7 @@ class Walk:
         yield f"  abbrev Rest : {self.R} → Fml\n  Rest r = {self.left()}\n"
         lengths = "".join(f"(length ({self.last('r', p)}) ≡ length {p.name}) × (" for p in self.muts)
         yield f"  abbrev Said : {self.R} → Val → Type 0"
-        yield f"  Said r w = Is Answer·.the-row (r .0) (w ∷ []) × ({lengths}{self.ensured('(r .0)', lambda p: self.last('r', p))})" + ")" * len(self.muts) + "\n"
+        yield f"  Said r w = Is Answer·.the-row (r .0) (w ∷ []) × ({lengths}{self.ensured(lambda p: self.last('r', p))} (r .0))" + ")" * len(self.muts) + "\n"
         yield from self.said()
         yield f"\n  abbrev Post : Val → SProp 𝓤\n  Post = walkOf 𝓤 H A this.ended stayed (this.clauses 𝓤 H A mem run) .post {self.bound}\n"
         yield "  module _ (C : Calls 𝓤 H) (Λ : Loops 𝓤 H) (fm : FmC 𝓤 H (W .laws) C) (known-call : Triple 𝓤 (C call-def.name) (Call 𝓤 H A mem run)) (known-code : Triple 𝓤 (C code-def.name) (Code 𝓤 H A mem run)) where"
@@ -394,17 +394,17 @@ use Rattle.lent.proofs.Caps.{{asks-nothing}}
 use Rattle.calls.specs.declared.Answer.{{Answer}}
 use Rattle.calls.proofs.Answer as Answer·
 use Rattle.calls.proofs.Answer.Laws as Answer′
-use Rattle.exports.proofs.Says.{{{says}}}
-use Rattle.exports.proofs.Steps.{{Code, number, answers, codes}}
-use Rattle.exports.proofs.code.Symbol as code-def
-use Rattle.exports.proofs.code.Met as code-thm
+use Rattle.ring_exports.proofs.Says.{{{says}}}
+use Rattle.ring_exports.proofs.Steps.{{Code, number, answers, codes}}
+use Rattle.calls.proofs.code.Symbol as code-def
+use Rattle.calls.proofs.code.Met as code-thm
 use Rattle.ring.proofs.{call} as call
 use Rattle.ring.proofs.{call}.Symbol as call-def
 use Rattle.ring.proofs.{call}.Met as call-thm
-use Rattle.exports.proofs.{name}.Key as key′
-use Rattle.exports.proofs.{name} as this
-use Rattle.exports.proofs.{name}.Statement as stated
-use Rattle.exports.proofs.{name}.Code as code
+use Rattle.ring_exports.proofs.{name}.Key as key′
+use Rattle.ring_exports.proofs.{name} as this
+use Rattle.ring_exports.proofs.{name}.Statement as stated
+use Rattle.ring_exports.proofs.{name}.Code as code
 """
 
 TAIL = """{dashed}-meets : {{M : Type 1}} (𝓤 : URA M) (H : Heap 𝓤) (A : Atoms 𝓤) (W : Given 𝓤 H A) (mem : Memory → SProp 𝓤) (run : Routine → Fun 𝓤) (𝓣 : Tables 𝓤 H) → Triple 𝓤 (𝓣 .C call-def.name) (Call 𝓤 H A mem run) → Triple 𝓤 (𝓣 .C code-def.name) (Code 𝓤 H A mem run)
@@ -421,11 +421,11 @@ unfolding code.routine tablesOf
     (tables 𝓤 H 𝓜 𝓡 code.env .C) (tables 𝓤 H 𝓜 𝓡 code.env .Λ) key′.name code.function (code.unfolded 𝓤 H 𝓜 𝓡)
     ({dashed}-meets 𝓤 H (𝓖 .A) (givenOf 𝓤 H 𝓜 𝓖) (𝓜 .mem) (𝓡 .run) (tablesOf 𝓤 H 𝓜 (tables 𝓤 H 𝓜 𝓡 code.env))
     (cited 𝓤 H (Call 𝓤 H (𝓖 .A) (𝓜 .mem) (𝓡 .run)) 𝓜 𝓡 code.env call-def.name call-def.routine code.calls-ring·{call} (call-thm.met 𝓤 H 𝓜 𝓖 𝓡))
-    (cited 𝓤 H (Code 𝓤 H (𝓖 .A) (𝓜 .mem) (𝓡 .run)) 𝓜 𝓡 code.env code-def.name code-def.routine code.calls-exports·code (code-thm.met 𝓤 H 𝓜 𝓖 𝓡)))"""
+    (cited 𝓤 H (Code 𝓤 H (𝓖 .A) (𝓜 .mem) (𝓡 .run)) 𝓜 𝓡 code.env code-def.name code-def.routine code.calls-calls·code (code-thm.met 𝓤 H 𝓜 𝓖 𝓡)))"""
 
 if __name__ == "__main__":
     for call in sys.argv[1:] or CALLS:
-        folder = f"crates/exports/proofs/tokuwhape_{call}"
+        folder = f"crates/ring_exports/proofs/ring_{call}"
         os.makedirs(folder, exist_ok=True)
         with open(f"{folder}/Proof.antt", "w") as out:
             out.write("\n".join(Walk(call).proof()) + "\n")

@@ -1,0 +1,3 @@
+-- What the walks of the exported calls share.
+pub mod Says
+pub mod Steps

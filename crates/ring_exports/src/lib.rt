@@ -1,0 +1,143 @@
+// The calls of crate `ring` on node records, for tests from C and Rust. Each returns 0, or the number of its refusal, and writes one number through
+// `value`: its own answer; or the place or byte of the refusal, 0 where the table names none.
+ghost use mathlib.Core.Path.{_≡_};
+ghost use Prim.Native.Nat.{_≤_};
+ghost use lib.ListN.{length, take};
+ghost use Rattle.orders.specs.Lists.{elem};
+ghost use Rattle.orders.specs.CircularOrder.{WellFormed};
+ghost use Rattle.orders.specs.Tree.{Forest};
+ghost use Rattle.orders.specs.Form.{StandardOrder};
+ghost use Rattle.calls.specs.Calls.{ring, filled-as, open-call, join-call, trial-call, order-call, aim-call, write-call, ReadCall};
+ghost use Rattle.calls.specs.Codes.{answer-of, Coded};
+ghost use Rattle.calls.specs.Demands.{LentTree, LentRing, ImpossibleIff, Joins};
+ghost use Rattle.lent.specs.Rows.{node-rows};
+ghost use Rattle.ring.specs.Records.{Left};
+use lent::Node;
+
+// Opens a ring of n leaves: `ring::open`. The value is the count of groups, 0.
+#[no_mangle]
+pub extern "C" fn ring_open(
+    n: usize,
+    nodes: &mut [Node],
+    book: &mut [u64],
+    value: &mut usize,
+) -> u8
+    ensures { λ r. ⌜ ((ring (answer-of r (now (value .exit))) (node-rows (now (nodes .exit))) (now (book .exit))
+        ≡ open-call n (length (now (nodes .entry))) (node-rows (now (nodes .entry))) (now (book .entry)))
+        × Left (answer-of r (now (value .exit))) (now (nodes .entry)) (now (nodes .exit)))
+        × Coded r (now (value .exit)) ⌝ }
+{
+    let answer = ring::open(n, nodes, book);
+    calls::code(answer, value)
+}
+
+// Joins the list's group: `ring::join`. The value is the new count of groups.
+#[no_mangle]
+pub extern "C" fn ring_join(
+    n: usize,
+    nodes: &mut [Node],
+    book: &mut [u64],
+    count: usize,
+    list: &[u16],
+    value: &mut usize,
+) -> u8
+    ensures { λ r. ⌜ ((ring (answer-of r (now (value .exit))) (node-rows (now (nodes .exit))) (now (book .exit))
+        ≡ join-call n (length (now (nodes .entry))) (node-rows (now (nodes .entry))) (now (book .entry)) count (now (list .entry)))
+        × ((t : Forest) → LentRing n (length (now (nodes .entry))) (node-rows (now (nodes .entry))) (now (book .entry)) count t
+        → WellFormed n (now (list .entry)) → Joins n (elem (now (list .entry))) t (answer-of r (now (value .exit))) (node-rows (now (nodes .exit))))
+        × Left (answer-of r (now (value .exit))) (now (nodes .entry)) (now (nodes .exit)))
+        × Coded r (now (value .exit)) ⌝ }
+{
+    let answer = ring::join(n, nodes, book, count, list);
+    calls::code(answer, value)
+}
+
+// Answers as joining the list's group would, and changes nothing: `ring::trial`.
+#[no_mangle]
+pub extern "C" fn ring_trial(
+    n: usize,
+    nodes: &[Node],
+    book: &[u64],
+    count: usize,
+    list: &[u16],
+    value: &mut usize,
+) -> u8
+    ensures { λ r. ⌜ ((answer-of r (now (value .exit))
+        ≡ trial-call n (length (now (nodes .entry))) (node-rows (now (nodes .entry))) (now (book .entry)) count (now (list .entry)))
+        × ((t : Forest) → LentRing n (length (now (nodes .entry))) (node-rows (now (nodes .entry))) (now (book .entry)) count t
+        → WellFormed n (now (list .entry)) → ImpossibleIff (elem (now (list .entry))) t (answer-of r (now (value .exit)))))
+        × Coded r (now (value .exit)) ⌝ }
+{
+    let answer = ring::trial(n, nodes, book, count, list);
+    calls::code(answer, value)
+}
+
+// Writes the standard order to the first n places of order: `ring::order`. The value is n.
+#[no_mangle]
+pub extern "C" fn ring_order(
+    n: usize,
+    nodes: &[Node],
+    order: &mut [u16],
+    value: &mut usize,
+) -> u8
+    ensures { λ r. ⌜ ((filled-as (answer-of r (now (value .exit))) (now (order .exit))
+        ≡ order-call n (length (now (nodes .entry))) (node-rows (now (nodes .entry))) (now (order .entry)))
+        × ((t : Forest) → LentTree n (length (now (nodes .entry))) (node-rows (now (nodes .entry))) t → n ≤ length (now (order .entry))
+        → StandardOrder t (take n (now (order .exit)))))
+        × Coded r (now (value .exit)) ⌝ }
+{
+    let answer = ring::order(n, nodes, order);
+    calls::code(answer, value)
+}
+
+// The leaf at which the book's group with this number is aimed: `ring::aim`. The value is the leaf.
+#[no_mangle]
+pub extern "C" fn ring_aim(
+    n: usize,
+    nodes: &[Node],
+    book: &[u64],
+    count: usize,
+    group: usize,
+    value: &mut usize,
+) -> u8
+    ensures { λ r. ⌜ (answer-of r (now (value .exit))
+        ≡ aim-call n (length (now (nodes .entry))) (node-rows (now (nodes .entry))) (now (book .entry)) count group)
+        × Coded r (now (value .exit)) ⌝ }
+{
+    let answer = ring::aim(n, nodes, book, count, group);
+    calls::code(answer, value)
+}
+
+// Writes the tree text to the first 2,048 bytes, zeros after it: `ring::write`. The value is its length.
+#[no_mangle]
+pub extern "C" fn ring_write(
+    n: usize,
+    nodes: &[Node],
+    bytes: &mut [u8],
+    value: &mut usize,
+) -> u8
+    ensures { λ r. ⌜ (filled-as (answer-of r (now (value .exit))) (now (bytes .exit))
+        ≡ write-call n (length (now (nodes .entry))) (node-rows (now (nodes .entry))) (now (bytes .entry)))
+        × Coded r (now (value .exit)) ⌝ }
+{
+    let answer = ring::write(n, nodes, bytes);
+    calls::code(answer, value)
+}
+
+// Reads a tree text for n leaves: `ring::read`. The value is the count of groups, 0.
+#[no_mangle]
+pub extern "C" fn ring_read(
+    n: usize,
+    nodes: &mut [Node],
+    book: &mut [u64],
+    text: &[u8],
+    value: &mut usize,
+) -> u8
+    ensures { λ r. ⌜ (ReadCall n (length (now (nodes .entry))) (now (text .entry)) (node-rows (now (nodes .entry))) (now (book .entry))
+        (ring (answer-of r (now (value .exit))) (node-rows (now (nodes .exit))) (now (book .exit)))
+        × Left (answer-of r (now (value .exit))) (now (nodes .entry)) (now (nodes .exit)))
+        × Coded r (now (value .exit)) ⌝ }
+{
+    let answer = ring::read(n, nodes, book, text);
+    calls::code(answer, value)
+}
