@@ -4,3 +4,4 @@ pub mod Counts
 pub mod Sequences
 pub mod Writes
 pub mod FreshTree
+pub mod Bits

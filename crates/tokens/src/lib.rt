@@ -197,14 +197,13 @@ pub fn equal(a: &[u16], b: &[u16]) -> bool
     if a.len() != b.len() {
         return false;
     }
+    let mut differ = 0;
     let mut i = 0;
     while i < a.len() {
-        if a[i] != b[i] {
-            return false;
-        }
+        differ = differ | (a[i] ^ b[i]);
         i += 1;
     }
-    true
+    differ == 0
 }
 
 // Writes the leaves 2, 3, .. as items, k of them.
