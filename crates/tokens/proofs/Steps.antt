@@ -1,15 +1,16 @@
 -- Going along tokens: from the sequence at one index to what follows its first item, or its first token.
 use mathlib.Core.Path.{_≡_, refl, sym, ap, subst, _∙_}
-use mathlib.Core.List.{List, [], _∷_}
+use mathlib.Core.List.{List, [], _∷_, _++_, append-assoc}
 use Prim.Native.Nat.{ℕ, suc, _+_, _-_, _/_, _%_, _≤_, _<_}
 use native.Mathlib.Omega.{arith}
 use lib.ListN.{length, take, drop, getD, length-drop, drop-of-length-le}
 use lib.Seq.{drop-drop, drop-cons, drop-append-seam}
+use Rattle.orders.specs.Tree.{Forest, nil, leaf, node, append, frontier}
 use Rattle.orders.specs.Form.{first}
 use Rattle.tokens.specs.Tokens.{Judged, j-nil, j-leaf, j-node, tree, j-append, encode, Tokens}
 use Rattle.tokens.specs.Views.{first-of, items-of, rest-of}
 use Rattle.tokens.proofs.Laws.{at-end, leaf-even, leaf-number, node-odd, node-size, encode-split, sizes, whole}
-use Rattle.tokens.proofs.Sequences.{encode-append}
+use Rattle.tokens.proofs.Sequences.{encode-append, tree-append}
 
 -- At index i of the tokens of any sequence j stand those of a sequence k, and the two are as Q says.
 pub record Left (l : List ℕ) (i : ℕ) (Q : Judged → Judged → Type 0) : Type 0 where
@@ -113,3 +114,27 @@ first-none-at {k = k} p h z = none-is k (p .some) (rw (← p .head) at h) (rw (�
 
 pub first-inside-at : {l : List ℕ} {i : ℕ} {k : Judged} → Here l i k → (getD l i 0 / 8 % 2 ≡ 0 → ⊥) → (getD l i 0 / 32 ≡ 0 → ⊥) → first (tree k) ≡ first (tree (opened k))
 first-inside-at {k = k} p h z = inside-is k (p .some) (rw (← p .head) at h) (rw (← p .head) at z)
+
+-- The leaves, by the first token.
+frontier-append : (f g : Forest) → frontier (append f g) ≡ frontier f ++ frontier g
+frontier-append nil g = refl
+frontier-append (leaf b f) g = ap (λ (l : List ℕ). b ∷ l) (frontier-append f g)
+frontier-append (node k i f) g = ap (λ (l : List ℕ). frontier i ++ l) (frontier-append f g) ∙ sym (append-assoc (frontier i) (frontier f) (frontier g))
+
+leaves-leaf : (k : Judged) → 0 < length (encode k) → getD (encode k) 0 0 / 8 % 2 ≡ 0 → frontier (tree k) ≡ getD (encode k) 0 0 / 16 ∷ frontier (tree (opened k))
+unfolding encode items-of rest-of
+leaves-leaf j-nil ne h = absurd (omega arith)
+leaves-leaf (j-leaf s b k) ne h = rw (leaf-number s b)
+leaves-leaf (j-node s d i k) ne h = absurd (omega (arith, node-odd s d (length (encode i))))
+
+leaves-node : (k : Judged) → 0 < length (encode k) → (getD (encode k) 0 0 / 8 % 2 ≡ 0 → ⊥) → frontier (tree k) ≡ frontier (tree (opened k))
+unfolding encode items-of rest-of
+leaves-node j-nil ne h = absurd (omega arith)
+leaves-node (j-leaf s b k) ne h = absurd (h (leaf-even s b))
+leaves-node (j-node s d i k) ne h = rw (tree-append i k) (sym (frontier-append (tree i) (tree k)))
+
+pub frontier-leaf-at : {l : List ℕ} {i : ℕ} {k : Judged} → Here l i k → getD l i 0 / 8 % 2 ≡ 0 → frontier (tree k) ≡ getD l i 0 / 16 ∷ frontier (tree (opened k))
+frontier-leaf-at {k = k} p h = rw (← p .head) (leaves-leaf k (p .some) (rw (← p .head) at h))
+
+pub frontier-node-at : {l : List ℕ} {i : ℕ} {k : Judged} → Here l i k → (getD l i 0 / 8 % 2 ≡ 0 → ⊥) → frontier (tree k) ≡ frontier (tree (opened k))
+frontier-node-at {k = k} p h = leaves-node k (p .some) (rw (← p .head) at h)
