@@ -1,8 +1,8 @@
 -- Leaves that are new one after the other, and the words that hold their marks.
 use mathlib.Core.Path.{_≡_, refl, sym, ap, _∙_}
 use mathlib.Core.Logic.{_↔_, Iff·trans, _≢_, _⊎_, inl, inr}
-use mathlib.Core.Bool.{Bool, true, false, not, _&&_, _||_, true≢false, and-assoc}
-use mathlib.Core.List.{List, [], _∷_, _++_}
+use mathlib.Core.Bool.{Bool, true, false, not, _&&_, _||_, true≢false}
+use mathlib.Core.List.{List, [], _∷_}
 use Prim.Native.Nat.{ℕ, zero, suc, _-_, _*_, _≤_, _<_}
 use native.Mathlib.Omega.{arith}
 use borrow.Author.Tests.{ne-eqb, eqb-false, le-leb, lt-leb, leb-true, not-true}
@@ -53,39 +53,43 @@ words-none = words-are (0 ∷ (0 ∷ (0 ∷ (0 ∷ [])))) no-leaf (λ i l. zeros
     zeros (suc (suc (suc zero))) = refl
     zeros (suc (suc (suc (suc i)))) = refl
 
--- ---- one list after another
+-- ---- one leaf after another
 
-new-append : (n : ℕ) (G : Restriction) (l m : List ℕ) → new-leaves? n G (l ++ m) ≡ (new-leaves? n G l && new-leaves? n (with-leaves G l) m)
+-- Whether the leaves of l are new to the group G is whether those of m are to the group that the words hold, which has the leaves before them besides.
+pub record Going (n : ℕ) (G : Restriction) (l ws m : List ℕ) : Type 0 where
+  pub group : Restriction
+  pub words : ws ≡ words-of 4 group
+  pub answer : new-leaves? n G l ≡ new-leaves? n group m
+  pub marks : with-leaves G l ≡ with-leaves group m
+
+pub going-start : (n : ℕ) (G : Restriction) (l : List ℕ) {ws : List ℕ} → ws ≡ words-of 4 G → Going n G l ws l
+going-start n G l e = record { group = G; words = e; answer = refl; marks = refl }
+
+-- A new leaf is marked; with no leaf nothing changes.
+pub going-leaf : {n : ℕ} {G : Restriction} {l ws vs m m' : List ℕ} (b : ℕ) (g : Going n G l ws m') → m' ≡ b ∷ m → true ≡ new-leaf? n (g .group) b
+    → vs ≡ words-of (length ws) (with-leaf b (marked ws)) → Going n G l vs m
 unfolding new-leaves? with-leaves
-new-append n G [] m = refl
-new-append n G (b ∷ l) m = ap (λ (t : Bool). new-leaf? n G b && t) (new-append n (with-leaf b G) l m) ∙ sym (and-assoc (new-leaf? n G b) _ _)
+going-leaf b g h e w = record {
+  group = with-leaf b (g .group);
+  words = w ∙ leaf-marks (g .group) b (g .words);
+  answer = g .answer ∙ rw (h, ← e);
+  marks = g .marks ∙ rw h;
+}
 
-with-append : (G : Restriction) (l m : List ℕ) → with-leaves G (l ++ m) ≡ with-leaves (with-leaves G l) m
-unfolding with-leaves
-with-append G [] m = refl
-with-append G (b ∷ l) m = with-append (with-leaf b G) l m
+pub going-same : {n : ℕ} {G : Restriction} {l ws vs m m' : List ℕ} → Going n G l ws m' → m' ≡ m → vs ≡ ws → Going n G l vs m
+going-same g h w = record { group = g .group; words = w ∙ g .words; answer = g .answer ∙ rw h; marks = g .marks ∙ rw h }
+
+-- What is said of the leaves that are left.
+pub going-marked : {n : ℕ} {G : Restriction} {l ws vs m : List ℕ} {r : Bool} (g : Going n G l ws m) → Marked n (g .group) m vs r → Marked n G l vs r
+going-marked g h = record { answer = h .answer ∙ sym (g .answer); marks = λ t. h .marks t ∙ ap (words-of 4) (sym (g .marks)) }
 
 pub marked-none : (n : ℕ) (G : Restriction) {ws : List ℕ} → ws ≡ words-of 4 G → Marked n G [] ws true
 unfolding new-leaves? with-leaves
 marked-none n G e = record { answer = refl; marks = λ t. e }
 
--- A leaf that is not new, or that is; a list that is not, or that is.
 pub marked-old : (n : ℕ) (G : Restriction) (b : ℕ) (l ws : List ℕ) → false ≡ new-leaf? n G b → Marked n G (b ∷ l) ws false
 unfolding new-leaves?
 marked-old n G b l ws e = record { answer = rw (← e); marks = λ t. absurd (true≢false (sym t)) }
-
-pub marked-leaf : (n : ℕ) (G : Restriction) (b : ℕ) {l ws : List ℕ} {r : Bool} → true ≡ new-leaf? n G b → Marked n (with-leaf b G) l ws r → Marked n G (b ∷ l) ws r
-unfolding new-leaves? with-leaves
-marked-leaf n G b e m = record { answer = rw (← e) (m .answer); marks = m .marks }
-
-pub marked-stop : (n : ℕ) (G : Restriction) (l m ws : List ℕ) {vs : List ℕ} {r : Bool} → Marked n G l vs r → r ≡ false → Marked n G (l ++ m) ws false
-marked-stop n G l m ws h e = record { answer = rw (new-append n G l m, ← h .answer, e); marks = λ t. absurd (true≢false (sym t)) }
-
-pub marked-then : (n : ℕ) (G : Restriction) (l m : List ℕ) {ws vs : List ℕ} {r t : Bool} → Marked n G l vs t → t ≡ true → Marked n (with-leaves G l) m ws r → Marked n G (l ++ m) ws r
-marked-then n G l m h e k = record {
-  answer = rw (new-append n G l m, ← h .answer, e) (k .answer);
-  marks = λ t. rw (with-append G l m) (k .marks t);
-}
 
 -- ---- all leaves
 

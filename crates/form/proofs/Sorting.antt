@@ -1,15 +1,17 @@
 -- The test of the published form, item by item.
-use mathlib.Core.Path.{_≡_, refl}
-use mathlib.Core.Bool.{true, false, _&&_}
+use mathlib.Core.Path.{_≡_, refl, sym, ap, _∙_}
+use mathlib.Core.Bool.{Bool, true, false, _&&_, and-assoc}
 use Prim.Native.Nat.{ℕ, _≤_, _<_}
 use native.Mathlib.Omega.{arith}
 use borrow.Author.Tests.{lt-ltb, le-ltb, le-leb, lt-leb}
-use lib.Dec.{ltb}
+use lib.Dec.{ltb, leb}
 use lib.ListN.{length}
-use Rattle.orders.specs.Tree.{P, C, items, rev}
-use Rattle.orders.specs.Form.{first, rises?, rising?, canonical?}
+use Rattle.orders.specs.Tree.{P, C, Forest, nil, leaf, node, append, items, rev}
+use Rattle.orders.specs.Form.{first, rises?, rising?, sorted?, canonical?}
 use Rattle.tokens.specs.Tokens.{Judged, j-nil, j-leaf, j-node, tree, encode}
 use Rattle.tokens.specs.Views.{shape-of, items-of, rest-of}
+use Rattle.tokens.proofs.Sequences.{tree-append}
+use Rattle.tokens.proofs.Steps.{opened}
 use Rattle.form.specs.Tests.{first-sorted?}
 
 -- The first item, then the others.
@@ -31,11 +33,20 @@ rising-more j-nil = refl
 rising-more (j-leaf s b j) = refl
 rising-more (j-node s k i j) = refl
 
-pub canonical-more : (j : Judged) → canonical? (tree j) ≡ ((first-sorted? (tree j) && canonical? (tree (items-of j))) && canonical? (tree (rest-of j)))
+canonical-append : (f g : Forest) → canonical? (append f g) ≡ (canonical? f && canonical? g)
+canonical-append nil g = refl
+canonical-append (leaf b f) g = canonical-append f g
+canonical-append (node k i f) g =
+    ap (λ (b : Bool). ((leb 2 (length (items i)) && sorted? k i) && canonical? i) && b) (canonical-append f g)
+    ∙ sym (and-assoc ((leb 2 (length (items i)) && sorted? k i) && canonical? i) (canonical? f) (canonical? g))
+
+-- The first item, then what follows its first token.
+pub canonical-open : (j : Judged) → canonical? (tree j) ≡ (first-sorted? (tree j) && canonical? (tree (opened j)))
 unfolding first-sorted? items-of rest-of
-canonical-more j-nil = refl
-canonical-more (j-leaf s b j) = refl
-canonical-more (j-node s k i j) = refl
+canonical-open j-nil = refl
+canonical-open (j-leaf s b j) = refl
+canonical-open (j-node s k i j) =
+    rw (tree-append i j, canonical-append (tree i) (tree j)) (and-assoc (leb 2 (length (items (tree i))) && sorted? k (tree i)) (canonical? (tree i)) (canonical? (tree j)))
 
 -- A leaf; a node with few items; a P-node and a C-node with enough.
 pub leaf-sorted : (j : Judged) → shape-of j ≡ 1 → first-sorted? (tree j) ≡ true

@@ -18,14 +18,17 @@ fn rises(toks: &[u16], m: u16) -> bool
     requires { ⌜ Tokens (now toks) ⌝ }
     ensures { λ r. ⌜ ((j : Judged) → now (toks .entry) ≡ encode j → r ≡ rises? m (items (tree j))) ⌝ }
 {
-    if toks.len() == 0 {
-        return true;
+    let mut least = m;
+    let mut i = 0;
+    while i < toks.len() {
+        let b = tokens::first_leaf(&toks[i..]);
+        if b <= least {
+            return false;
+        }
+        least = b;
+        i += tokens::size(&toks[i..]);
     }
-    let b = tokens::first_leaf(toks);
-    if b <= m {
-        return false;
-    }
-    rises(tokens::rest(toks), b)
+    true
 }
 
 // Whether the first item, where it is a node, has two or more items, sorted as its kind asks.
@@ -53,16 +56,14 @@ fn canonical(toks: &[u16]) -> bool
     requires { ⌜ Tokens (now toks) ⌝ }
     ensures { λ r. ⌜ ((j : Judged) → now (toks .entry) ≡ encode j → r ≡ canonical? (tree j)) ⌝ }
 {
-    if toks.len() == 0 {
-        return true;
+    let mut i = 0;
+    while i < toks.len() {
+        if !sorted(&toks[i..]) {
+            return false;
+        }
+        i += 1;
     }
-    if !sorted(toks) {
-        return false;
-    }
-    if !canonical(tokens::items(toks)) {
-        return false;
-    }
-    canonical(tokens::rest(toks))
+    true
 }
 
 // Whether the leaf is from 2 to n and not marked.
@@ -85,21 +86,18 @@ fn new_leaves(toks: &[u16], n: usize, words: &mut [u64]) -> bool
     ensures { λ r. ⌜ ((j : Judged) (G : Restriction) → now (toks .entry) ≡ encode j → now (words .entry) ≡ words-of 4 G
         → Marked n G (frontier (tree j)) (now (words .exit)) r) ⌝ }
 {
-    if toks.len() == 0 {
-        return true;
-    }
-    if tokens::shape(toks) == 1 {
-        let b = tokens::leaf(toks);
-        if !new_leaf(b, n, words) {
-            return false;
+    let mut i = 0;
+    while i < toks.len() {
+        let t = toks[i];
+        if t / 8 % 2 == 0 {
+            if !new_leaf(t / 16, n, words) {
+                return false;
+            }
+            marks::set(words, t / 16);
         }
-        marks::set(words, b);
-        return new_leaves(tokens::rest(toks), n, words);
+        i += 1;
     }
-    if !new_leaves(tokens::items(toks), n, words) {
-        return false;
-    }
-    new_leaves(tokens::rest(toks), n, words)
+    true
 }
 
 // Whether the leaves are those from 2 to n, each once.

@@ -9,6 +9,10 @@ use Rattle.scanner.specs.Scan.{num, after, run-at, refused}
 use Rattle.scanner.specs.Unused.{unused}
 use Rattle.numerals.specs.declared.Numeral.{Numeral}
 
+-- Some mark from a on and before e is 0.
+abbrev pub FreeIn : List ℕ → ℕ → ℕ → Type 0
+FreeIn used a e = (m : ℕ) × (a ≤ m) × (m < e) × (m < length used) × (getD used m 0 ≡ 0)
+
 -- From byte `at`, in a number whose digits so far are those of v: the rest of an unused leaf's digits, up to a separator.
 pub record LeafRead (x : List ℕ) (at v : ℕ) (used : List ℕ) (r : Numeral) : Type 0 where
   pub tail : List ℕ

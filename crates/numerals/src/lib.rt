@@ -1,11 +1,12 @@
 // The numbers of a tree text: which unused leaf its digits name.
 ghost use mathlib.Core.Path.{_≡_};
 ghost use mathlib.Core.Bool.{true};
-ghost use Prim.Native.Nat.{_≤_};
+ghost use mathlib.Core.Logic.{_↔_};
+ghost use Prim.Native.Nat.{_+_, _≤_};
 ghost use lib.ListN.{length};
 ghost use Rattle.scanner.specs.Scan.{sep?};
-ghost use Rattle.scanner.specs.Unused.{starts as starts?, any-start};
-ghost use Rattle.numerals.specs.Numbers.{NumberRead};
+ghost use Rattle.scanner.specs.Unused.{any-start};
+ghost use Rattle.numerals.specs.Numbers.{FreeIn, NumberRead};
 
 // Whether the byte is a space or a closing bracket.
 fn is_separator(b: u8) -> bool
@@ -17,33 +18,54 @@ fn is_separator(b: u8) -> bool
     b == 41
 }
 
-// Whether the digits of m begin with those of v.
-fn starts(v: usize, m: usize) -> bool
-    ensures { λ r. ⌜ r ≡ starts? v m ⌝ }
+// Whether a leaf from `from` on and below `to` is unused.
+fn unused_within(used: &[u8], from: usize, to: usize) -> bool
+    requires { ⌜ to ≤ length (now used) ⌝ }
+    ensures { λ r. ⌜ (r ≡ true) ↔ FreeIn (now (used .entry)) from to ⌝ }
 {
-    if m == v {
-        return true;
-    }
-    if m / 10 == v {
-        return true;
-    }
-    m / 100 == v
-}
-
-// Whether the digits of some unused leaf begin with those of v.
-pub fn any_start(used: &[u8], v: usize) -> bool
-    ensures { λ r. ⌜ r ≡ any-start v 0 (now (used .entry)) ⌝ }
-{
-    let mut a = 0;
-    while a < used.len() {
+    let mut found = false;
+    let mut a = from;
+    while a < to {
         if used[a] == 0 {
-            if starts(v, a) {
-                return true;
-            }
+            found = true;
         }
         a += 1;
     }
-    false
+    found
+}
+
+// Whether one of the k leaves from `from` on is unused.
+fn unused_among(used: &[u8], from: usize, k: usize) -> bool
+    ensures { λ r. ⌜ (r ≡ true) ↔ FreeIn (now (used .entry)) from (from + k) ⌝ }
+{
+    let n = used.len();
+    if from > n {
+        return false;
+    }
+    if k > n - from {
+        return unused_within(used, from, n);
+    }
+    unused_within(used, from, from + k)
+}
+
+// Whether the digits of some unused leaf begin with those of v: v itself, or v with one or two digits more.
+pub fn any_start(used: &[u8], v: usize) -> bool
+    ensures { λ r. ⌜ r ≡ any-start v 0 (now (used .entry)) ⌝ }
+{
+    if unused_among(used, v, 1) {
+        return true;
+    }
+    let n = used.len();
+    if v > n / 10 {
+        return false;
+    }
+    if unused_among(used, 10 * v, 10) {
+        return true;
+    }
+    if v > n / 100 {
+        return false;
+    }
+    unused_among(used, 100 * v, 100)
 }
 
 // A number that was read: the unused leaf with these digits, and the byte after them; or, where not `ok`, the byte of the refusal.

@@ -1,18 +1,19 @@
 -- Comparing with rows and zeros.
 use mathlib.Core.Path.{_≡_, refl, sym, ap, _∙_}
-use mathlib.Core.Bool.{true, false, _&&_, and-assoc}
+use mathlib.Core.Bool.{true, false, _&&_, and-assoc, and-true}
 use mathlib.Core.List.{List, [], _∷_, _++_, append-nil}
 use Prim.Native.Nat.{ℕ, suc, _+_, _-_, _≤_, _<_}
 use native.Mathlib.Omega.{arith}
 use native.Mathlib.Numerals.{add-one}
-use borrow.Author.Tests.{eq-eqb, ne-eqb}
 use lib.Dec.{eqb}
+use lib.Bits.{bitOr}
 use lib.ListN.{length, take, drop, getD, replicate, length-replicate, length-drop, drop-of-length-le}
 use lib.Seq.{drop-cons, drop-length, length-take-le}
 use Rattle.orders.specs.Lists.{same}
 use Rattle.calls.specs.Tables.{padded}
 use Rattle.calls.proofs.NodeTables.{padded-length}
 use Rattle.tokens.specs.Tokens.{Wrote}
+use Rattle.tokens.proofs.Bits.{or-none}
 use Rattle.records.specs.Rows.{starts}
 
 -- A list begins with xs and then ys.
@@ -45,23 +46,18 @@ zero-part m a l h g =
     rw (length-take-le (m - a) (drop a l) (omega (arith, length-drop a l)), length-replicate {A = ℕ} (m - a) 0)
 
 -- Zeros from index i on.
-zero-here : (l : List ℕ) (i : ℕ) → i < length l
-    → same (drop i l) (replicate (length l - i) 0) ≡ (eqb (getD l i 0) 0 && same (drop (i + 1) l) (replicate (length l - (i + 1)) 0))
-zero-here l i h =
+pub zero-next : (l : List ℕ) (d i : ℕ) → i < length l
+    → (eqb d 0 && same (drop i l) (replicate (length l - i) 0))
+    ≡ (eqb (bitOr d (getD l i 0)) 0 && same (drop (i + 1) l) (replicate (length l - (i + 1)) 0))
+zero-next l d i h =
     let n : length l - i ≡ suc (length l - suc i) = omega arith in
-    rw (add-one, n, drop-cons l i 0 h)
+    rw (add-one, n, drop-cons l i 0 h, or-none d (getD l i 0))
+    (sym (and-assoc (eqb d 0) (eqb (getD l i 0) 0) (same (drop (suc i) l) (replicate (length l - suc i) 0))))
 
-pub zero-not : (l : List ℕ) (i : ℕ) → i < length l → (getD l i 0 ≡ 0 → ⊥) → same (drop i l) (replicate (length l - i) 0) ≡ false
-zero-not l i h d = zero-here l i h ∙ rw (ne-eqb (getD l i 0) 0 d)
-
-pub zero-more : (l : List ℕ) (i : ℕ) → i < length l → getD l i 0 ≡ 0
-    → same (drop i l) (replicate (length l - i) 0) ≡ same (drop (i + 1) l) (replicate (length l - (i + 1)) 0)
-zero-more l i h e = zero-here l i h ∙ rw (eq-eqb (getD l i 0) 0 e)
-
-pub zero-end : (l : List ℕ) (i : ℕ) → i ≡ length l → same (drop i l) (replicate (length l - i) 0) ≡ true
-zero-end l i e =
+pub zero-end : (l : List ℕ) (d i : ℕ) → i ≡ length l → (eqb d 0 && same (drop i l) (replicate (length l - i) 0)) ≡ eqb d 0
+zero-end l d i e =
     let n : length l - length l ≡ 0 = omega arith in
-    rw (e, n, drop-length)
+    rw (e, n, drop-length) (and-true (eqb d 0))
 
 -- All places written.
 pub wrote-whole : {xs old new : List ℕ} {k : ℕ} → Wrote xs old new k → length xs ≡ length old → new ≡ xs

@@ -108,14 +108,13 @@ pub fn store(toks: &[u16], table: &mut [u16])
 fn all_zero(part: &[u16]) -> bool
     ensures { λ r. ⌜ r ≡ same (now (part .entry)) (replicate (length (now (part .entry))) 0) ⌝ }
 {
+    let mut any = 0;
     let mut i = 0;
     while i < part.len() {
-        if part[i] != 0 {
-            return false;
-        }
+        any = any | part[i];
         i += 1;
     }
-    true
+    any == 0
 }
 
 // Whether `part`, 257 numbers, is the row of a node: its kind and its items as for `write_row`.

@@ -89,20 +89,6 @@ nodes-split j-nil = refl
 nodes-split (j-leaf s b j) = omega arith
 nodes-split (j-node s k i j) = omega arith
 
--- The first leaf of the first item.
-pub first-here : (j : Judged) → shape-of j ≡ 1 → first (tree j) ≡ leaf-of j
-unfolding shape-of leaf-of
-first-here j-nil h = absurd (omega arith)
-first-here (j-leaf s b j) h = refl
-first-here (j-node s P i j) h = absurd (omega arith)
-first-here (j-node s C i j) h = absurd (omega arith)
-
-pub first-inside : (j : Judged) → (shape-of j ≡ 1 → ⊥) → first (tree j) ≡ first (tree (items-of j))
-unfolding shape-of items-of
-first-inside j-nil h = refl
-first-inside (j-leaf s b j) h = absurd (h refl)
-first-inside (j-node s k i j) h = refl
-
 -- The first leaf of the last item: that of the only item, or of the last one after the first.
 pub last-one : (j : Judged) → rest-of j ≡ j-nil → first (rev (tree j)) ≡ first (tree j)
 unfolding rest-of

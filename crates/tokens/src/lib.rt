@@ -89,13 +89,18 @@ pub fn first_leaf(toks: &[u16]) -> u16
     requires { ⌜ Tokens (now toks) ⌝ }
     ensures { λ r. ⌜ ((j : Judged) → now (toks .entry) ≡ encode j → r ≡ first (tree j)) ⌝ }
 {
-    if toks.len() == 0 {
-        return 0;
+    let mut i = 0;
+    while i < toks.len() {
+        let t = toks[i];
+        if t / 8 % 2 == 0 {
+            return t / 16;
+        }
+        if t / 32 == 0 {
+            return 0;
+        }
+        i += 1;
     }
-    if shape(toks) == 1 {
-        return leaf(toks);
-    }
-    first_leaf(items(toks))
+    0
 }
 
 // The first leaf of the last item; 0 where there is no item, or none in it.
@@ -103,14 +108,15 @@ pub fn last_leaf(toks: &[u16]) -> u16
     requires { ⌜ Tokens (now toks) ⌝ }
     ensures { λ r. ⌜ ((j : Judged) → now (toks .entry) ≡ encode j → r ≡ first (rev (tree j))) ⌝ }
 {
-    if toks.len() == 0 {
-        return 0;
+    let mut i = 0;
+    while i < toks.len() {
+        let next = i + size(&toks[i..]);
+        if next == toks.len() {
+            return first_leaf(&toks[i..]);
+        }
+        i = next;
     }
-    let after = rest(toks);
-    if after.len() == 0 {
-        return first_leaf(toks);
-    }
-    last_leaf(after)
+    0
 }
 
 // How many nodes, at any depth.
@@ -143,10 +149,13 @@ pub fn item_count(toks: &[u16]) -> usize
     ensures { λ r. ⌜ (r ≤ length (now (toks .entry)))
         × ((j : Judged) → now (toks .entry) ≡ encode j → r ≡ length (items (tree j))) ⌝ }
 {
-    if toks.len() == 0 {
-        return 0;
+    let mut n = 0;
+    let mut i = 0;
+    while i < toks.len() {
+        i += size(&toks[i..]);
+        n += 1;
     }
-    1 + item_count(rest(toks))
+    n
 }
 
 // Copies src to the start of out, and says how many.
@@ -197,14 +206,13 @@ pub fn equal(a: &[u16], b: &[u16]) -> bool
     if a.len() != b.len() {
         return false;
     }
+    let mut differ = 0;
     let mut i = 0;
     while i < a.len() {
-        if a[i] != b[i] {
-            return false;
-        }
+        differ = differ | (a[i] ^ b[i]);
         i += 1;
     }
-    true
+    differ == 0
 }
 
 // Writes the leaves 2, 3, .. as items, k of them.

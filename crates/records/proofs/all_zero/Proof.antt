@@ -1,17 +1,20 @@
 use mathlib.Core.Path.{_≡_, sym, _∙_}
+use mathlib.Core.Bool.{_&&_}
 use Prim.Native.Nat.{_-_, _≤_}
 use native.Mathlib.Omega.{arith}
+use lib.Dec.{eqb}
 use lib.ListN.{length, drop, replicate}
 use Rattle.orders.specs.Lists.{same}
-use Rattle.records.proofs.Comparing.{zero-not, zero-more, zero-end}
+use Rattle.records.proofs.Comparing.{zero-next, zero-end}
 use Rattle.records.proofs.all_zero.Statement.{statement}
 use Rattle.records.proofs.all_zero.Tie as tie
 
 abbrev Inv-loop : tie.InvT-loop
-Inv-loop part i₀ i = (i ≤ length part) × (same part (replicate (length part) 0) ≡ same (drop i part) (replicate (length part - i) 0))
+Inv-loop part any₀ i₀ any i = (i ≤ length part)
+    × (same part (replicate (length part) 0) ≡ (eqb any 0 && same (drop i part) (replicate (length part - i) 0)))
 
 abbrev μ-loop : tie.MeasureT-loop
-μ-loop part i₀ i = length part - i
+μ-loop part any₀ i₀ any i = length part - i
 
 loop-holds : tie.Need-loop-holds Inv-loop μ-loop
 loop-holds c =
@@ -19,14 +22,11 @@ loop-holds c =
     let n : length l - 0 ≡ length l = omega arith in
     (omega arith, rw n)
 
-mul-if1 : tie.Need-mul-if1 Inv-loop μ-loop
-mul-if1 c = omega arith
+mul-any : tie.Need-mul-any Inv-loop μ-loop
+mul-any c = omega arith
 
-shared-slice-read-if1 : tie.Need-shared-slice-read-if1 Inv-loop μ-loop
-shared-slice-read-if1 c = omega arith
-
-returns : tie.Need-returns Inv-loop μ-loop
-returns c = sym (c .before .before .before .loop .inv .1 ∙ zero-not (c .before .before .before .before .args .part .now) (c .before .before .before .loop .i) (omega arith) (c .if1 .taken))
+shared-slice-read-any : tie.Need-shared-slice-read-any Inv-loop μ-loop
+shared-slice-read-any c = omega arith
 
 add-i : tie.Need-add-i Inv-loop μ-loop
 add-i c = omega arith
@@ -35,10 +35,10 @@ loop-less : tie.Need-loop-less Inv-loop μ-loop
 loop-less c = omega arith
 
 loop-again : tie.Need-loop-again Inv-loop μ-loop
-loop-again c = (omega arith, c .before .before .before .loop .inv .1 ∙ zero-more (c .before .before .before .before .args .part .now) (c .before .before .before .loop .i) (omega arith) (c .if1 .left))
+loop-again c = (omega arith, c .before .before .loop .inv .1 ∙ zero-next (c .before .before .before .args .part .now) (c .before .before .loop .any) (c .before .before .loop .i) (omega arith))
 
-returns-2 : tie.Need-returns-2 Inv-loop μ-loop
-returns-2 c = sym (c .before .loop .inv .1 ∙ zero-end (c .before .before .args .part .now) (c .before .loop .i) (omega arith))
+returns : tie.Need-returns Inv-loop μ-loop
+returns c = sym (c .before .loop .inv .1 ∙ zero-end (c .before .before .args .part .now) (c .before .loop .any) (c .before .loop .i) (omega arith))
 
 pub all-zero-spec : {M : Type 1} → statement M
 all-zero-spec =
@@ -47,10 +47,9 @@ all-zero-spec =
     Inv-loop
     μ-loop
     loop-holds
-    mul-if1
-    shared-slice-read-if1
-    returns
+    mul-any
+    shared-slice-read-any
     add-i
     loop-less
     loop-again
-    returns-2)
+    returns)
