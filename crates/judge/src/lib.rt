@@ -1,7 +1,8 @@
 // The judge: each item of a tree in tokens is labelled with its state under a restriction, and so whether the restriction is possible.
 ghost use mathlib.Core.Path.{_≡_};
-ghost use Prim.Native.Nat.{_<_, _≤_};
-ghost use lib.ListN.{length};
+ghost use mathlib.Core.List.{[]};
+ghost use Prim.Native.Nat.{ℕ, _<_, _≤_};
+ghost use lib.ListN.{length, getD};
 ghost use Rattle.orders.specs.Tree.{items};
 ghost use Rattle.orders.specs.Form.{Single, Every, TwoItems};
 ghost use Rattle.orders.specs.Reduce.{reduce};
@@ -12,38 +13,43 @@ ghost use Rattle.judge.specs.Judge.{leaf-state, states, judge};
 ghost use Rattle.judge.specs.Automaton.{Run, start-of, step, runs, verdict, code};
 ghost use Rattle.judge.specs.Total.{is-some};
 
-// The automaton after one more item, of state s.
-fn step(run: u8, s: u16) -> u8
-    ensures { λ r. ⌜ ((q : Run) (z : State) → run ≡ code q → s ≡ number z → r ≡ code (step q z)) ⌝ }
+// The automaton in numbers: a row for each run, and in it the run after one more item of each state.
+const MOVES: [[u8; 5]; 17] = [
+    [1, 2, 4, 6, 7],
+    [1, 3, 4, 6, 7],
+    [3, 2, 4, 7, 7],
+    [3, 3, 4, 7, 7],
+    [4, 4, 5, 7, 7],
+    [5, 5, 7, 7, 7],
+    [6, 7, 7, 7, 7],
+    [7, 7, 7, 7, 7],
+    [9, 10, 11, 15, 16],
+    [9, 13, 12, 15, 16],
+    [14, 10, 14, 16, 16],
+    [14, 13, 15, 16, 16],
+    [15, 13, 15, 16, 16],
+    [15, 13, 15, 16, 16],
+    [14, 16, 16, 16, 16],
+    [15, 16, 16, 16, 16],
+    [16, 16, 16, 16, 16],
+];
+
+// Where the automaton goes on the items, by its moves.
+fn run_on(x: &[u16], moves: &[[u8; 5]; 17], run: u8) -> u8
+    requires { ⌜ (Tokens (now x)) × (run < 17) × ((i k : ℕ) → getD (getD (now moves) i []) k 0 < 17)
+        × ((q : Run) (z : State) → getD (getD (now moves) (code q) []) (number z) 0 ≡ code (step q z)) ⌝ }
+    ensures { λ r. ⌜ (r < 17) × ((j : Judged) (q : Run) → now (x .entry) ≡ encode j → run ≡ code q → r ≡ code (runs q (states j))) ⌝ }
 {
-    let table: [[u8; 5]; 17] = [
-        [1, 2, 4, 6, 7],
-        [1, 3, 4, 6, 7],
-        [3, 2, 4, 7, 7],
-        [3, 3, 4, 7, 7],
-        [4, 4, 5, 7, 7],
-        [5, 5, 7, 7, 7],
-        [6, 7, 7, 7, 7],
-        [7, 7, 7, 7, 7],
-        [9, 10, 11, 15, 16],
-        [9, 13, 12, 15, 16],
-        [14, 10, 14, 16, 16],
-        [14, 13, 15, 16, 16],
-        [15, 13, 15, 16, 16],
-        [15, 13, 15, 16, 16],
-        [14, 16, 16, 16, 16],
-        [15, 16, 16, 16, 16],
-        [16, 16, 16, 16, 16],
-    ];
-    let q = run as usize;
-    let z = s as usize;
-    if q >= 17 {
-        return 0;
+    let mut at = run;
+    let mut i = 0;
+    while i < x.len() {
+        let y = &x[i..];
+        let q = at as usize;
+        let z = tokens::state(y) as usize;
+        at = moves[q][z];
+        i += tokens::size(y);
     }
-    if z >= 5 {
-        return 0;
-    }
-    table[q][z]
+    at
 }
 
 // The number of the state of a node whose items took the automaton here.
@@ -81,26 +87,33 @@ fn start(toks: &[u16]) -> u8
 }
 
 // Writes the items to the start of out, each with its state under the marks, whatever state it had; answers where they take the automaton.
+// From the last token to the first, so that a node's items are judged before it.
 pub fn judge(toks: &[u16], marks: &[u64], run: u8, out: &mut [u16]) -> u8
     requires { ⌜ (Tokens (now toks)) × (length (now toks) ≤ length (now out)) ⌝ }
     ensures { λ r. ⌜ ((j : Judged) (q : Run) → now (toks .entry) ≡ encode j → run ≡ code q
         → (r ≡ code (runs q (states (judge (marked (now (marks .entry))) (tree j)))))
         × Wrote (encode (judge (marked (now (marks .entry))) (tree j))) (now (out .entry)) (now (out .exit)) (length (now (toks .entry)))) ⌝ }
 {
-    if toks.len() == 0 {
-        return run;
+    if run >= 17 {
+        return 0;
     }
-    let t = toks[0];
-    if tokens::shape(toks) == 1 {
-        let s = leaf_state(toks, marks);
-        out[0] = t - t % 8 + s;
-        return judge(tokens::rest(toks), marks, step(run, s), &mut out[1..]);
+    let moves = MOVES;
+    let n = toks.len();
+    let mut i = n;
+    while i > 0 {
+        i -= 1;
+        let y = &toks[i..];
+        let t = y[0];
+        if tokens::shape(y) == 1 {
+            out[i] = t - t % 8 + leaf_state(y, marks);
+            continue;
+        }
+        let a = i + 1;
+        let e = i + tokens::size(y);
+        let s = verdict(run_on(&out[a..e], &moves, start(y)));
+        out[i] = t - t % 8 + s;
     }
-    let x = tokens::items(toks);
-    let s = verdict(judge(x, marks, start(toks), &mut out[1..]));
-    out[0] = t - t % 8 + s;
-    let m = 1 + x.len();
-    judge(tokens::rest(toks), marks, step(run, s), &mut out[m..])
+    run_on(&out[0..n], &moves, run)
 }
 
 // Whether the marked leaves can be made consecutive. judged is scratch.

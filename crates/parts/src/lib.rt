@@ -17,13 +17,16 @@ pub fn count(x: &[u16], s: u16) -> usize
     ensures { λ r. ⌜ (r ≤ length (now (x .entry)))
         × ((j : Judged) → now (x .entry) ≡ encode j → r ≡ length (with-state s (totals j))) ⌝ }
 {
-    if x.len() == 0 {
-        return 0;
+    let mut n = 0;
+    let mut i = 0;
+    while i < x.len() {
+        let y = &x[i..];
+        if tokens::state(y) == s {
+            n += 1;
+        }
+        i += tokens::size(y);
     }
-    if tokens::state(x) == s {
-        return 1 + count(tokens::rest(x), s);
-    }
-    count(tokens::rest(x), s)
+    n
 }
 
 // Writes the items of state s, in their order.
@@ -62,13 +65,15 @@ pub fn find_partial(x: &[u16]) -> &[u16]
     ensures { λ r. ⌜ (length (now r) ≤ length (now (x .entry)))
         × ((j : Judged) → now (x .entry) ≡ encode j → now r ≡ encode (from-partial j)) ⌝ }
 {
-    if x.len() == 0 {
-        return x;
+    let mut i = 0;
+    while i < x.len() {
+        let y = &x[i..];
+        if tokens::state(y) >= 2 {
+            return y;
+        }
+        i += tokens::size(y);
     }
-    if tokens::state(x) >= 2 {
-        return x;
-    }
-    find_partial(tokens::rest(x))
+    &x[i..]
 }
 
 // Whether all items have the state s.
@@ -76,13 +81,15 @@ pub fn all_of_state(x: &[u16], s: u16) -> bool
     requires { ⌜ Tokens (now x) ⌝ }
     ensures { λ r. ⌜ ((j : Judged) → now (x .entry) ≡ encode j → r ≡ all-with-state s (totals j)) ⌝ }
 {
-    if x.len() == 0 {
-        return true;
+    let mut i = 0;
+    while i < x.len() {
+        let y = &x[i..];
+        if tokens::state(y) != s {
+            return false;
+        }
+        i += tokens::size(y);
     }
-    if tokens::state(x) != s {
-        return false;
-    }
-    all_of_state(tokens::rest(x), s)
+    true
 }
 
 // Whether a C-node's items read: empty ones, at most one partial one that has a line, full ones.
@@ -90,17 +97,19 @@ pub fn rises(x: &[u16]) -> bool
     requires { ⌜ Tokens (now x) ⌝ }
     ensures { λ r. ⌜ ((j : Judged) → now (x .entry) ≡ encode j → r ≡ rises (states-of (totals j))) ⌝ }
 {
-    if x.len() == 0 {
-        return true;
+    let mut i = 0;
+    while i < x.len() {
+        let y = &x[i..];
+        let s = tokens::state(y);
+        if s >= 3 {
+            return false;
+        }
+        if s > 0 {
+            return all_of_state(tokens::rest(y), 1);
+        }
+        i += tokens::size(y);
     }
-    let s = tokens::state(x);
-    if s == 0 {
-        return rises(tokens::rest(x));
-    }
-    if s >= 3 {
-        return false;
-    }
-    all_of_state(tokens::rest(x), 1)
+    true
 }
 
 // Writes a C-node with the items x, in the direction of the published form.

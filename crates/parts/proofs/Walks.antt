@@ -1,0 +1,43 @@
+-- Going through the items of a sequence by an index, one item at a time.
+use mathlib.Core.Path.{_≡_, refl, sym, ap, _∙_}
+use mathlib.Core.List.{List, [], _∷_, _++_, append-assoc, append-nil}
+use Prim.Native.Nat.{ℕ, _+_, _-_, _≤_, _<_}
+use native.Mathlib.Omega.{arith}
+use lib.ListN.{length, take, drop, length-append, length-drop}
+use borrow.Rule.Slice.PartMut.{putMid}
+use Rattle.tokens.specs.Tokens.{Judged, j-nil, encode, Tokens, Wrote}
+use Rattle.tokens.specs.Views.{first-of, rest-of}
+use Rattle.tokens.proofs.Laws.{at-end}
+use Rattle.tokens.proofs.Sequences.{encode-injective}
+use Rattle.tokens.proofs.Writes.{wrote-none, wrote-then}
+use Rattle.judge.proofs.Items.{from-items, some-items, next-items}
+
+-- The items from index i on are left: what g says of all items is f of what it says of them.
+pub record Left {A : Type 0} (g : Judged → A) (f : A → A) (x : List ℕ) (i : ℕ) : Type 0 where
+  pub left : Judged
+  pub from : drop i x ≡ encode left
+  pub same : (j : Judged) → x ≡ encode j → g j ≡ f (g left)
+
+module _ {A : Type 0} (g : Judged → A) where
+  pub left-all : (f : A → A) {x : List ℕ} → Tokens x → ((a : A) → f a ≡ a) → Left g f x 0
+  left-all f t h = record { left = t .0; from = t .1; same = λ j e. ap g (encode-injective j (t .0) (sym e ∙ t .1)) ∙ sym (h (g (t .0))) }
+
+  module _ {f : A → A} {x : List ℕ} {i : ℕ} (l : Left g f x i) where
+    -- They are a part of the slice, with a first item.
+    pub left-part : take (length x - i) (drop i x) ≡ encode (l .left)
+    left-part = from-items (l .left) x i (l .from)
+
+    pub left-some : i < length x → 0 < length (encode (l .left))
+    left-some h = some-items (l .left) x i (l .from) h
+
+    -- The first of them is passed.
+    pub left-next : (k : A → A) {m : ℕ} → m ≡ length (encode (first-of (l .left))) → f (g (l .left)) ≡ k (g (rest-of (l .left))) → Left g k x (i + m)
+    left-next k em h = record {
+      left = rest-of (l .left);
+      from = next-items (l .left) x i (l .from) em;
+      same = λ j e. l .same j e ∙ h;
+    }
+
+    -- None is left.
+    pub left-none : length x ≤ i → (j : Judged) → x ≡ encode j → g j ≡ f (g j-nil)
+    left-none h j e = l .same j e ∙ ap (λ (k : Judged). f (g k)) (at-end (l .left) (l .from) (omega (arith, length-drop i x)))
