@@ -40,6 +40,14 @@ def at(base, i):
     return base + " .1" * i + " .0"
 
 
+def load(i):
+    return f"(load ! (from ! (stop !)) (look ! {i} refl))"
+
+
+def operands(positions):
+    return "".join(f"and-then ! {load(i)} (" for i in positions) + "no-more !" + ")" * len(positions)
+
+
 class Context:
     """The context of a script, by names: each method is a step, written with the positions as they stand."""
 
@@ -226,87 +234,79 @@ class Walk:
         yield f"      split ! $ move ! (1 ∷ []) $ use1 W (some (λ (ws : {ws}). ‵ (lasts call.ended {κs} {args} ws) ⊛ raw (fact 𝓤 ({says})))) (id⊢ 𝓤 _) $ pick ! (λ ws."
         yield f"      split ! $ move ! (1 ∷ []) $ heard ! ({says}) (λ e. {c.line()} done !" + ")" * (4 + len(self.muts))
 
-    def walk(self):
-        count = len(self.params)
-        value, answer = count + 1, count + 2
-        again = {p.name: answer + 1 + 2 * i for i, p in enumerate(self.muts)}
-        number = answer + 1 + 2 * len(self.muts)
-        locals_ = number + 1
-        c = Context([f"{z}{k}" for k in range(locals_ - 1, -1, -1) for z in "LD"] + ["toks", "owns"])
+    def place(self, k):
+        return self.c.at(f"L{k}")
 
-        def place(k):
-            return c.at(f"L{k}")
+    def drained(self, name, word, parts):
+        """Takes what stands under this name apart, part by part, and drops the rest."""
+        for part in parts:
+            self.c.split(word, name, part, name)
+        self.c.drop(name)
 
-        def load(i):
-            return f"(load ! (from ! (stop !)) (look ! {i} refl))"
+    def gathered(self, name, word, parts):
+        """Puts the parts together again, under this name."""
+        self.c.nothing(name)
+        for part in reversed(parts):
+            self.c.join(word, part, name, name)
 
-        def operands(positions):
-            return "".join(f"and-then ! {load(i)} (" for i in positions) + "no-more !" + ")" * len(positions)
-
+    def entered(self):
+        """The locals are made, and the parameters but `value` put together as `ring`'s call asks for them (X)."""
+        c = self.c
         rows = " ∷ ".join(self.rows + [f"MutRef (named {self.J}) κ usize", "[]"])
-        c.say(f"qed W (({self.tokens(True)}) ∷ ‵ (owns ({rows}) {self.own[2]} {self.own[3]}) ∷ []) ∵ enter ! C Λ code.function ({self.flat}) _ $")
-        yield c.line()
-        yield " ".join(f"alloc1 ! (λ l{sub(k)}." for k in range(locals_)) + " alloc0 ! $ params1 ! $"
+        yield f"qed W (({self.tokens(True)}) ∷ ‵ (owns ({rows}) {self.own[2]} {self.own[3]}) ∷ []) ∵ enter ! C Λ code.function ({self.flat}) _ $"
+        yield " ".join(f"alloc1 ! (λ l{sub(k)}." for k in range(self.locals)) + " alloc0 ! $ params1 ! $"
         for p in self.params:
-            c.say(f"pass1 ! (init ! {place(1 + p.i)} refl {p.typed()}) $")
-        c.say(f"pass1 ! (init ! {place(value)} refl (tt, tt)) $ pass0 ! $")
+            c.say(f"pass1 ! (init ! {self.place(1 + p.i)} refl {p.typed()}) $")
+        c.say(f"pass1 ! (init ! {self.place(self.value)} refl (tt, tt)) $ pass0 ! $")
         yield c.line()
-        for p in self.lent:
-            c.split("split", "toks", "t-" + p.name, "toks")
-        c.split("split", "toks", "t-value", "toks")
-        c.drop("toks")
-        for p in self.params:
-            c.split("fsplit", "owns", "o-" + p.name, "owns")
-        c.split("fsplit", "owns", "o-value", "owns")
-        c.drop("owns")
-        c.nothing("X")
-        for p in reversed(self.params):
-            c.join("fjoin", "o-" + p.name, "X", "X")
-        c.nothing("toks")
-        for p in reversed(self.lent):
-            c.join("fjoin", "t-" + p.name, "toks", "toks")
+        tokens, owned = [f"t-{p.name}" for p in self.lent], [f"o-{p.name}" for p in self.params]
+        self.drained("toks", "split", tokens + ["t-value"])
+        self.drained("owns", "fsplit", owned + ["o-value"])
+        self.gathered("X", "fjoin", owned)
+        self.gathered("toks", "fjoin", tokens)
         c.join("fjoin", "toks", "X", "X")
         yield c.line()
+
+    def called(self):
+        """Each `&mut` is lent again, then `ring`'s call and `code`'s; the result is returned, and the locals are freed."""
+        c = self.c
         for p in self.muts:
-            k, i = again[p.name], place(1 + p.i)
-            c.say(f"assigns ! (addr ! (from ! (fld ! refl (hop ! (look-in ! {i} (sub ! 0 refl (whole !))) (stop !))))) (from ! (stop !)) (init ! {place(k)} refl (tt, tt)) $")
-            c.say(f"assigns ! (agg ! (and-then ! {load(place(k))} (and-then ! (load ! (from ! (fld ! refl (stop !))) (look-in ! {i} (sub ! 1 refl (whole !)))) (no-more !)))) (from ! (stop !)) (init ! {place(k + 1)} refl (tt, (tt, (record {{ fits = {p.room} .0 }}, tt)))) $")
+            k, i = self.again[p.name], self.place(1 + p.i)
+            c.say(f"assigns ! (addr ! (from ! (fld ! refl (hop ! (look-in ! {i} (sub ! 0 refl (whole !))) (stop !))))) (from ! (stop !)) (init ! {self.place(k)} refl (tt, tt)) $")
+            c.say(f"assigns ! (agg ! (and-then ! {load(self.place(k))} (and-then ! (load ! (from ! (fld ! refl (stop !))) (look-in ! {i} (sub ! 1 refl (whole !)))) (no-more !)))) (from ! (stop !)) (init ! {self.place(k + 1)} refl (tt, (tt, (record {{ fits = {p.room} .0 }}, tt)))) $")
             yield c.line()
-        reads = [place(again[p.name] + 1 if p.mut else 1 + p.i) for p in self.params]
+        reads = [self.place(self.again[p.name] + 1 if p.mut else 1 + p.i) for p in self.params]
         yield f"answers ! fm (Call 𝓤 H A mem run) known-call Said Had Rest to-call (asks-nothing 𝓤 _) said (λ i. {operands(reads)}) (λ x u h."
         c.items[0] = "left"
-        yield f"land ! (from ! (stop !)) (init ! {place(answer)} refl (EL.lawful Answer·.the-type Answer′.the-laws 𝓤 H A W tt .typed (x .0) _ (h .0) .0)) $"
-        c.say(f"assigns ! (addr ! (from ! (hop ! (look ! {place(value)} refl) (stop !)))) (from ! (stop !)) (init ! {place(number)} refl (tt, tt)) $")
+        yield f"land ! (from ! (stop !)) (init ! {self.place(self.answer)} refl (EL.lawful Answer·.the-type Answer′.the-laws 𝓤 H A W tt .typed (x .0) _ (h .0) .0)) $"
+        c.say(f"assigns ! (addr ! (from ! (hop ! (look ! {self.place(self.value)} refl) (stop !)))) (from ! (stop !)) (init ! {self.place(self.number)} refl (tt, tt)) $")
         c.move("t-value", "o-value")
         yield c.line()
-        yield f"codes mem run ! fm known-code (named {self.J}) κ q b o γ v (x .0) u (h .0) (λ i. {operands([place(answer) - 1, place(number) - 1])}) (λ r v′ w is coded."
-        c.say(f"land ! (from ! (stop !)) (init ! {place(0)} refl (uint-lawful 𝓤 H A W w8 .typed r _ is .0)) $ returns ! (look ! {place(0)} refl) $")
-        for k in range(locals_ - 1, -1, -1):
-            c.say(f"forget ! {place(k)} refl $")
+        reads = [self.place(self.answer) - 1, self.place(self.number) - 1]
+        yield f"codes mem run ! fm known-code (named {self.J}) κ q b o γ v (x .0) u (h .0) (λ i. {operands(reads)}) (λ r v′ w is coded."
+        c.say(f"land ! (from ! (stop !)) (init ! {self.place(0)} refl (uint-lawful 𝓤 H A W w8 .typed r _ is .0)) $ returns ! (look ! {self.place(0)} refl) $")
+        for k in range(self.locals - 1, -1, -1):
+            c.say(f"forget ! {self.place(k)} refl $")
         yield c.line()
-        for k in range(locals_):
+        for k in range(self.locals):
             c.move(f"L{k}", f"D{k}")
             c.say("free1 ! $")
             c.items = c.items[2:]
         c.say("free0 ! $")
         yield c.line()
+
+    def ended(self):
+        """The last values and the contract; then the tokens and what is left are given back."""
+        c = self.c
         exits = nest([self.last("x", p) if p.mut else "tt" for p in self.params] + ["v′"])
         fits = nest([at("h .1", self.muts.index(p)) if p.mut else "tt" for p in self.params] + ["tt"])
         fact = "h .1" + " .1" * len(self.muts)
         law = f"(subst ({self.ensured(lambda p: self.last('x', p))}) (sym (coded .0)) ({fact}), coded .1)"
         yield f"suffices ! _ (ends-at 𝓤 H A this.ended stayed (this.clauses 𝓤 H A mem run) W {self.bound} w r {exits} {fits}) $ says ! {law} $"
-        for p in self.lent:
-            c.split("fsplit", "left", "t-" + p.name, "left")
-            if p.mut:
-                c.split("fsplit", "left", "o-" + p.name, "left")
-        c.drop("left")
-        c.nothing("toks")
-        c.join("join", "t-value", "toks", "toks")
-        for p in reversed(self.lent):
-            c.join("join", "t-" + p.name, "toks", "toks")
+        self.drained("left", "fsplit", [f"{z}-{p.name}" for p in self.lent for z in ("to" if p.mut else "t")])
+        self.gathered("toks", "join", [f"t-{p.name}" for p in self.lent] + ["t-value"])
         c.frame("toks")
-        c.nothing("has")
-        c.join("fjoin", "o-value", "has", "has")
+        self.gathered("has", "fjoin", ["o-value"])
         for p in reversed(self.params):
             if not p.mut:
                 c.nothing("o-" + p.name)
@@ -315,11 +315,44 @@ class Walk:
         c.say("owned ! u8 (Is u8) (uint-makes 𝓤 H A W w8) r _ is $ done !")
         yield c.line()
 
+    def walk(self):
+        # the locals: the result, the parameters, the answer, two for each `&mut` lent again, and `value` lent again
+        self.value = len(self.params) + 1
+        self.answer = self.value + 1
+        self.again = {p.name: self.answer + 1 + 2 * i for i, p in enumerate(self.muts)}
+        self.number = self.answer + 1 + 2 * len(self.muts)
+        self.locals = self.number + 1
+        self.c = Context([f"{z}{k}" for k in range(self.locals - 1, -1, -1) for z in "LD"] + ["toks", "owns"])
+        lines = [*self.entered(), *self.called(), *self.ended()]
+        lines[-1] += ")" * sum(t.count("(") - t.count(")") for t in lines)
+        yield f"    walk : ent 𝓤 (onEntry 𝓤 H A this.signature {' '.join(self.own)}) (WpFn 𝓤 H C Λ code.function ({self.flat}) Post)"
+        yield "    walk =\n" + "\n".join("        " + t for t in lines) + "\n"
+
+    def stated(self):
+        """What the call of `ring` is passed, what it leaves, and what it says."""
+        yield "  abbrev to-call : Call 𝓤 H A mem run .Ghost"
+        yield "  to-call = (({}, {}, tt, {}, {}), tt)\n".format(*self.core)
+        yield f"  abbrev Had : Fml\n  Had = {self.had()}\n"
+        yield f"  abbrev Rest : {self.R} → Fml\n  Rest r = {self.left()}\n"
+        lengths = "".join(f"(length ({self.last('r', p)}) ≡ length {p.name}) × (" for p in self.muts)
+        yield f"  abbrev Said : {self.R} → Val → Type 0"
+        yield f"  Said r w = Is Answer·.the-row (r .0) (w ∷ []) × ({lengths}{self.ensured(lambda p: self.last('r', p))} (r .0))" + ")" * len(self.muts) + "\n"
+
+    def met(self):
+        """From the walk to the function's contract."""
+        n = self.J + 1
+        goes = nest([p.goes(n) for p in self.params] + [f"goes-gave-ref 𝓤 H A W {n} {self.J} tt (plain (λ _. usize))"])
+        spells = nest([p.vals() for p in self.params] + ["ptr-vals"])
+        tells = nest([p.tells() for p in self.params] + [f"mut-tells (named {self.J}) ({at('κs', self.J)}) usize"])
+        x = at("a", len(self.params))
+        passed = "".join(p.passed() for p in self.params) + f" ({at('κs', self.J)}) ({at('qs', self.J)}) ({x} .ptr .0) ({x} .ptr .1) ({x} .name) ({x} .now)"
+        return TAIL.format(dashed=self.dashed, goes=goes, spells=spells, tells=tells, passed=passed, call=self.call)
+
     def proof(self):
-        name, κs, qs, args, vals = self.name, *self.own
-        yield f"-- `ring_exports::{name}` meets its contract: a walk of its MIR, by hand, whose two calls are steps of proofs/Steps.antt. Written by tools/ring_exports.py."
+        types = sorted({p.row for p in self.params if p.row != "T.the-row"} | {"u8", "usize"})
+        yield f"-- `ring_exports::{self.name}` meets its contract: a walk of its MIR, by hand, whose two calls are steps of proofs/Steps.antt. Written by tools/ring_exports.py."
         yield "-- Assumes nothing."
-        yield HEAD.format(says=self.says, call=self.call, name=name, types=", ".join(sorted({p.row for p in self.params if p.row != "T.the-row"} | {"u8", "usize"})))
+        yield HEAD.format(says=self.says, call=self.call, name=self.name, types=", ".join(types))
         yield "-- what the function still has of each parameter at exit: a `&mut` is given for good"
         yield "abbrev stayed : Stays (this.ended .signature .params) (this.ended .kept)"
         yield "stayed = " + nest([p.stay() for p in self.params] + [f"gave-ref ({self.J} ∷ []) tt (plain (λ _. usize))"]) + "\n"
@@ -330,27 +363,12 @@ class Walk:
         for p in self.lent:
             yield f"  abbrev {p.name} : {p.list}\n  {p.name} = s-{p.name} .now\n"
         yield "  -- what `ring`'s call is passed, what it leaves, and what it says"
-        yield "  abbrev to-call : Call 𝓤 H A mem run .Ghost"
-        yield "  to-call = (({}, {}, tt, {}, {}), tt)\n".format(*self.core)
-        yield f"  abbrev Had : Fml\n  Had = {self.had()}\n"
-        yield f"  abbrev Rest : {self.R} → Fml\n  Rest r = {self.left()}\n"
-        lengths = "".join(f"(length ({self.last('r', p)}) ≡ length {p.name}) × (" for p in self.muts)
-        yield f"  abbrev Said : {self.R} → Val → Type 0"
-        yield f"  Said r w = Is Answer·.the-row (r .0) (w ∷ []) × ({lengths}{self.ensured(lambda p: self.last('r', p))} (r .0))" + ")" * len(self.muts) + "\n"
+        yield from self.stated()
         yield from self.said()
         yield f"\n  abbrev Post : Val → SProp 𝓤\n  Post = walkOf 𝓤 H A this.ended stayed (this.clauses 𝓤 H A mem run) .post {self.bound}\n"
         yield "  module _ (C : Calls 𝓤 H) (Λ : Loops 𝓤 H) (fm : FmC 𝓤 H (W .laws) C) (known-call : Triple 𝓤 (C call-def.name) (Call 𝓤 H A mem run)) (known-code : Triple 𝓤 (C code-def.name) (Code 𝓤 H A mem run)) where"
-        yield f"    walk : ent 𝓤 (onEntry 𝓤 H A this.signature {κs} {qs} {args} {vals}) (WpFn 𝓤 H C Λ code.function ({self.flat}) Post)"
-        lines = list(self.walk())
-        lines[-1] += ")" * sum(t.count("(") - t.count(")") for t in lines)
-        yield "    walk =\n" + "\n".join("        " + t for t in lines) + "\n"
-        n = self.J + 1
-        goes = nest([p.goes(n) for p in self.params] + [f"goes-gave-ref 𝓤 H A W {n} {self.J} tt (plain (λ _. usize))"])
-        spells = nest([p.vals() for p in self.params] + ["ptr-vals"])
-        tells = nest([p.tells() for p in self.params] + [f"mut-tells (named {self.J}) ({at('κs', self.J)}) usize"])
-        x = at("a", len(self.params))
-        passed = "".join(p.passed() for p in self.params) + f" ({at('κs', self.J)}) ({at('qs', self.J)}) ({x} .ptr .0) ({x} .ptr .1) ({x} .name) ({x} .now)"
-        yield TAIL.format(dashed=self.dashed, goes=goes, spells=spells, tells=tells, passed=passed, call=self.call)
+        yield from self.walk()
+        yield self.met()
 
 
 HEAD = """use mathlib.Core.Path.{{_≡_, refl, sym, subst}}

@@ -1,11 +1,10 @@
 -- The four numbers of a scan give back what it says.
 use mathlib.Core.Path.{_≡_, refl, sym, _∙_, ap, ap₂, subst}
-use mathlib.Core.Bool.{Bool, cond}
 use mathlib.Core.List.{List, [], _∷_}
 use Prim.Native.Nat.{ℕ}
 use Rattle.calls.specs.declared.Refusal.{Refusal}
-use Rattle.calls.specs.Codes.{refusal-of, number-of, place-of}
-use Rattle.calls.proofs.Coding.{refusal-back}
+use Rattle.calls.specs.Codes.{number-of, place-of}
+use Rattle.calls.proofs.Coding.{decoded}
 use Rattle.ringfile.specs.declared.Scanned.{Scanned}
 use Rattle.ringfile.specs.declared.Scanned.the-variants.{Ring, Refused}
 use Rattle.ringfile.specs.RingFile.{Says}
@@ -13,9 +12,7 @@ use Rattle.exports.specs.Scan.{scanned, scan-code, ScanCoded}
 
 refused-back : (why : Refusal) → scanned (number-of why) (place-of why) 0 0 ≡ Refused why
 unfolding scanned
-refused-back why =
-    ap (λ (b : Bool). cond b (Ring (place-of why) 0 0) (Refused (refusal-of (number-of why) (place-of why)))) (refusal-back why .0)
-    ∙ ap Refused (refusal-back why .1)
+refused-back why = decoded (Ring (place-of why) 0 0) Refused why
 
 module _ (x : List ℕ) (f : Scanned) (says : Says x f) where
   pub ring-coded : (n h l : ℕ) → f ≡ Ring n h l → Says x (scanned 0 n h l) × ScanCoded 0 n h l
