@@ -39,7 +39,10 @@ fn walk(toks: &[u16], book: &[u64], n: usize, numbers: &[u16], out: &mut [u16]) 
         let mut next = [0u16; 512];
         let got = update::join(&out[0..m], &book[at..end], n, &mut next);
         let Updated::Tokens(k) = got else {
-            return Reached { left: left, tokens: m };
+            return Reached {
+                left: left,
+                tokens: m,
+            };
         };
         m = tokens::copy(&next[0..k], out);
         left -= 1;

@@ -104,7 +104,7 @@ go-on-part-halves-end-2 : (t : ℕ) → go-on-lts.Need-part-halves-end-2 (go-on-
 go-on-part-halves-end-2 t c = search needs
 
 go-on-halves-requires : (t : ℕ) → go-on-lts.Need-halves-requires (go-on-calls t) (go-on-at t) go-on.Post
-go-on-halves-requires t c κs = 
+go-on-halves-requires t c κs =
     let p = c .before .before .before .before .before .before .before .before .before .before .before .before .before .pre .1 .0 in
     let w = joined (c .before .before .before .before .before) (p .0) (p .1) (p .2) (p .3) .0 in
     (omega (arith, c .before .before .before .before .before .before .before .before .before .before .before .before .before .pre .0), (subst (Stands (c .before .before .before .before .before .before .before .before .before .before .before .before .before .args .n)) (sym (part-start (c .before .before .before .before .before .walk .result .tokens) (c .before .before .before .before .before .walk .last .1 .1 .1 .1 .0))) (walked-stands w (p .4)), c .before .before .before .before .before .before .before .before .before .before .before .before .before .pre .1 .1, c .before .before .before .before .before .before .before .before .before .before .before .before .before .pre .1 .2, omega (arith, c .before .before .before .before .before .before .before .before .before .before .before .before .before .pre .1 .3, c .halves-arg2 .given)))
@@ -121,7 +121,7 @@ go-on-returns-2 t c = (
   omega (arith, c .before .before .halves .ensures .0),
   λ u Gs e rep.
       let w = joined (c .before .before .before .before .before .before .before .before) u Gs e rep .0 in
-      wrote-then (wrote-here (c .before .before .before .before .before .before .before .before .before .before .before .before .before .before .before .before .args .k) (c .before .before .before .before .before .before .before .before .before .before .before .before .before .before .before .before .args .out .now) (omega (arith, c .before .before .before .before .before .before .before .before .before .before .before .before .before .before .before .before .pre .1 .3)))
+      wrote-then {ys = keeps (c .before .before .before .before .before .before .before .before .before .before .before .before .before .before .before .before .args .n) (group (c .before .before .before .before .before .before .before .before .before .before .before .before .before .before .before .before .args .book .now)) (Gs ++ map (group (c .before .before .before .before .before .before .before .before .before .before .before .before .before .before .before .before .args .book .now)) (take (c .before .before .before .before .before .before .before .before .before .before .before .before .before .before .before .before .args .k) (c .before .before .before .before .before .before .before .before .before .before .before .before .before .before .before .before .args .out .now))) (c .before .before .before .before .before .before .before .before .before .before .before .before .before .before .before .before .args .numbers .now)} (wrote-here (c .before .before .before .before .before .before .before .before .before .before .before .before .before .before .before .before .args .k) (c .before .before .before .before .before .before .before .before .before .before .before .before .before .before .before .before .args .out .now) (omega (arith, c .before .before .before .before .before .before .before .before .before .before .before .before .before .before .before .before .pre .1 .3)))
       (c .before .before .halves .ensures .1 (w .tree) (Gs ++ map (group (c .before .before .before .before .before .before .before .before .before .before .before .before .before .before .before .before .args .book .now)) (take (c .before .before .before .before .before .before .before .before .before .before .before .before .before .before .before .before .args .k) (c .before .before .before .before .before .before .before .before .before .before .before .before .before .before .before .before .args .out .now))) (part-start (c .before .before .before .before .before .before .before .before .walk .result .tokens) (c .before .before .before .before .before .before .before .before .walk .last .1 .1 .1 .1 .0) ∙ w .text) (walked-all w (omega (arith, c .before .before .before .before .before .before .if1 .left)))),
 )
 
@@ -196,7 +196,7 @@ halves-part-go-on-end : (t : ℕ) → halves-lts.Need-part-go-on-end (halves-cal
 halves-part-go-on-end t c = search needs
 
 halves-go-on-requires : (t : ℕ) → halves-lts.Need-go-on-requires (halves-calls t) (halves-at t) halves.Post
-halves-go-on-requires t c κs = 
+halves-go-on-requires t c κs =
     let from = (length (c .before .before .before .before .before .before .before .before .before .before .before .before .before .args .numbers .now) / 2) + c .before .before .before .before .before .walk .result .left in
     let j = (getD (c .before .before .before .before .before .before .before .before .before .before .before .before .before .args .numbers .now) ((length (c .before .before .before .before .before .before .before .before .before .before .before .before .before .args .numbers .now) / 2) + c .before .before .before .before .before .walk .result .left - 1) 0) in
     let h = far (c .before .before .before .before .before) in
@@ -209,7 +209,7 @@ halves-same-length-2 : (t : ℕ) → halves-lts.Need-same-length-2 (halves-calls
 halves-same-length-2 t c = c .before .before .go-on .kept .1 .1 .1 .1 .1 .0 ∙ length-set (c .before .before .before .before .before .before .before .before .before .before .before .before .before .before .before .before .args .out .now) 0 (getD (c .before .before .before .before .before .before .before .before .before .before .before .before .before .before .before .before .args .numbers .now) ((length (c .before .before .before .before .before .before .before .before .before .before .before .before .before .before .before .before .args .numbers .now) / 2) + c .before .before .before .before .before .before .before .before .walk .result .left - 1) 0)
 
 halves-returns-2 : (t : ℕ) → halves-lts.Need-returns-2 (halves-calls t) (halves-at t) halves.Post
-halves-returns-2 t c = 
+halves-returns-2 t c =
     let from = (length (c .before .before .before .before .before .before .before .before .before .before .before .before .before .before .before .before .args .numbers .now) / 2) + c .before .before .before .before .before .before .before .before .walk .result .left in
     let j = (getD (c .before .before .before .before .before .before .before .before .before .before .before .before .before .before .before .before .args .numbers .now) ((length (c .before .before .before .before .before .before .before .before .before .before .before .before .before .before .before .before .args .numbers .now) / 2) + c .before .before .before .before .before .before .before .before .walk .result .left - 1) 0) in
     let h = far (c .before .before .before .before .before .before .before .before) in (
@@ -240,7 +240,7 @@ halves-part-halves-end-2 : (t : ℕ) → halves-lts.Need-part-halves-end-2 (halv
 halves-part-halves-end-2 t c = omega arith
 
 halves-halves-requires : (t : ℕ) → halves-lts.Need-halves-requires (halves-calls t) (halves-at t) halves.Post
-halves-halves-requires t c κs = 
+halves-halves-requires t c κs =
     let p = c .before .before .before .before .before .before .before .before .before .before .before .before .before .before .pre .1 .0 in
     let w = down (c .before .before .before .before .before .before) (p .0) (p .1) (p .2) (p .3) .0 in
     let half = ap length (part-start (length (c .before .before .before .before .before .before .before .before .before .before .before .before .before .before .args .numbers .now) / 2) (c .before .before .before .before .before .before .before .before .before .before .before .before .before .before .args .numbers .now)) in
@@ -268,7 +268,7 @@ halves-part-go-on-end-2 : (t : ℕ) → halves-lts.Need-part-go-on-end-2 (halves
 halves-part-go-on-end-2 t c = omega arith
 
 halves-go-on-requires-2 : (t : ℕ) → halves-lts.Need-go-on-requires-2 (halves-calls t) (halves-at t) halves.Post
-halves-go-on-requires-2 t c κs = 
+halves-go-on-requires-2 t c κs =
     let p = c .before .before .before .before .before .before .before .before .before .before .before .before .before .before .before .before .before .before .before .pre .1 .0 in
     let a = first (c .before .before .before .before) (p .0) (p .1) (p .2) (p .3) in
     let rest = ap length (whole (c .before .before .before .before .before .before .before .before .before .before .before .before .before .before .before .before .before .before .before .args .numbers .now) (length (c .before .before .before .before .before .before .before .before .before .before .before .before .before .before .before .before .before .before .before .args .numbers .now) / 2)) in

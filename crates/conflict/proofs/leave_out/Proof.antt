@@ -52,7 +52,7 @@ part-go-on-end : tie.Need-part-go-on-end
 part-go-on-end c = search needs
 
 go-on-requires : tie.Need-go-on-requires
-go-on-requires c κs = 
+go-on-requires c κs =
     let left = c .before .before .before .before .before .walk .result .left in
     let j = (getD (c .before .before .before .before .before .before .before .before .before .before .before .args .numbers .now) (c .before .before .before .before .before .walk .result .left - 1) 0) in
     let h = c .before .before .before .before .before .walk .ensures .0 in

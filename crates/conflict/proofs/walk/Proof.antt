@@ -85,7 +85,7 @@ slice-aggregate-join : tie.Need-slice-aggregate-join Inv-loop μ-loop
 slice-aggregate-join c = search needs
 
 join-requires : tie.Need-join-requires Inv-loop μ-loop
-join-requires c κs = 
+join-requires c κs =
     let p = c .before .before .before .before .before .before .before .before .before .before .before .before .before .before .before .pre .0 in
     let w = c .before .before .before .before .before .before .loop .inv .3 (p .0) (p .1) (p .2) (p .3) in
     let r = number (c .before .before .before .before) in
@@ -126,7 +126,7 @@ part-copy-end : tie.Need-part-copy-end Inv-loop μ-loop
 part-copy-end c = let p = c .before .before .before .before .before .before .before .before .before .before .before .before .before .before .before .before .before .before .before .before .before .pre .0 in let x = after (c .before) (p .0) (p .1) (p .2) (p .3) in omega (arith, x .room)
 
 copy-requires-2 : tie.Need-copy-requires-2 Inv-loop μ-loop
-copy-requires-2 c κs = 
+copy-requires-2 c κs =
     let p = c .before .before .before .before .before .before .before .before .before .before .before .before .before .before .before .before .before .before .before .before .before .before .before .pre .0 in
     let w = c .before .before .before .before .before .before .before .before .before .before .before .before .before .before .loop .inv .3 (p .0) (p .1) (p .2) (p .3) in
     let x = after (c .before .before .before) (p .0) (p .1) (p .2) (p .3) in
