@@ -9,8 +9,8 @@ use borrow.Author.Tests.{ne-eqb, le-ltb, eqb-false, ltb-false}
 use lib.Dec.{eqb, ltb}
 use lib.ListN.{length, take, drop, replicate, length-append, length-replicate}
 use lib.Seq.{take-append-seam}
-use Rattle.orders.specs.Lists.{elem}
-use Rattle.orders.specs.CircularOrder.{WellFormed}
+use Rattle.orders.specs.Lists.{elem, range}
+use Rattle.orders.specs.CircularOrder.{Restriction, WellFormed}
 use Rattle.orders.specs.Conflict.{conflict-list, Numbers}
 use Rattle.orders.proofs.Conflicts.{conflict-demand-3}
 use Rattle.calls.specs.declared.Refusal.{Refusal}
@@ -27,10 +27,10 @@ use Rattle.book.specs.declared.Checked.the-variants.{Bad}
 use Rattle.book.specs.Lists.{verdict}
 use Rattle.book.proofs.Laws.{few-groups}
 use Rattle.tokens.specs.Tokens.{Wrote}
-use Rattle.conflict.specs.LeavingOut.{groups-from, conflicts-from}
+use Rattle.conflict.specs.LeavingOut.{group, conflicts-among}
 use Rattle.conflict.specs.Demand.{LentBook, Named}
-use Rattle.conflict.proofs.Places.{from-length, from-all}
-use Rattle.conflict.proofs.Trees.{conflicts-all}
+use Rattle.conflict.proofs.Keeping.{rule-list}
+use Rattle.conflict.proofs.Places.{groups-numbered, groups-length}
 
 module _ (n : ℕ) (book : List ℕ) (count : ℕ) (list table : List ℕ) where
   -- What passes.
@@ -70,17 +70,15 @@ module _ (n : ℕ) (book : List ℕ) (count : ℕ) (list table : List ℕ) where
 
 -- The whole list.
 pub list-is : (n : ℕ) (book : List ℕ) (count : ℕ) (list : List ℕ)
-    → conflicts-from n (elem list) [] 1 (groups-from book 0 count) ≡ conflicts-of n book count list
+    → conflicts-among n (group book) (elem list ∷ []) (range 1 count) ≡ conflicts-of n book count list
 unfolding conflicts-of
-list-is n book count list = rw (from-all book count) (conflicts-all n (groups book count) (elem list))
+list-is n book count list =
+    rule-list n (group book) (elem list) count ∙ ap (λ (Gs : List Restriction). conflict-list n Gs (elem list)) (sym (groups-numbered book count))
 
 -- There are no more numbers than groups.
 numbers-few : (k m : ℕ) (ns : List ℕ) → Numbers k m ns → k ≤ m → length ns + k ≤ m
 numbers-few k m [] h l = omega arith
 numbers-few k m (j ∷ ns) h l = omega (arith, h .0, h .1, numbers-few (suc j) m ns (h .2) (omega (arith, h .1)))
-
-pub groups-length : (book : List ℕ) (count : ℕ) → length (groups book count) ≡ count
-groups-length book count = let e : count - 0 ≡ count = omega arith in ap length (sym (from-all book count)) ∙ from-length book 0 count ∙ e
 
 pub list-few : (n : ℕ) (book : List ℕ) (count : ℕ) (list : List ℕ) → length (conflicts-of n book count list) ≤ count
 unfolding conflicts-of

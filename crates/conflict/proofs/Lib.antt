@@ -1,5 +1,7 @@
--- The groups of a book by place; a tree and the groups whose orders it allows; what joining writes; the call.
+-- The leaving-out rule over numbers; a tree and the groups whose orders it allows; what joining writes; parts of lists; the call.
+pub mod Keeping
 pub mod Places
 pub mod Trees
 pub mod Joined
+pub mod Written
 pub mod Call

@@ -1,60 +1,65 @@
--- The groups of a book from a place up to another.
-use mathlib.Core.Path.{_≡_, refl, sym, ap, _∙_}
-use mathlib.Core.List.{List, [], _∷_, _++_, map, map-append}
-use Prim.Native.Nat.{ℕ, suc, _+_, _-_, _*_, _≤_, _<_}
+-- The groups of a book by their numbers, and parts of lists.
+use mathlib.Core.Path.{_≡_, refl, sym, ap, ap₂, subst, _∙_}
+use mathlib.Core.List.{List, [], _∷_, _++_, map}
+use Prim.Native.Nat.{ℕ, zero, suc, _+_, _-_, _*_, _≤_, _<_}
 use native.Mathlib.Omega.{arith}
-use lib.ListN.{length, take, drop}
+use lib.ListN.{length, take, drop, getD, take-append-drop}
+use lib.Seq.{drop-cons}
 use Rattle.orders.specs.Lists.{range}
 use Rattle.orders.specs.CircularOrder.{Restriction}
-use Rattle.orders.proofs.Ranges.{range-length, range-append}
+use Rattle.orders.proofs.ListLaws.{all-left, all-right}
+use Rattle.orders.proofs.Members.{in-all}
+use Rattle.orders.proofs.Ranges.{range-length, range-append, in-range}
 use Rattle.marks.specs.Marks.{marked}
 use Rattle.calls.specs.Book.{group-words, groups}
 use Rattle.book.proofs.Laws.{group-part}
-use Rattle.conflict.specs.LeavingOut.{group-at, groups-from}
+use Rattle.conflict.specs.LeavingOut.{group, InBook}
+
+-- The groups are those with the numbers from 1 on.
+numbered : (book : List ℕ) (a m : ℕ) → map (λ k. marked (group-words book k)) (range a m) ≡ map (group book) (range (suc a) m)
+unfolding group
+numbered book a zero = refl
+numbered book a (suc m) =
+    let e : a ≡ suc a - 1 = omega arith in
+    ap₂ (λ (G : Restriction) (l : List Restriction). G ∷ l) (ap (λ (k : ℕ). marked (group-words book k)) e) (numbered book (suc a) m)
+
+pub groups-numbered : (book : List ℕ) (count : ℕ) → groups book count ≡ map (group book) (range 1 count)
+unfolding groups
+groups-numbered book count = numbered book 0 count
 
 map-length : {A B : Type 0} (f : A → B) (l : List A) → length (map f l) ≡ length l
 map-length f [] = refl
 map-length f (x ∷ l) = ap suc (map-length f l)
 
-pub from-none : (book : List ℕ) (k : ℕ) → groups-from book k k ≡ []
-unfolding groups-from
-from-none book k = let e : k - k ≡ 0 = omega arith in rw e
-
-pub from-all : (book : List ℕ) (count : ℕ) → groups-from book 0 count ≡ groups book count
-unfolding groups-from groups group-at
-from-all book count = let e : count - 0 ≡ count = omega arith in rw e
-
-pub from-length : (book : List ℕ) (k count : ℕ) → length (groups-from book k count) ≡ count - k
-unfolding groups-from
-from-length book k count = map-length (group-at book) (range k (count - k)) ∙ range-length k (count - k)
-
--- Cut at a place; the group at a place between those before and after it; the last one by itself.
-from-cut : (book : List ℕ) (k m count : ℕ) → k ≤ m → m ≤ count → groups-from book k count ≡ groups-from book k m ++ groups-from book m count
-unfolding groups-from
-from-cut book k m count h g =
-    let e : count - k ≡ (m - k) + (count - m) = omega arith in
-    let d : k + (m - k) ≡ m = omega arith in
-    ap (λ (i : ℕ). map (group-at book) (range k i)) e
-    ∙ ap (map (group-at book)) (range-append k (m - k) (count - m) ∙ ap (λ (i : ℕ). range k (m - k) ++ range i (count - m)) d)
-    ∙ map-append (group-at book) (range k (m - k)) (range m (count - m))
-
-from-one : (book : List ℕ) (k m : ℕ) → m ≡ suc k → groups-from book k m ≡ group-at book k ∷ []
-unfolding groups-from
-from-one book k m h = let e : m - k ≡ 1 = omega arith in rw e
-
-pub from-split : (book : List ℕ) (k r count : ℕ) → k < r → r ≤ count
-    → groups-from book k count ≡ groups-from book k (r - 1) ++ (group-at book (r - 1) ∷ groups-from book r count)
-from-split book k r count h g =
-    from-cut book k (r - 1) count (omega arith) (omega arith)
-    ∙ ap (λ (l : List Restriction). groups-from book k (r - 1) ++ l)
-    (from-cut book (r - 1) r count (omega arith) g ∙ ap (λ (l : List Restriction). l ++ groups-from book r count) (from-one book (r - 1) r (omega arith)))
-
-pub from-last : (book : List ℕ) (k count : ℕ) → k < count → groups-from book k count ≡ groups-from book k (count - 1) ++ (group-at book (count - 1) ∷ [])
-from-last book k count h =
-    from-split book k count count h (omega arith)
-    ∙ ap (λ (l : List Restriction). groups-from book k (count - 1) ++ (group-at book (count - 1) ∷ l)) (from-none book count)
+pub groups-length : (book : List ℕ) (count : ℕ) → length (groups book count) ≡ count
+groups-length book count = ap length (groups-numbered book count) ∙ map-length (group book) (range 1 count) ∙ range-length 1 count
 
 -- The part of the book that a function is lent.
-pub part-group : (book : List ℕ) (k : ℕ) → marked (take (4 * k + 4 - 4 * k) (drop (4 * k) book)) ≡ group-at book k
-unfolding group-at
-part-group book k = ap marked (group-part book k)
+pub part-group : (book : List ℕ) (j : ℕ) → marked (take (4 * (j - 1) + 4 - 4 * (j - 1)) (drop (4 * (j - 1)) book)) ≡ group book j
+unfolding group
+part-group book j = ap marked (group-part book (j - 1))
+
+-- A part from the start; from a place on; an element and those behind it.
+pub part-start : (m : ℕ) (l : List ℕ) → take (m - 0) (drop 0 l) ≡ take m l
+part-start m l = let e : m - 0 ≡ m = omega arith in rw e
+
+pub from-before : (l : List ℕ) (k : ℕ) → 0 < k → k ≤ length l → drop (k - 1) l ≡ getD l (k - 1) 0 ∷ drop k l
+from-before l k h g = let e : suc (k - 1) ≡ k = omega arith in subst (λ (i : ℕ). drop (k - 1) l ≡ getD l (k - 1) 0 ∷ drop i l) e (drop-cons l (k - 1) 0 (omega arith))
+
+-- Numbers of the book: a part of them, one of them, all of them.
+pub book-take : (k : ℕ) (l : List ℕ) → InBook l → InBook (take k l)
+book-take k l h = all-left (λ j. (1 ≤ j) × (j ≤ 96)) (take k l) (drop k l) (subst InBook (sym (take-append-drop k l)) h)
+
+pub book-drop : (k : ℕ) (l : List ℕ) → InBook l → InBook (drop k l)
+book-drop k l h = all-right (λ j. (1 ≤ j) × (j ≤ 96)) (take k l) (drop k l) (subst InBook (sym (take-append-drop k l)) h)
+
+pub book-at : (l : List ℕ) (i : ℕ) → i < length l → InBook l → (1 ≤ getD l i 0) × (getD l i 0 ≤ 96)
+book-at [] i h a = absurd (omega arith)
+book-at (x ∷ l) zero h a = a .0
+book-at (x ∷ l) (suc i) h a = book-at l i (omega arith) (a .1)
+
+pub numbers-in-book : (count : ℕ) → count ≤ 96 → InBook (range 1 count)
+numbers-in-book count h = in-all (λ j. (1 ≤ j) × (j ≤ 96)) (range 1 count) (λ j i. let r = in-range 1 count j i in (r .0, omega (arith, r .1)))
+
+pub numbers-more : (i : ℕ) → range 1 (i + 1) ≡ range 1 i ++ ((i + 1) ∷ [])
+numbers-more i = let e : 1 + i ≡ i + 1 = omega arith in range-append 1 i 1 ∙ ap (λ (k : ℕ). range 1 i ++ (k ∷ [])) e

@@ -1,26 +1,26 @@
--- A tree and the groups whose orders it allows; where a walk from the last group stops; what the leaving-out rule keeps next.
+-- A tree and the groups whose orders it allows; where a walk down stops, and what the leaving-out rule then keeps.
 use mathlib.Core.Path.{_≡_, refl, sym, ap, subst, _∙_}
 use mathlib.Core.Logic.{_↔_}
-use mathlib.Core.Bool.{Bool, true, false, cond}
 use mathlib.Core.Option.{Option, none, some}
-use mathlib.Core.List.{List, [], _∷_, _++_, append-assoc, append-nil}
+use mathlib.Core.List.{List, [], _∷_, _++_, map, map-append, append-nil}
 use Prim.Native.Nat.{ℕ, suc, _+_, _-_, _≤_, _<_}
 use native.Mathlib.Omega.{arith}
-use lib.ListN.{length}
+use lib.ListN.{length, take, drop, getD, take-append-drop}
+use lib.Seq.{drop-length, drop-drop}
 use Rattle.orders.specs.CircularOrder.{CircularOrder, Restriction, Consecutive, AllConsecutive, Possible}
 use Rattle.orders.specs.Tree.{Forest, Allowed}
 use Rattle.orders.specs.Form.{standard}
 use Rattle.orders.specs.Join.{fresh, join}
-use Rattle.orders.specs.Conflict.{possible?, leave-out, conflict-list}
 use Rattle.orders.proofs.ListLaws.{all-append, all-left, all-right}
 use Rattle.orders.proofs.StandardOrders.{standard-allowed}
 use Rattle.orders.proofs.Joining.{Allows, join-orders, Joined, join-some}
 use Rattle.orders.proofs.Fresh.{fresh-form, fresh-allowed}
-use Rattle.orders.proofs.Decide.{possible-decides}
-use Rattle.orders.proofs.Members.{false-if}
-use Rattle.orders.proofs.Conflicts.{fewer, one-possible, leave-out-next, leave-out-none}
-use Rattle.conflict.specs.LeavingOut.{group-at, groups-from, Represents, Reaches, conflicts-from}
-use Rattle.conflict.proofs.Places.{from-none, from-length, from-split, from-last}
+use Rattle.orders.proofs.Conflicts.{fewer, one-possible}
+use Rattle.parts.specs.Writers.{flat}
+use Rattle.update.specs.Update.{Published}
+use Rattle.conflict.specs.LeavingOut.{Represents, Stands, Walked, Stops, keeps, goes-on, conflicts-among}
+use Rattle.conflict.proofs.Keeping.{keeps-behind, keeps-next, goes-on-none, among-none, among-some}
+use Rattle.conflict.proofs.Places.{from-before}
 
 -- The fresh tree stands for no group; a group joins.
 pub none-represented : (n : ℕ) → Represents n [] (fresh n)
@@ -57,117 +57,82 @@ one-represented n G e = joined-represented G (none-represented n) (G ∷ []) (λ
 pub one-joins : (n : ℕ) (G : Restriction) → join G (fresh n) ≡ none → ⊥
 one-joins n G e = joined-not G (none-represented n) (G ∷ []) (λ ord w. (tt, w .0)) e (one-possible n G)
 
--- A group before the others, or after them.
-last-all : (Gs l : List Restriction) (G : Restriction) (ord : List ℕ) → AllConsecutive (Gs ++ (l ++ (G ∷ []))) ord → AllConsecutive ((G ∷ Gs) ++ l) ord
-last-all Gs l G ord w =
-    let r = all-right _ Gs (l ++ (G ∷ [])) w in
-    (all-right _ l (G ∷ []) r .0, all-append _ Gs l (all-left _ Gs (l ++ (G ∷ [])) w) (all-left _ l (G ∷ []) r))
+pub stands-published : {n : ℕ} {toks : List ℕ} → Stands n toks → Published n toks
+stands-published s = (s .0, s .2, s .3 .form, s .4)
 
-first-all : (Gs l : List Restriction) (G : Restriction) (ord : List ℕ) → AllConsecutive ((G ∷ Gs) ++ l) ord → AllConsecutive (Gs ++ (l ++ (G ∷ []))) ord
-first-all Gs l G ord w = all-append _ Gs (l ++ (G ∷ [])) (all-left _ Gs l (w .1)) (all-append _ l (G ∷ []) (all-right _ Gs l (w .1)) (w .0, tt))
+-- One group more, anywhere.
+one-more : (Gs l : List Restriction) (G : Restriction) (ord : List ℕ) → AllConsecutive (Gs ++ (G ∷ l)) ord ↔ (AllConsecutive (Gs ++ l) ord × Consecutive G ord)
+one-more Gs l G ord = (
+  (λ w. let r = all-right _ Gs (G ∷ l) w in (all-append _ Gs l (all-left _ Gs (G ∷ l) w) (r .1), r .0)),
+  (λ w. all-append _ Gs (G ∷ l) (all-left _ Gs l (w .0)) (w .1, all-right _ Gs l (w .0))),
+)
 
--- A walk down from the last group: no group; the last one cannot join; it joins, and the walk goes on.
-pub reaches-none : {n : ℕ} {Gs : List Restriction} {t : Forest} (book : List ℕ) (k count : ℕ) → Represents n Gs t → k ≤ count → count ≤ k
-    → Reaches n Gs book k count k
-reaches-none {n} {Gs} book k count rep h g = record {
-  possible = let e : count ≡ k = omega arith in rw (e, from-none book k, append-nil) (represented-possible rep);
-  one-more = λ l. absurd (omega arith);
-}
+-- All numbers, and those behind some.
+behind : (n : ℕ) (f : ℕ → Restriction) (Gs : List Restriction) (js : List ℕ) (i : ℕ) → Possible n (Gs ++ map f js) → Possible n (Gs ++ map f (drop i js))
+behind n f Gs js i = fewer n (Gs ++ map f js) (Gs ++ map f (drop i js)) (λ ord w.
+    let v = subst (λ l. AllConsecutive (Gs ++ l) ord) (ap (map f) (sym (take-append-drop i js)) ∙ map-append f (take i js) (drop i js)) w in
+    all-append _ Gs (map f (drop i js)) (all-left _ Gs (map f (take i js) ++ map f (drop i js)) v)
+    (all-right _ (map f (take i js)) (map f (drop i js)) (all-right _ Gs (map f (take i js) ++ map f (drop i js)) v)))
 
-pub reaches-last : {n : ℕ} {Gs : List Restriction} {t : Forest} (book : List ℕ) (k count r : ℕ) → Represents n Gs t → k < count → r ≡ count
-    → join (group-at book (count - 1)) t ≡ none → Reaches n Gs book k count r
-reaches-last {n} {Gs} book k count r rep h q e = rw q (record {
-  possible = rw (from-none book count, append-nil) (represented-possible rep);
-  one-more = λ l. joined-not G rep (Gs ++ groups-from book (count - 1) count)
-      (λ ord w. let v = last-all Gs before G ord (subst (λ l. AllConsecutive (Gs ++ l) ord) last w) in (all-left _ Gs before (v .1), v .0)) e;
-})
-  where
+module _ {n : ℕ} {f : ℕ → Restriction} {Gs : List Restriction} where
+  -- A walk begins; one group more joins; it cannot.
+  pub walk-begins : {t : Forest} (js : List ℕ) {toks : List ℕ} → Represents n Gs t → toks ≡ flat t → Walked n f Gs js (length js) toks
+  walk-begins {t} js rep e = record {
+    tree = t;
+    text = e;
+    stands = subst (λ Hs. Represents n Hs t) (sym (append-nil Gs) ∙ ap (λ (l : List ℕ). Gs ++ map f l) (sym (drop-length js))) rep;
+  }
+
+  module _ {js : List ℕ} {left : ℕ} {toks : List ℕ} (w : Walked n f Gs js left toks) (h : 0 < left) (g : left ≤ length js) where
     G : Restriction
-    G = group-at book (count - 1)
+    G = f (getD js (left - 1) 0)
 
-    before : List Restriction
-    before = groups-from book (count - 1) (count - 1)
+    more : (ord : List ℕ) → AllConsecutive (Gs ++ map f (drop (left - 1) js)) ord ↔ (AllConsecutive (Gs ++ map f (drop left js)) ord × Consecutive G ord)
+    unfolding G
+    more ord = subst (λ l. AllConsecutive (Gs ++ map f l) ord ↔ (AllConsecutive (Gs ++ map f (drop left js)) ord × Consecutive G ord)) (sym (from-before js left h g))
+        (one-more Gs (map f (drop left js)) G ord)
 
-    last : groups-from book (count - 1) count ≡ before ++ (G ∷ [])
-    last = from-last book (count - 1) count (omega arith)
+    pub walk-joins : {u : Forest} {new : List ℕ} → join (f (getD js (left - 1) 0)) (w .tree) ≡ some u → new ≡ flat u → Walked n f Gs js (left - 1) new
+    unfolding G
+    walk-joins {u} e q = record { tree = u; text = q; stands = joined-represented G (w .stands) (Gs ++ map f (drop (left - 1) js)) more e }
 
-pub reaches-more : {n : ℕ} {Gs : List Restriction} (book : List ℕ) (k count r : ℕ) → k < count → r ≤ count - 1
-    → Reaches n (group-at book (count - 1) ∷ Gs) book k (count - 1) r → Reaches n Gs book k count r
-reaches-more {n} {Gs} book k count r h g s = record {
-  possible = subst (λ l. Possible n (Gs ++ l)) (sym (from-last book r count (omega arith)))
-      (fewer n _ _ (first-all Gs (groups-from book r (count - 1)) G) (s .possible));
-  one-more = λ l p. s .one-more l (fewer n _ _ (last-all Gs (groups-from book (r - 1) (count - 1)) G)
-      (subst (λ l. Possible n (Gs ++ l)) (from-last book (r - 1) count (omega arith)) p));
-}
-  where
-    G : Restriction
-    G = group-at book (count - 1)
+    pub walk-stops : join (f (getD js (left - 1) 0)) (w .tree) ≡ none → Stops n f Gs js left
+    unfolding G
+    walk-stops e = record { one-more = λ l. joined-not G (w .stands) (Gs ++ map f (drop (left - 1) js)) (λ ord. more ord .0) e }
 
--- What is kept: nothing; the group that the walk could not reach, and what is kept after it; that group alone.
-module _ (n : ℕ) (new : Restriction) (kept : List Restriction) where
-  choice : ℕ → List Restriction → Bool → List ℕ
-  choice k rest b = elim b [ true ↦ [] | false ↦ leave-out n new kept k rest ]
+  pub walk-ends : {js : List ℕ} → Stops n f Gs js 0
+  walk-ends = record { one-more = λ h. absurd (omega (arith, h)) }
 
-  when-possible : (k : ℕ) (rest : List Restriction) → Possible n (new ∷ (kept ++ rest)) → conflicts-from n new kept k rest ≡ []
-  unfolding conflicts-from choice
-  when-possible k rest p = ap (choice k rest) (possible-decides n (new ∷ (kept ++ rest)) .1 p)
+  pub walked-stands : {js : List ℕ} {left : ℕ} {toks : List ℕ} → Walked n f Gs js left toks → n ≤ 256 → Stands n toks
+  walked-stands {js} {left} w h = (w .tree, Gs ++ map f (drop left js), w .text, w .stands, h)
 
-  when-impossible : (k : ℕ) (rest : List Restriction) → (Possible n (new ∷ (kept ++ rest)) → ⊥) → conflicts-from n new kept k rest ≡ leave-out n new kept k rest
-  unfolding conflicts-from choice
-  when-impossible k rest u = ap (choice k rest) (false-if (possible? n (new ∷ (kept ++ rest))) (λ e. u (possible-decides n (new ∷ (kept ++ rest)) .0 e)))
+  pub walked-all : {js : List ℕ} {left : ℕ} {toks : List ℕ} (w : Walked n f Gs js left toks) → left ≡ 0 → Represents n (Gs ++ map f js) (w .tree)
+  walked-all {js} w e = subst (λ i. Represents n (Gs ++ map f (drop i js)) (w .tree)) e (w .stands)
 
-pub conflicts-all : (n : ℕ) (book : List Restriction) (new : Restriction) → conflicts-from n new [] 1 book ≡ conflict-list n book new
-unfolding conflicts-from conflict-list
-conflicts-all n book new = refl
+  walked-possible : {js : List ℕ} {left : ℕ} {toks : List ℕ} → Walked n f Gs js left toks → Possible n (Gs ++ map f (drop left js))
+  walked-possible w = represented-possible (w .stands)
 
-module _ {n : ℕ} {new : Restriction} {kept : List Restriction} {book : List ℕ} {k count r : ℕ} (s : Reaches n (new ∷ kept) book k count r) where
-  pub conflicts-none : r ≡ k → conflicts-from n new kept (suc k) (groups-from book k count) ≡ []
-  conflicts-none e =
-      when-possible n new kept (suc k) (groups-from book k count) (subst (λ i. Possible n (new ∷ (kept ++ groups-from book i count))) e (s .possible))
+  -- The walk stopped: the number at which it did is kept, and those before it are left out.
+  pub next-kept : (js : List ℕ) (mid left : ℕ) {toks : List ℕ} → Walked n f Gs (drop mid js) left toks → Stops n f Gs (drop mid js) left
+      → 0 < left → mid + left ≤ length js → keeps n f Gs js ≡ goes-on n f Gs (getD js (mid + left - 1) 0 ∷ []) (drop (mid + left) js)
+  next-kept js mid left w s h g =
+      let e : mid + (left - 1) ≡ mid + left - 1 = omega arith in
+      let there = drop-drop (left - 1) mid js ∙ ap (λ (i : ℕ). drop i js) e in
+      ap (keeps n f Gs) (sym (take-append-drop (mid + left - 1) js))
+      ∙ keeps-behind n f Gs (take (mid + left - 1) js) (drop (mid + left - 1) js) (λ p. s .one-more h (subst (λ l. Possible n (Gs ++ map f l)) (sym there) p))
+      ∙ ap (keeps n f Gs) (from-before js (mid + left) (omega arith) g)
+      ∙ keeps-next n f Gs (getD js (mid + left - 1) 0) (drop (mid + left) js) (subst (λ l. Possible n (Gs ++ map f l)) (drop-drop left mid js) (walked-possible w))
 
-  pub conflicts-next : k < r → r ≤ count
-      → conflicts-from n new kept (suc k) (groups-from book k count)
-      ≡ r ∷ conflicts-from n new (kept ++ (group-at book (r - 1) ∷ [])) (suc r) (groups-from book r count)
-  conflicts-next h g =
-      ap (conflicts-from n new kept (suc k)) (from-split book k r count h g)
-      ∙ when-impossible n new kept (suc k) (out ++ (G ∷ rest)) (λ p. u (fewer n _ _ without-out p))
-      ∙ leave-out-next n new kept (suc k) r out G rest (omega (arith, from-length book k (r - 1))) u (s .possible)
-      ∙ ap (λ (l : List ℕ). r ∷ l)
-      (sym (when-impossible n new (kept ++ (G ∷ [])) (suc r) rest (λ p. u (subst (λ l. Possible n (new ∷ l)) (append-assoc kept (G ∷ []) rest) p))))
-    where
-      G : Restriction
-      G = group-at book (r - 1)
+  pub no-more : (kept js : List ℕ) {left : ℕ} → Stops n f Gs kept left → 0 < left → goes-on n f Gs kept js ≡ kept
+  no-more kept js {left} s h = goes-on-none n f Gs kept js (λ p. s .one-more h (behind n f Gs kept (left - 1) p))
 
-      out : List Restriction
-      out = groups-from book k (r - 1)
+  -- A walk down all numbers: all hang together; or the number at which it stopped is the first one kept.
+  pub among-all : (js : List ℕ) {left : ℕ} {toks : List ℕ} → Walked n f Gs js left toks → left ≡ 0 → conflicts-among n f Gs js ≡ []
+  among-all js w e = among-none n f Gs js (subst (λ i. Possible n (Gs ++ map f (drop i js))) e (walked-possible w))
 
-      rest : List Restriction
-      rest = groups-from book r count
-
-      without-out : (ord : List ℕ) → AllConsecutive (new ∷ (kept ++ (out ++ (G ∷ rest)))) ord → AllConsecutive (new ∷ (kept ++ (G ∷ rest))) ord
-      without-out ord w =
-          (w .0, all-append _ kept (G ∷ rest) (all-left _ kept (out ++ (G ∷ rest)) (w .1)) (all-right _ out (G ∷ rest) (all-right _ kept (out ++ (G ∷ rest)) (w .1))))
-
-      here : groups-from book (r - 1) count ≡ G ∷ rest
-      here = from-split book (r - 1) r count (omega arith) g ∙ ap (λ (l : List Restriction). l ++ (G ∷ rest)) (from-none book (r - 1))
-
-      u : Possible n (new ∷ (kept ++ (G ∷ rest))) → ⊥
-      u p = s .one-more h (subst (λ l. Possible n (new ∷ (kept ++ l))) (sym here) p)
-
--- The tree with one group more kept; there is none.
-module _ {n : ℕ} {new : Restriction} {kept : List Restriction} {t : Forest} (G : Restriction) (rep : Represents n (new ∷ kept) t) where
-  apart : (ord : List ℕ) → AllConsecutive (new ∷ (kept ++ (G ∷ []))) ord → AllConsecutive (new ∷ kept) ord × Consecutive G ord
-  apart ord w = ((w .0, all-left _ kept (G ∷ []) (w .1)), all-right _ kept (G ∷ []) (w .1) .0)
-
-  pub kept-represented : {u : Forest} → join G t ≡ some u → Represents n (new ∷ (kept ++ (G ∷ []))) u
-  kept-represented e =
-      joined-represented G rep (new ∷ (kept ++ (G ∷ []))) (λ ord. (apart ord, λ w. (w .0 .0, all-append _ kept (G ∷ []) (w .0 .1) (w .1, tt)))) e
-
-  pub no-more-kept : (k : ℕ) (rest : List Restriction) → join G t ≡ none → conflicts-from n new (kept ++ (G ∷ [])) k rest ≡ []
-  no-more-kept k rest e =
-      when-impossible n new (kept ++ (G ∷ [])) k rest
-      (λ p. u (fewer n _ _ (λ ord w. (w .0, all-left _ (kept ++ (G ∷ [])) rest (w .1))) p))
-      ∙ leave-out-none n new (kept ++ (G ∷ [])) k rest u
-    where
-      u : Possible n (new ∷ (kept ++ (G ∷ []))) → ⊥
-      u = joined-not G rep (new ∷ (kept ++ (G ∷ []))) apart e
+  pub first-kept : (js : List ℕ) (left : ℕ) {toks : List ℕ} → Walked n f Gs js left toks → Stops n f Gs js left → 0 < left → left ≤ length js
+      → conflicts-among n f Gs js ≡ goes-on n f Gs (getD js (left - 1) 0 ∷ []) (drop left js)
+  first-kept js left w s h g =
+      let e : 0 + left ≡ left = omega arith in
+      among-some n f Gs js (λ p. s .one-more h (behind n f Gs js (left - 1) p))
+      ∙ subst (λ i. keeps n f Gs js ≡ goes-on n f Gs (getD js (i - 1) 0 ∷ []) (drop i js)) e (next-kept js 0 left w s h (omega arith))

@@ -1,34 +1,60 @@
--- What the conflict call's functions read and answer, over the groups of a book.
+-- What the conflict call's functions read and answer, over the groups of a book and their numbers.
+use mathlib.Core.Path.{_≡_}
 use mathlib.Core.Logic.{_↔_}
 use mathlib.Core.Bool.{true, false}
 use mathlib.Core.List.{List, [], _∷_, _++_, map}
-use Prim.Native.Nat.{ℕ, _-_, _<_}
-use Rattle.orders.specs.Lists.{range}
+use Prim.Native.Nat.{ℕ, _-_, _<_, _≤_}
+use lib.ListN.{drop}
+use Rattle.orders.specs.Lists.{All}
 use Rattle.orders.specs.CircularOrder.{CircularOrder, Restriction, AllConsecutive, Possible}
 use Rattle.orders.specs.Tree.{Forest, Allowed}
 use Rattle.orders.specs.Form.{InForm}
-use Rattle.orders.specs.Conflict.{possible?, leave-out}
+use Rattle.orders.specs.Conflict.{possible?}
 use Rattle.marks.specs.Marks.{marked}
 use Rattle.calls.specs.Book.{group-words}
+use Rattle.parts.specs.Writers.{flat}
 
--- The group at place k, from 0; those from place k up to the count.
-unfoldable pub group-at : List ℕ → ℕ → Restriction
-group-at book k = marked (group-words book k)
+-- The group with the number j, from 1.
+unfoldable pub group : List ℕ → ℕ → Restriction
+group book j = marked (group-words book (j - 1))
 
-unfoldable pub groups-from : List ℕ → ℕ → ℕ → List Restriction
-groups-from book k count = map (group-at book) (range k (count - k))
+-- Each is the number of a place in the book.
+abbrev pub InBook : List ℕ → Type 0
+InBook js = All (λ j. (1 ≤ j) × (j ≤ 96)) js
 
 -- The tree is in form for n leaves, and it allows exactly the circular orders in which each of the groups is consecutive.
 pub record Represents (n : ℕ) (Gs : List Restriction) (t : Forest) : Type 0 where
   pub form : InForm n t
   pub orders : (ord : List ℕ) → Allowed t ord ↔ (CircularOrder n ord × AllConsecutive Gs ord)
 
--- Going down from the last of the groups from place k up to the count: those from place r on are possible with Gs, and with one more they are
--- not, or there is no other.
-pub record Reaches (n : ℕ) (Gs : List Restriction) (book : List ℕ) (k count r : ℕ) : Type 0 where
-  pub possible : Possible n (Gs ++ groups-from book r count)
-  pub one-more : k < r → Possible n (Gs ++ groups-from book (r - 1) count) → ⊥
+-- The tokens are those of such a tree, for at most 256 leaves.
+abbrev pub Stands : ℕ → List ℕ → Type 0
+Stands n toks = (t : Forest) × (Gs : List Restriction) × (toks ≡ flat t) × Represents n Gs t × (n ≤ 256)
 
--- What the leaving-out rule keeps from the group with the number k on; nothing where all can hang together.
-unfoldable pub conflicts-from : ℕ → Restriction → List Restriction → ℕ → List Restriction → List ℕ
-conflicts-from n new kept k rest = elim (possible? n (new ∷ (kept ++ rest))) [ true ↦ [] | false ↦ leave-out n new kept k rest ]
+-- Going down from the last of the numbers, f their groups: the tokens are those of the tree of Gs and of the groups behind the first `left`
+-- numbers.
+pub record Walked (n : ℕ) (f : ℕ → Restriction) (Gs : List Restriction) (js : List ℕ) (left : ℕ) (toks : List ℕ) : Type 0 where
+  pub tree : Forest
+  pub text : toks ≡ flat tree
+  pub stands : Represents n (Gs ++ map f (drop left js)) tree
+
+-- With one group more they are impossible, or there is no other.
+pub record Stops (n : ℕ) (f : ℕ → Restriction) (Gs : List Restriction) (js : List ℕ) (left : ℕ) : Type 0 where
+  pub one-more : 0 < left → Possible n (Gs ++ map f (drop (left - 1) js)) → ⊥
+
+-- What the leaving-out rule keeps of the groups with these numbers, where Gs stay in any case.
+unfoldable pub keeps : ℕ → (ℕ → Restriction) → List Restriction → List ℕ → List ℕ
+keeps n f Gs [] = []
+keeps n f Gs (j ∷ js) =
+    elim (possible? n (Gs ++ map f js)) [
+      | true ↦ j ∷ keeps n f (Gs ++ (f j ∷ [])) js
+      | false ↦ keeps n f Gs js
+    ]
+
+-- These numbers, and what the rule keeps of others where these are kept.
+unfoldable pub goes-on : ℕ → (ℕ → Restriction) → List Restriction → List ℕ → List ℕ → List ℕ
+goes-on n f Gs kept js = kept ++ keeps n f (Gs ++ map f kept) js
+
+-- What the rule keeps of the groups with these numbers; nothing where all of them can hang together with Gs.
+unfoldable pub conflicts-among : ℕ → (ℕ → Restriction) → List Restriction → List ℕ → List ℕ
+conflicts-among n f Gs js = elim (possible? n (Gs ++ map f js)) [ true ↦ [] | false ↦ keeps n f Gs js ]

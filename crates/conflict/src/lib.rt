@@ -1,64 +1,127 @@
 // The conflict call: which groups of the book are impossible together with a new one, none of them needlessly.
 ghost use mathlib.Core.Path.{_≡_};
-ghost use mathlib.Core.List.{List, _∷_};
-ghost use Prim.Native.Nat.{ℕ, _≤_, _-_, suc};
-ghost use lib.ListN.{length};
+ghost use mathlib.Core.List.{List, [], _∷_};
+ghost use Prim.Native.Nat.{ℕ, _+_, _≤_};
+ghost use lib.ListN.{length, take};
+ghost use Rattle.orders.specs.Lists.{range};
 ghost use Rattle.orders.specs.CircularOrder.{Restriction, WellFormed};
 ghost use Rattle.orders.specs.Tree.{Forest};
 ghost use Rattle.tokens.specs.Tokens.{Wrote};
 ghost use Rattle.parts.specs.Writers.{flat};
-ghost use Rattle.update.specs.Update.{Published};
 ghost use Rattle.calls.specs.Calls.{filled-as, conflict-refusal, conflicts-of, conflict-call};
 ghost use Rattle.book.specs.Lists.{verdict};
-ghost use Rattle.conflict.specs.LeavingOut.{groups-from, Represents, Reaches, conflicts-from};
+ghost use Rattle.conflict.specs.LeavingOut.{group, InBook, Represents, Stands, Walked, Stops, keeps, goes-on, conflicts-among};
 ghost use Rattle.conflict.specs.Demand.{LentBook, Named};
 use book::Checked;
 use calls::Answer;
 use calls::Refusal;
 use update::Updated;
 
-// Joins the groups from the last one, at place count - 1, down to place k to the tree. Answers the place that it reaches: k, or the one above
-// the first group that cannot join.
-fn reach(toks: &[u16], book: &[u64], n: usize, k: usize, count: usize) -> usize
-    requires { ⌜ (Published n (now toks)) × (384 ≤ length (now book)) × (k ≤ count) × (count ≤ 96) ⌝ }
-    ensures { λ r. ⌜ (k ≤ r) × (r ≤ count) × ((t : Forest) (Gs : List Restriction) → now (toks .entry) ≡ flat t → Represents n Gs t
-        → Reaches n Gs (now (book .entry)) k count r) ⌝ }
-{
-    if k >= count {
-        return k;
-    }
-    let last = count - 1;
-    let at = 4 * last;
-    let end = at + 4;
-    let mut next = [0u16; 512];
-    let got = update::join(toks, &book[at..end], n, &mut next);
-    let Updated::Tokens(m) = got else {
-        return last + 1;
-    };
-    reach(&next[0..m], book, n, k, last)
+// A walk's end: how many numbers it did not reach, and how many tokens its tree has.
+pub struct Reached {
+    pub left: usize,
+    pub tokens: usize,
 }
 
-// Writes the numbers that the leaving-out rule keeps of the groups from place k up to the count, and says how many. toks is the tree of the new
-// group and of those kept before. Going down from the last group, the first one that cannot join is the next to be kept.
-fn leave_out(toks: &[u16], book: &[u64], n: usize, k: usize, count: usize, out: &mut [u16]) -> usize
-    requires { ⌜ (Published n (now toks)) × (384 ≤ length (now book)) × (k ≤ count) × (count ≤ 96) × (count - k ≤ length (now out)) ⌝ }
-    ensures { λ r. ⌜ (r ≤ count - k)
-        × ((t : Forest) (new : Restriction) (kept : List Restriction) → now (toks .entry) ≡ flat t → Represents n (new ∷ kept) t
-        → Wrote (conflicts-from n new kept (suc k) (groups-from (now (book .entry)) k count)) (now (out .entry)) (now (out .exit)) r) ⌝ }
+// Joins the groups with these numbers to the tree, from the last one on, up to one that cannot join. Writes the tree that comes out.
+fn walk(toks: &[u16], book: &[u64], n: usize, numbers: &[u16], out: &mut [u16]) -> Reached
+    requires { ⌜ (Stands n (now toks)) × (384 ≤ length (now book)) × (InBook (now numbers)) × (512 ≤ length (now out)) ⌝ }
+    ensures { λ r. ⌜ (r .left ≤ length (now (numbers .entry))) × (r .tokens ≤ length (now (out .exit)))
+        × ((t : Forest) (Gs : List Restriction) → now (toks .entry) ≡ flat t → Represents n Gs t
+        → Walked n (group (now (book .entry))) Gs (now (numbers .entry)) (r .left) (take (r .tokens) (now (out .exit)))
+        × Stops n (group (now (book .entry))) Gs (now (numbers .entry)) (r .left)) ⌝ }
 {
-    let number = reach(toks, book, n, k, count);
-    if number == k {
+    let mut m = tokens::copy(toks, out);
+    let mut left = numbers.len();
+    while left > 0 {
+        let at = 4 * (numbers[left - 1] as usize - 1);
+        let end = at + 4;
+        let mut next = [0u16; 512];
+        let got = update::join(&out[0..m], &book[at..end], n, &mut next);
+        let Updated::Tokens(k) = got else {
+            return Reached {
+                left: left,
+                tokens: m,
+            };
+        };
+        m = tokens::copy(&next[0..k], out);
+        left -= 1;
+    }
+    Reached { left: 0, tokens: m }
+}
+
+// Writes those of the numbers that the leaving-out rule keeps, and says how many. toks is the tree of the groups that stay. The first half is
+// decided with the whole second half staying, then the second half with what is kept of the first. Where the second half alone cannot hang
+// together with the tree's groups, the number at which a walk down stops is the first one kept.
+fn halves(toks: &[u16], book: &[u64], n: usize, numbers: &[u16], out: &mut [u16]) -> usize
+    requires { ⌜ (Stands n (now toks)) × (384 ≤ length (now book)) × (InBook (now numbers)) × (length (now numbers) ≤ length (now out)) ⌝ }
+    ensures { λ r. ⌜ (r ≤ length (now (numbers .entry)))
+        × ((t : Forest) (Gs : List Restriction) → now (toks .entry) ≡ flat t → Represents n Gs t
+        → Wrote (keeps n (group (now (book .entry))) Gs (now (numbers .entry))) (now (out .entry)) (now (out .exit)) r) ⌝ }
+{
+    let many = numbers.len();
+    if many <= 1 {
+        return tokens::copy(numbers, out);
+    }
+    let mid = many / 2;
+    let mut tree = [0u16; 512];
+    let down = walk(toks, book, n, &numbers[mid..many], &mut tree);
+    let left = down.left;
+    let size = down.tokens;
+    if left > 0 {
+        let from = mid + left;
+        out[0] = numbers[from - 1];
+        return go_on(toks, book, n, 1, &numbers[from..many], out);
+    }
+    let k = halves(&tree[0..size], book, n, &numbers[0..mid], out);
+    go_on(toks, book, n, k, &numbers[mid..many], out)
+}
+
+// The first k numbers of out are kept: writes those that the rule then keeps of the other numbers behind them, and says how many there are in all.
+fn go_on(toks: &[u16], book: &[u64], n: usize, k: usize, numbers: &[u16], out: &mut [u16]) -> usize
+    requires { ⌜ (Stands n (now toks)) × (384 ≤ length (now book)) × (InBook (now numbers)) × (k + length (now numbers) ≤ length (now out))
+        × (InBook (take k (now out))) ⌝ }
+    ensures { λ r. ⌜ (r ≤ k + length (now (numbers .entry)))
+        × ((t : Forest) (Gs : List Restriction) → now (toks .entry) ≡ flat t → Represents n Gs t
+        → Wrote (goes-on n (group (now (book .entry))) Gs (take k (now (out .entry))) (now (numbers .entry))) (now (out .entry)) (now (out .exit)) r) ⌝ }
+{
+    let mut tree = [0u16; 512];
+    let kept = walk(toks, book, n, &out[0..k], &mut tree);
+    let left = kept.left;
+    let size = kept.tokens;
+    if left > 0 {
+        return k;
+    }
+    k + halves(&tree[0..size], book, n, numbers, &mut out[k..])
+}
+
+// The same, but none is kept where all of them can hang together with the tree's groups.
+fn leave_out(toks: &[u16], book: &[u64], n: usize, numbers: &[u16], out: &mut [u16]) -> usize
+    requires { ⌜ (Stands n (now toks)) × (384 ≤ length (now book)) × (InBook (now numbers)) × (length (now numbers) ≤ length (now out)) ⌝ }
+    ensures { λ r. ⌜ ((t : Forest) (Gs : List Restriction) → now (toks .entry) ≡ flat t → Represents n Gs t
+        → Wrote (conflicts-among n (group (now (book .entry))) Gs (now (numbers .entry))) (now (out .entry)) (now (out .exit)) r) ⌝ }
+{
+    let mut tree = [0u16; 512];
+    let down = walk(toks, book, n, numbers, &mut tree);
+    let left = down.left;
+    if left == 0 {
         return 0;
     }
-    out[0] = number as u16;
-    let at = 4 * (number - 1);
-    let end = at + 4;
-    let mut next = [0u16; 512];
-    let got = update::join(toks, &book[at..end], n, &mut next);
-    let Updated::Tokens(m) = got else {
-        return 1;
-    };
-    1 + leave_out(&next[0..m], book, n, number, count, &mut out[1..])
+    out[0] = numbers[left - 1];
+    go_on(toks, book, n, 1, &numbers[left..numbers.len()], out)
+}
+
+// Writes the numbers 1 to count, and says how many.
+fn rising(count: usize, out: &mut [u16]) -> usize
+    requires { ⌜ (count ≤ 96) × (count ≤ length (now out)) ⌝ }
+    ensures { λ r. ⌜ Wrote (range 1 count) (now (out .entry)) (now (out .exit)) r ⌝ }
+{
+    let mut i = 0;
+    while i < count {
+        out[i] = (i + 1) as u16;
+        i += 1;
+    }
+    i
 }
 
 // Writes the numbers of the groups in conflict with the list's group, rising, and says how many.
@@ -76,7 +139,9 @@ pub fn find(n: usize, book: &[u64], count: usize, list: &[u16], out: &mut [u16])
     let Updated::Tokens(k) = got else {
         return 0;
     };
-    leave_out(&toks[0..k], book, n, 0, count, out)
+    let mut numbers = [0u16; 96];
+    let many = rising(count, &mut numbers);
+    leave_out(&toks[0..k], book, n, &numbers[0..many], out)
 }
 
 // Checks 1 to 6 down the table, for a conflict list of this many places.

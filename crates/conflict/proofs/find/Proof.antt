@@ -1,18 +1,22 @@
-use mathlib.Core.Path.{_≡_, ap, _∙_}
+use mathlib.Core.Path.{_≡_, sym, ap, subst, _∙_}
 use mathlib.Core.List.{[], _∷_}
 use Prim.Native.Nat.{_-_}
 use native.Mathlib.Omega.{arith}
 use denote.Ref.{now}
-use lib.ListN.{take, drop}
+use lib.ListN.{length, take, drop}
 use Rattle.orders.specs.Lists.{elem}
 use Rattle.orders.specs.Join.{fresh}
 use Rattle.orders.proofs.Fresh.{fresh-form}
+use Rattle.orders.proofs.Ranges.{range-length}
 use Rattle.marks.specs.Marks.{marked}
 use Rattle.marks.proofs.Leaves.{marked-group}
-use Rattle.tokens.proofs.Writes.{read-part}
+use Rattle.tokens.specs.Tokens.{Wrote}
+use Rattle.tokens.proofs.Writes.{read-part, wrote-most}
 use Rattle.parts.specs.Writers.{flat}
 use Rattle.update.proofs.Updates.{wrote-as}
-use Rattle.conflict.proofs.Joined.{Next, next-tree, no-tree, next-published}
+use Rattle.conflict.specs.LeavingOut.{group, InBook, conflicts-among}
+use Rattle.conflict.proofs.Joined.{Next, next-tree, no-tree}
+use Rattle.conflict.proofs.Places.{numbers-in-book}
 use Rattle.conflict.proofs.Trees.{one-represented, one-joins}
 use Rattle.conflict.proofs.Call.{list-is}
 use borrow.Author.Needs.{needs}
@@ -21,6 +25,7 @@ use Rattle.conflict.proofs.find.Tie as tie
 use Rattle.conflict.proofs.find.Reads as reads
 use Rattle.conflict.proofs.find.Lts as lts
 use Rattle.conflict.proofs.leave_out.Reads as leave-out-reads
+use Rattle.conflict.proofs.rising.Reads as rising-reads
 use Rattle.marks.proofs.mark_list.Reads as mark-list-reads
 use Rattle.tokens.proofs.fresh.Reads as fresh-reads
 use Rattle.update.proofs.join.Reads as join-reads
@@ -72,6 +77,12 @@ enum-told c = search needs
 returns : tie.Need-returns
 returns c = absurd (one-joins (c .before .before .before .before .before .before .before .before .before .before .before .before .before .before .before .before .before .args .n) (elem (now (c .before .before .before .before .before .before .before .before .before .before .before .before .before .before .before .before .before .args .list))) (no-tree (fresh (c .before .before .before .before .before .before .before .before .before .before .before .before .before .before .before .before .before .args .n)) (ap marked (c .before .before .before .before .before .before .before .before .before .before .before .before .mark-list .ensures) ∙ marked-group (c .before .before .before .before .before .before .before .before .before .before .before .before .before .before .before .before .before .args .n) (now (c .before .before .before .before .before .before .before .before .before .before .before .before .before .before .before .before .before .args .list)) (c .before .before .before .before .before .before .before .before .before .before .before .before .before .before .before .before .before .pre .0) (c .before .before .before .before .before .before .before .before .before .before .before .before .before .before .before .before .before .pre .4)) (c .enum-told .given .1) (c .before .before .before .join .ensures (fresh (c .before .before .before .before .before .before .before .before .before .before .before .before .before .before .before .before .before .args .n)) (started (c .before .before .before .before .before .before .before .before .before)))))
 
+slice-aggregate-rising : tie.Need-slice-aggregate-rising
+slice-aggregate-rising c = search needs
+
+rising-requires : tie.Need-rising-requires
+rising-requires c κs = search needs
+
 sub-leave-out : tie.Need-sub-leave-out
 sub-leave-out c = search needs
 
@@ -79,19 +90,32 @@ part-leave-out-start : tie.Need-part-leave-out-start
 part-leave-out-start c = search needs
 
 part-leave-out-end : tie.Need-part-leave-out-end
-part-leave-out-end c = omega (arith, (after (c .before)) .room)
+part-leave-out-end c = omega (arith, (after (c .before .before .before .before)) .room)
 
-returns-2 : tie.Need-returns-2
-returns-2 c =
-    let x = after (c .before .before .before .before .before .before) in
-    wrote-as (list-is (c .before .before .before .before .before .before .before .before .before .before .before .before .before .before .before .before .before .before .before .before .before .before .before .before .args .n) (now (c .before .before .before .before .before .before .before .before .before .before .before .before .before .before .before .before .before .before .before .before .before .before .before .before .args .book)) (c .before .before .before .before .before .before .before .before .before .before .before .before .before .before .before .before .before .before .before .before .before .before .before .before .args .count) (now (c .before .before .before .before .before .before .before .before .before .before .before .before .before .before .before .before .before .before .before .before .before .before .before .before .args .list)))
-    (c .before .before .leave-out .ensures .1 (x .tree) (elem (now (c .before .before .before .before .before .before .before .before .before .before .before .before .before .before .before .before .before .before .before .before .before .before .before .before .args .list))) [] (x .text) (one-represented (c .before .before .before .before .before .before .before .before .before .before .before .before .before .before .before .before .before .before .before .before .before .before .before .before .args .n) (elem (now (c .before .before .before .before .before .before .before .before .before .before .before .before .before .before .before .before .before .before .before .before .before .before .before .before .args .list))) (x .is)))
+sub-leave-out-2 : tie.Need-sub-leave-out-2
+sub-leave-out-2 c = search needs
+
+part-leave-out-start-2 : tie.Need-part-leave-out-start-2
+part-leave-out-start-2 c = search needs
+
+part-leave-out-end-2 : tie.Need-part-leave-out-end-2
+part-leave-out-end-2 c = omega (arith, wrote-most (c .before .before .before .before .rising .ensures))
 
 leave-out-requires : tie.Need-leave-out-requires
-leave-out-requires c κs = (next-published (fresh (c .before .before .before .before .before .before .before .before .before .before .before .before .before .before .before .before .before .before .before .before .before .args .n), started (c .before .before .before .before .before .before .before .before .before .before .before .before .before), fresh-form (c .before .before .before .before .before .before .before .before .before .before .before .before .before .before .before .before .before .before .before .before .before .args .n), c .before .before .before .before .before .before .before .before .before .before .before .before .before .before .before .before .before .before .before .before .before .pre .0) (after (c .before .before .before)), c .before .before .before .before .before .before .before .before .before .before .before .before .before .before .before .before .before .before .before .before .before .pre .1, omega arith, c .before .before .before .before .before .before .before .before .before .before .before .before .before .before .before .before .before .before .before .before .before .pre .2, omega (arith, c .before .before .before .before .before .before .before .before .before .before .before .before .before .before .before .before .before .before .before .before .before .pre .3))
+leave-out-requires c κs =
+    let x = after (c .before .before .before .before .before .before .before .before) in
+    let r = read-part (c .before .before .before .before .before .before .rising .ensures) in
+    ((x .tree, (elem (now (c .before .before .before .before .before .before .before .before .before .before .before .before .before .before .before .before .before .before .before .before .before .before .before .before .before .before .args .list))) ∷ [], x .text, one-represented (c .before .before .before .before .before .before .before .before .before .before .before .before .before .before .before .before .before .before .before .before .before .before .before .before .before .before .args .n) (elem (now (c .before .before .before .before .before .before .before .before .before .before .before .before .before .before .before .before .before .before .before .before .before .before .before .before .before .before .args .list))) (x .is), c .before .before .before .before .before .before .before .before .before .before .before .before .before .before .before .before .before .before .before .before .before .before .before .before .before .before .pre .0), c .before .before .before .before .before .before .before .before .before .before .before .before .before .before .before .before .before .before .before .before .before .before .before .before .before .before .pre .1, subst InBook (sym r) (numbers-in-book (c .before .before .before .before .before .before .before .before .before .before .before .before .before .before .before .before .before .before .before .before .before .before .before .before .before .before .args .count) (c .before .before .before .before .before .before .before .before .before .before .before .before .before .before .before .before .before .before .before .before .before .before .before .before .before .before .pre .2)), omega (arith, ap length r, range-length 1 (c .before .before .before .before .before .before .before .before .before .before .before .before .before .before .before .before .before .before .before .before .before .before .before .before .before .before .args .count), c .before .before .before .before .before .before .before .before .before .before .before .before .before .before .before .before .before .before .before .before .before .before .before .before .before .before .pre .3))
 
 same-length : tie.Need-same-length
 same-length c = search needs
+
+returns-2 : tie.Need-returns-2
+returns-2 c =
+    let x = after (c .before .before .before .before .before .before .before .before .before .before .before) in
+    wrote-as (list-is (c .before .before .before .before .before .before .before .before .before .before .before .before .before .before .before .before .before .before .before .before .before .before .before .before .before .before .before .before .before .args .n) (now (c .before .before .before .before .before .before .before .before .before .before .before .before .before .before .before .before .before .before .before .before .before .before .before .before .before .before .before .before .before .args .book)) (c .before .before .before .before .before .before .before .before .before .before .before .before .before .before .before .before .before .before .before .before .before .before .before .before .before .before .before .before .before .args .count) (now (c .before .before .before .before .before .before .before .before .before .before .before .before .before .before .before .before .before .before .before .before .before .before .before .before .before .before .before .before .before .args .list)))
+    (subst (λ js. Wrote (conflicts-among (c .before .before .before .before .before .before .before .before .before .before .before .before .before .before .before .before .before .before .before .before .before .before .before .before .before .before .before .before .before .args .n) (group (now (c .before .before .before .before .before .before .before .before .before .before .before .before .before .before .before .before .before .before .before .before .before .before .before .before .before .before .before .before .before .args .book))) ((elem (now (c .before .before .before .before .before .before .before .before .before .before .before .before .before .before .before .before .before .before .before .before .before .before .before .before .before .before .before .before .before .args .list))) ∷ []) js) (now (c .before .before .before .before .before .before .before .before .before .before .before .before .before .before .before .before .before .before .before .before .before .before .before .before .before .before .before .before .before .args .out)) (c .before .before .leave-out .last .1 .1 .1 .1 .0) (c .before .before .leave-out .result)) (read-part (c .before .before .before .before .before .before .before .before .before .rising .ensures))
+    (c .before .before .leave-out .ensures (x .tree) ((elem (now (c .before .before .before .before .before .before .before .before .before .before .before .before .before .before .before .before .before .before .before .before .before .before .before .before .before .before .before .before .before .args .list))) ∷ []) (x .text) (one-represented (c .before .before .before .before .before .before .before .before .before .before .before .before .before .before .before .before .before .before .before .before .before .before .before .before .before .before .before .before .before .args .n) (elem (now (c .before .before .before .before .before .before .before .before .before .before .before .before .before .before .before .before .before .before .before .before .before .before .before .before .before .before .before .before .before .args .list))) (x .is))))
 
 pub find-spec : {M : Type 1} → statement M
 find-spec =
@@ -110,9 +134,14 @@ find-spec =
     enum-known-got
     enum-told
     returns
+    slice-aggregate-rising
+    rising-requires
     sub-leave-out
     part-leave-out-start
     part-leave-out-end
+    sub-leave-out-2
+    part-leave-out-start-2
+    part-leave-out-end-2
     leave-out-requires
     same-length
     returns-2)
