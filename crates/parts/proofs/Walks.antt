@@ -41,3 +41,44 @@ module _ {A : Type 0} (g : Judged → A) where
     -- None is left.
     pub left-none : length x ≤ i → (j : Judged) → x ≡ encode j → g j ≡ f (g j-nil)
     left-none h j e = l .same j e ∙ ap (λ (k : Judged). f (g k)) (at-end (l .left) (l .from) (omega (arith, length-drop i x)))
+
+-- A writer's walk: what g says of all items is what has been written and what it says of those that are left.
+pub record Writing (g : Judged → List ℕ) (x old out : List ℕ) (i k : ℕ) : Type 0 where
+  pub text : List ℕ
+  pub wrote : Wrote text old out k
+  pub rest : Left g (λ l. text ++ l) x i
+
+module _ (g : Judged → List ℕ) where
+  pub writing-none : {x : List ℕ} (old : List ℕ) → Tokens x → Writing g x old old 0 0
+  writing-none old t = record { text = []; wrote = wrote-none old; rest = left-all g (λ l. [] ++ l) t (λ l. refl) }
+
+  module _ {x old out : List ℕ} {i k : ℕ} (w : Writing g x old out i k) where
+    -- The first item writes nothing; it writes ys.
+    pub writing-skip : {m : ℕ} → m ≡ length (encode (first-of (w .rest .left))) → g (w .rest .left) ≡ g (rest-of (w .rest .left)) → Writing g x old out (i + m) k
+    writing-skip em h = record {
+      text = w .text;
+      wrote = w .wrote;
+      rest = left-next g (w .rest) (λ l. w .text ++ l) em (ap (λ (l : List ℕ). w .text ++ l) h);
+    }
+
+    pub writing-more : {ys part : List ℕ} {m r : ℕ} → m ≡ length (encode (first-of (w .rest .left))) → g (w .rest .left) ≡ ys ++ g (rest-of (w .rest .left))
+        → Wrote ys (take (length out - k) (drop k out)) part r → Writing g x old (putMid k (length out - k) out part) (i + m) (k + r)
+    writing-more {ys} em h v = record {
+      text = w .text ++ ys;
+      wrote = wrote-then (w .wrote) v;
+      rest = left-next g (w .rest) (λ l. (w .text ++ ys) ++ l) em
+          (ap (λ (l : List ℕ). w .text ++ l) h ∙ sym (append-assoc (w .text) ys (g (rest-of (w .rest .left)))));
+    }
+
+    -- All items that are left write ys.
+    pub writing-last : {ys part : List ℕ} {r : ℕ} → g (w .rest .left) ≡ ys → Wrote ys (take (length out - k) (drop k out)) part r
+        → (j : Judged) → x ≡ encode j → Wrote (g j) old (putMid k (length out - k) out part) (k + r)
+    writing-last h v j e = rw (w .rest .same j e, h) (wrote-then (w .wrote) v)
+
+    -- None is left.
+    pub writing-end : length x ≤ i → g j-nil ≡ [] → (j : Judged) → x ≡ encode j → Wrote (g j) old out k
+    writing-end h n j e = rw (left-none g (w .rest) h j e, n, append-nil) (w .wrote)
+
+    -- There is room for what is left.
+    pub writing-room : (j : Judged) → x ≡ encode j → length (g j) ≤ length old → k + length (g (w .rest .left)) ≤ length old
+    writing-room j e h = omega (arith, w .wrote .many, ap length (w .rest .same j e), length-append (w .text) (g (w .rest .left)))
