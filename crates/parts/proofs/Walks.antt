@@ -4,11 +4,12 @@ use mathlib.Core.List.{List, [], _∷_, _++_, append-assoc, append-nil}
 use Prim.Native.Nat.{ℕ, _+_, _-_, _≤_, _<_}
 use native.Mathlib.Omega.{arith}
 use lib.ListN.{length, take, drop, length-append, length-drop}
+use lib.Seq.{length-take-le, take-add, take-append-seam}
 use borrow.Rule.Slice.PartMut.{putMid}
-use Rattle.tokens.specs.Tokens.{Judged, j-nil, encode, Tokens, Wrote}
+use Rattle.tokens.specs.Tokens.{Judged, j-nil, tree, plain, j-append, encode, Tokens, Wrote}
 use Rattle.tokens.specs.Views.{first-of, rest-of}
-use Rattle.tokens.proofs.Laws.{at-end}
-use Rattle.tokens.proofs.Sequences.{encode-injective}
+use Rattle.tokens.proofs.Laws.{at-end, encode-split}
+use Rattle.tokens.proofs.Sequences.{encode-append, tree-append, plain-append, plain-length, encode-injective}
 use Rattle.tokens.proofs.Writes.{wrote-none, wrote-then}
 use Rattle.judge.proofs.Items.{from-items, some-items, next-items}
 
@@ -82,3 +83,47 @@ module _ (g : Judged → List ℕ) where
     -- There is room for what is left.
     pub writing-room : (j : Judged) → x ≡ encode j → length (g j) ≤ length old → k + length (g (w .rest .left)) ≤ length old
     writing-room j e h = omega (arith, w .wrote .many, ap length (w .rest .same j e), length-append (w .text) (g (w .rest .left)))
+
+-- The items before index i are a sequence, and each of them writes its own tokens.
+pub record Passed (g : Judged → List ℕ) (x : List ℕ) (i : ℕ) : Type 0 where
+  pub front : Judged
+  pub its : take i x ≡ encode front
+  pub rest : Left g (λ l. encode (plain (tree front)) ++ l) x i
+
+plain-join : (a b : Judged) → encode (plain (tree (j-append a b))) ≡ encode (plain (tree a)) ++ encode (plain (tree b))
+plain-join a b = rw (tree-append a b, plain-append (tree a) (tree b)) (encode-append (plain (tree a)) (plain (tree b)))
+
+module _ (g : Judged → List ℕ) where
+  pub passed-none : {x : List ℕ} → Tokens x → Passed g x 0
+  unfolding encode
+  passed-none t = record { front = j-nil; its = refl; rest = left-all g (λ l. [] ++ l) t (λ l. refl) }
+
+  module _ {x : List ℕ} {i : ℕ} (p : Passed g x i) where
+    pub passed-more : {m : ℕ} → m ≡ length (encode (first-of (p .rest .left)))
+        → g (p .rest .left) ≡ encode (plain (tree (first-of (p .rest .left)))) ++ g (rest-of (p .rest .left)) → Passed g x (i + m)
+    passed-more {m} em h =
+        let k = p .rest .left in
+        let a = encode (plain (tree (p .front))) in
+        let b = encode (plain (tree (first-of k))) in record {
+          front = j-append (p .front) (first-of k);
+          its = take-add i m x ∙ rw (p .its, p .rest .from, em, encode-split k, take-append-seam (encode (first-of k)) (encode (rest-of k))) (sym (encode-append (p .front) (first-of k)));
+          rest = left-next g (p .rest) (λ l. encode (plain (tree (j-append (p .front) (first-of k)))) ++ l) em
+              (ap (λ (l : List ℕ). a ++ l) h ∙ sym (append-assoc a b (g (rest-of k))) ∙ ap (λ (l : List ℕ). l ++ g (rest-of k)) (sym (plain-join (p .front) (first-of k))));
+        }
+
+    pub passed-part : take (i - 0) (drop 0 x) ≡ encode (p .front)
+    passed-part = let n : i - 0 ≡ i = omega arith in rw n (p .its)
+
+    -- Once they are written, the walk is a writer's.
+    pub passed-writing : {old out : List ℕ} {k : ℕ} → Wrote (encode (plain (tree (p .front)))) old out k → Writing g x old out i k
+    passed-writing w = record { text = encode (plain (tree (p .front))); wrote = w; rest = p .rest }
+
+    pub passed-room : (n : ℕ) (j : Judged) → x ≡ encode j → length (g j) ≤ n → i ≤ length x → i + length (g (p .rest .left)) ≤ n
+    passed-room n j e h hi =
+        omega (
+          arith,
+          ap length (p .rest .same j e) ∙ length-append (encode (plain (tree (p .front)))) (g (p .rest .left)),
+          plain-length (p .front),
+          ap length (p .its),
+          length-take-le i x hi,
+        )
