@@ -35,14 +35,19 @@ pub fn only(x: &[u16], s: u16, out: &mut [u16]) -> usize
     ensures { λ r. ⌜ ((j : Judged) → now (x .entry) ≡ encode j
         → Wrote (flat (whole-of (with-state s (totals j)))) (now (out .entry)) (now (out .exit)) r) ⌝ }
 {
-    if x.len() == 0 {
-        return 0;
+    let mut k = 0;
+    let mut i = 0;
+    while i < x.len() {
+        let y = &x[i..];
+        let m = tokens::size(y);
+        if tokens::state(y) != s {
+            i += m;
+            continue;
+        }
+        k += tokens::strip(tokens::first(y), &mut out[k..]);
+        i += m;
     }
-    if tokens::state(x) == s {
-        let k = tokens::strip(tokens::first(x), out);
-        return k + only(tokens::rest(x), s, &mut out[k..]);
-    }
-    only(tokens::rest(x), s, out)
+    k
 }
 
 // The same as at most one item: as one P-node where they are two or more.
@@ -135,18 +140,23 @@ pub fn insert(x: &[u16], b: u16, t: &[u16], out: &mut [u16]) -> usize
     ensures { λ r. ⌜ ((j : Judged) (g : Forest) → now (x .entry) ≡ encode j → now (t .entry) ≡ flat g
         → Wrote (flat (insert g (whole-of (with-state 0 (totals j))))) (now (out .entry)) (now (out .exit)) r) ⌝ }
 {
-    if x.len() == 0 {
-        return tokens::copy(t, out);
+    let mut k = 0;
+    let mut i = 0;
+    while i < x.len() {
+        let y = &x[i..];
+        let m = tokens::size(y);
+        if tokens::state(y) != 0 {
+            i += m;
+            continue;
+        }
+        if b < tokens::first_leaf(y) {
+            let e = k + tokens::copy(t, &mut out[k..]);
+            return e + only(y, 0, &mut out[e..]);
+        }
+        k += tokens::strip(tokens::first(y), &mut out[k..]);
+        i += m;
     }
-    if tokens::state(x) != 0 {
-        return insert(tokens::rest(x), b, t, out);
-    }
-    if b < tokens::first_leaf(x) {
-        let k = tokens::copy(t, out);
-        return k + only(x, 0, &mut out[k..]);
-    }
-    let k = tokens::strip(tokens::first(x), out);
-    k + insert(tokens::rest(x), b, t, &mut out[k..])
+    k + tokens::copy(t, &mut out[k..])
 }
 
 // Writes t among the empty items of x, as at most one item.
