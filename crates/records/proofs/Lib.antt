@@ -1,7 +1,9 @@
 -- What the proofs of several functions use.
 pub mod Rows
+pub mod Entering
 pub mod Writing
 pub mod Comparing
+pub mod Matching
 pub mod Forms
 pub mod Standing
 pub mod Walking

@@ -1,10 +1,10 @@
 -- The places and rows of a sequence, item by item.
 use mathlib.Core.Path.{_≡_, refl, sym, ap, _∙_}
 use mathlib.Core.List.{List, _∷_, _++_, append-assoc}
-use Prim.Native.Nat.{ℕ, suc, _+_, _-_, _≤_, _<_}
+use Prim.Native.Nat.{ℕ, suc, _+_, _-_, _/_, _%_, _≤_, _<_}
 use native.Mathlib.Omega.{arith}
 use native.Mathlib.Numerals.{add-one}
-use lib.ListN.{length, drop}
+use lib.ListN.{length, getD}
 use Rattle.orders.specs.Tree.{P, C, Forest, nil, leaf, node, items, append}
 use Rattle.orders.specs.Form.{nodes}
 use Rattle.orders.proofs.Laws.{every-append}
@@ -12,40 +12,50 @@ use Rattle.calls.specs.NodeTable.{kind-number, entries, rows}
 use Rattle.calls.proofs.NodeTables.{Narrow, entries-length, padded-length}
 use Rattle.tokens.specs.Tokens.{Judged, j-nil, j-leaf, j-node, tree, encode}
 use Rattle.tokens.specs.Views.{shape-of, leaf-of, first-of, items-of, rest-of}
-use Rattle.tokens.proofs.Sequences.{encode-append, tree-append}
-use Rattle.records.specs.Rows.{row, entry-of, opened}
+use Rattle.tokens.proofs.Laws.{leaf-even, shape-leaf, first-leaf-is}
+use Rattle.tokens.proofs.Sequences.{tree-append}
+use Rattle.tokens.proofs.Steps.{Here, opened}
+use Rattle.records.specs.Rows.{row}
+
+-- The first item, by the token at index i.
+even-leaf : (k : Judged) → shape-of k ≡ 1 → getD (encode k) 0 0 / 8 % 2 ≡ 0
+unfolding encode shape-of
+even-leaf j-nil h = absurd (omega arith)
+even-leaf (j-leaf s b k) h = leaf-even s b
+even-leaf (j-node s P i k) h = absurd (omega arith)
+even-leaf (j-node s C i k) h = absurd (omega arith)
+
+pub leaf-here : {l : List ℕ} {i : ℕ} {k : Judged} → Here l i k → getD l i 0 / 8 % 2 ≡ 0 → shape-of k ≡ 1
+leaf-here {k = k} p h = sym (shape-leaf k refl (p .some) (rw (← p .head) at h))
+
+pub node-here : {l : List ℕ} {i : ℕ} {k : Judged} → Here l i k → (getD l i 0 / 8 % 2 ≡ 0 → ⊥) → shape-of k ≡ 1 → ⊥
+node-here {k = k} p h s = h (rw (← p .head) (even-leaf k s))
+
+pub leaf-number-here : {l : List ℕ} {i : ℕ} {k : Judged} → Here l i k → getD l i 0 / 8 % 2 ≡ 0 → leaf-of k ≡ getD l i 0 / 16
+leaf-number-here {k = k} p h = rw (← p .head) (sym (first-leaf-is k refl (leaf-here p h)))
+
+pub first-some : (j : Judged) → 0 < length (encode j) → 0 < length (encode (first-of j))
+unfolding encode first-of
+first-some j-nil ne = absurd (omega arith)
+first-some (j-leaf s b j) ne = omega arith
+first-some (j-node s k i j) ne = omega arith
 
 -- The place of the first item, and what comes after it.
-pub entry-leaf : (r : ℕ) (j : Judged) → shape-of j ≡ 1 → entry-of r j ≡ leaf-of j
-unfolding shape-of leaf-of entry-of
-entry-leaf r j-nil h = refl
-entry-leaf r (j-leaf s b j) h = refl
-entry-leaf r (j-node s P i j) h = absurd (omega arith)
-entry-leaf r (j-node s C i j) h = absurd (omega arith)
+pub entries-leaf : (r : ℕ) (j : Judged) → shape-of j ≡ 1 → entries r (tree j) ≡ leaf-of j ∷ entries r (tree (opened j))
+unfolding shape-of leaf-of items-of rest-of
+entries-leaf r j-nil h = absurd (omega arith)
+entries-leaf r (j-leaf s b j) h = refl
+entries-leaf r (j-node s P i j) h = absurd (omega arith)
+entries-leaf r (j-node s C i j) h = absurd (omega arith)
 
-pub entry-node : (r : ℕ) (j : Judged) → 0 < length (encode j) → (shape-of j ≡ 1 → ⊥) → entry-of r j ≡ 256 + r
-unfolding encode shape-of entry-of
-entry-node r j-nil ne h = absurd (omega arith)
-entry-node r (j-leaf s b j) ne h = absurd (h refl)
-entry-node r (j-node s k i j) ne h = refl
-
-pub entries-more : (r : ℕ) (j : Judged) → 0 < length (encode j)
-    → entries r (tree j) ≡ entry-of r j ∷ entries (r + nodes (tree (first-of j))) (tree (rest-of j))
-unfolding encode entry-of first-of rest-of
-entries-more r j-nil ne = absurd (omega arith)
-entries-more r (j-leaf s b j) ne =
-    let e : r + 0 ≡ r = omega arith in
-    rw e
-entries-more r (j-node s k i j) ne =
+pub entries-node : (r : ℕ) (j : Judged) → 0 < length (encode j) → (shape-of j ≡ 1 → ⊥)
+    → entries r (tree j) ≡ (256 + r) ∷ entries (r + nodes (tree (first-of j))) (tree (rest-of j))
+unfolding encode shape-of first-of rest-of
+entries-node r j-nil ne h = absurd (omega arith)
+entries-node r (j-leaf s b j) ne h = absurd (h refl)
+entries-node r (j-node s k i j) ne h =
     let e : r + suc (nodes (tree i) + 0) ≡ suc r + nodes (tree i) = omega arith in
     rw e
-
--- The tokens after the first one.
-pub encode-opened : (j : Judged) → drop 1 (encode j) ≡ encode (opened j)
-unfolding encode items-of rest-of
-encode-opened j-nil = refl
-encode-opened (j-leaf s b j) = refl
-encode-opened (j-node s k i j) = sym (encode-append i j)
 
 nodes-append : (f g : Forest) → nodes (append f g) ≡ nodes f + nodes g
 nodes-append nil g = omega arith

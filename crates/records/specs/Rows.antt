@@ -15,12 +15,6 @@ use Rattle.tokens.specs.Views.{items-of, rest-of}
 abbrev pub row : ℕ → List ℕ → List ℕ
 row k es = k ∷ length es ∷ padded 255 es
 
--- The place of the first item, where its own record, or the next one, is r.
-unfoldable pub entry-of : ℕ → Judged → ℕ
-entry-of r j-nil = 0
-entry-of r (j-leaf s b j) = b
-entry-of r (j-node s k i j) = 256 + r
-
 -- The first item's own items, then the items after it: what the tokens after the first one tell.
 abbrev pub opened : Judged → Judged
 opened j = j-append (items-of j) (rest-of j)

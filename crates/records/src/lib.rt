@@ -8,7 +8,7 @@ ghost use Rattle.orders.specs.Tree.{Forest};
 ghost use Rattle.calls.specs.Tables.{over, padded};
 ghost use Rattle.calls.specs.NodeTable.{entries, rows, table-of, kind-of, spelled-items, spelled};
 ghost use Rattle.tokens.specs.Tokens.{E, Judged, tree, plain, node-token, encode, Tokens, Wrote};
-ghost use Rattle.records.specs.Rows.{row, entry-of, opened, starts, Placed, Rowed, Formed};
+ghost use Rattle.records.specs.Rows.{row, opened, starts, Placed, Rowed, Formed};
 ghost use Rattle.records.specs.Walks.{NodeStands, PlacesStand, Walks, Spells, Loads};
 
 // The tokens after the first one: the first item's items, then the items after it.
@@ -20,28 +20,29 @@ fn opened(toks: &[u16]) -> &[u16]
     &toks[1..]
 }
 
-// The place of the first item: a leaf's number, or 256 more than the node's record r.
-fn entry(toks: &[u16], r: usize) -> u16
-    requires { ⌜ (Tokens (now toks)) × (0 < length (now toks)) × (r ≤ 256) ⌝ }
-    ensures { λ v. ⌜ ((j : Judged) → now (toks .entry) ≡ encode j → v ≡ entry-of r j) ⌝ }
-{
-    if tokens::shape(toks) == 1 {
-        return tokens::leaf(toks);
-    }
-    (256 + r) as u16
-}
-
 // Writes the places of the items, the first node among or below them in record r, and says how many.
 fn write_entries(toks: &[u16], r: usize, out: &mut [u16]) -> usize
     requires { ⌜ Placed (now toks) r (length (now out)) ⌝ }
     ensures { λ k. ⌜ ((j : Judged) → now (toks .entry) ≡ encode j → Wrote (entries r (tree j)) (now (out .entry)) (now (out .exit)) k) ⌝ }
 {
-    if toks.len() == 0 {
-        return 0;
+    let mut next = r;
+    let mut k = 0;
+    let mut i = 0;
+    while i < toks.len() {
+        let t = toks[i];
+        if t / 8 % 2 == 0 {
+            out[k] = t / 16;
+            k += 1;
+            i += 1;
+            continue;
+        }
+        let item = tokens::first(&toks[i..]);
+        out[k] = (256 + next) as u16;
+        next += tokens::node_count(item);
+        k += 1;
+        i += item.len();
     }
-    out[0] = entry(toks, r);
-    let next = r + tokens::node_count(tokens::first(toks));
-    1 + write_entries(tokens::rest(toks), next, &mut out[1..])
+    k
 }
 
 // Writes k zeros, and says so.
@@ -132,17 +133,22 @@ fn rows_match(toks: &[u16], r: usize, table: &[u16]) -> bool
     requires { ⌜ Rowed (now toks) r (length (now table)) ⌝ }
     ensures { λ b. ⌜ ((j : Judged) → now (toks .entry) ≡ encode j → b ≡ starts (rows r (tree j)) (now (table .entry))) ⌝ }
 {
-    if toks.len() == 0 {
-        return true;
+    let mut next = r;
+    let mut i = 0;
+    while i < toks.len() {
+        let s = tokens::shape(&toks[i..]);
+        if s == 1 {
+            i += 1;
+            continue;
+        }
+        let at = 257 * (next - r);
+        if !row_matches((s - 1) as u16, tokens::items(&toks[i..]), next + 1, &table[at..at + 257]) {
+            return false;
+        }
+        next += 1;
+        i += 1;
     }
-    let s = tokens::shape(toks);
-    if s == 1 {
-        return rows_match(opened(toks), r, table);
-    }
-    if !row_matches((s - 1) as u16, tokens::items(toks), r + 1, &table[0..257]) {
-        return false;
-    }
-    rows_match(opened(toks), r + 1, &table[257..])
+    true
 }
 
 // Whether the first 65,792 numbers are the table of a tree in form.

@@ -2,7 +2,7 @@ use mathlib.Core.Path.{ap, _∙_}
 use native.Mathlib.Omega.{arith}
 use lib.ListN.{length, drop, length-drop}
 use Rattle.tokens.proofs.Laws.{whole}
-use Rattle.records.proofs.Rows.{encode-opened}
+use Rattle.tokens.proofs.Steps.{encode-opened}
 use borrow.Author.Needs.{needs}
 use Rattle.records.proofs.opened.Statement.{statement}
 use Rattle.records.proofs.opened.Tie as tie
