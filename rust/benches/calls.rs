@@ -1,0 +1,237 @@
+//! Times the proved planner's calls and those of the independent planner `plain`, on the same rings and tables, in one run.
+//!
+//! Both sides make whole calls on lent tables: each loads and checks what it is lent. `Tree::join` is the plain planner's join alone, with no
+//! table. A time is the median of the rounds; in a round each side makes the same calls, one side after the other.
+use std::hint::black_box;
+use std::time::Instant;
+
+const SIZES: [usize; 3] = [8, 64, 256];
+const ROUNDS: usize = 41;
+const GROUPS: usize = 96;
+
+/// A planner with the tables of one ring.
+trait Planner {
+    fn open(&mut self);
+    fn join(&mut self, list: &[u16]);
+    fn trial(&mut self, list: &[u16]);
+    fn order(&mut self);
+    fn write(&mut self);
+    fn read(&mut self, text: &[u8]);
+    fn conflict(&mut self, list: &[u16]) -> usize;
+    /// Puts the list's group into the book's next place, whatever the tree.
+    fn book(&mut self, list: &[u16]);
+    /// The ring's tree text.
+    fn text(&mut self) -> Vec<u8>;
+}
+
+macro_rules! planner {
+    ($name:ident, $planner:ident) => {
+        struct $name {
+            n: usize,
+            nodes: Vec<$planner::Node>,
+            book: Vec<u64>,
+            count: usize,
+            order: Vec<u16>,
+            conflicts: Vec<u16>,
+            bytes: Vec<u8>,
+        }
+
+        impl $name {
+            /// A ring of n leaves, opened, in tables of its own.
+            fn fresh(n: usize) -> $name {
+                let nodes = vec![$planner::Node { kind: 0, count: 0, items: [0; 255] }; 256];
+                let (order, conflicts, bytes) = (vec![0; n], vec![0; GROUPS], vec![0; 2048]);
+                let mut ring = $name { n, nodes, book: vec![0; 4 * GROUPS], count: 0, order, conflicts, bytes };
+                ring.open();
+                ring
+            }
+        }
+
+        impl Planner for $name {
+            fn open(&mut self) {
+                self.count = $planner::open(self.n, &mut self.nodes, &mut self.book).expect("opened");
+            }
+            fn join(&mut self, list: &[u16]) {
+                self.count = $planner::join(self.n, &mut self.nodes, &mut self.book, self.count, list).expect("kept");
+            }
+            fn trial(&mut self, list: &[u16]) {
+                black_box($planner::trial(self.n, &self.nodes, &self.book, self.count, list).expect("kept"));
+            }
+            fn order(&mut self) {
+                black_box($planner::order(self.n, &self.nodes, &mut self.order).expect("in form"));
+            }
+            fn write(&mut self) {
+                black_box($planner::write(self.n, &self.nodes, &mut self.bytes).expect("in form"));
+            }
+            fn read(&mut self, text: &[u8]) {
+                black_box($planner::read(self.n, &mut self.nodes, &mut self.book, text).expect("a text"));
+            }
+            fn conflict(&mut self, list: &[u16]) -> usize {
+                $planner::conflict(self.n, &self.book, self.count, list, &mut self.conflicts).expect("in form")
+            }
+            fn book(&mut self, list: &[u16]) {
+                self.book[4 * self.count..4 * self.count + 4].copy_from_slice(&marks(list));
+                self.count += 1;
+            }
+            fn text(&mut self) -> Vec<u8> {
+                let length = $planner::write(self.n, &self.nodes, &mut self.bytes).expect("in form");
+                self.bytes[..length].to_vec()
+            }
+        }
+    };
+}
+
+planner!(Proved, tokuwhape);
+planner!(Plain, plain);
+
+/// The mark words of a group.
+fn marks(list: &[u16]) -> [u64; 4] {
+    let mut words = [0; 4];
+    for &leaf in list {
+        let mark = leaf as usize - 1;
+        words[mark / 64] |= 1 << (mark % 64);
+    }
+    words
+}
+
+/// The next state of a xorshift32 generator, modulo k.
+fn draw(state: &mut u32, k: usize) -> usize {
+    *state ^= *state << 13;
+    *state ^= *state >> 17;
+    *state ^= *state << 5;
+    *state as usize % k
+}
+
+/// 97 groups that are runs of one random circular order, of 1 to n - 1 leaves each.
+fn runs(n: usize) -> Vec<Vec<u16>> {
+    let mut state = 2_463_534_242;
+    let mut order: Vec<u16> = (1..=n as u16).collect();
+    for i in (1..n).rev() {
+        order.swap(i, draw(&mut state, i + 1));
+    }
+    let mut groups = Vec::new();
+    for _ in 0..GROUPS + 1 {
+        let (start, length) = (draw(&mut state, n), 1 + draw(&mut state, n - 1));
+        groups.push((start..start + length).map(|i| order[i % n]).collect());
+    }
+    groups
+}
+
+/// A book of 96 groups and a group that cannot join it: pairs {1, 2}, {2, 3}, .. of which each is needed, as many as there can be, after whole
+/// rings; and the pair of the chain's ends.
+fn chain(n: usize) -> (Vec<Vec<u16>>, Vec<u16>) {
+    let pairs = (n - 2).min(GROUPS) as u16;
+    let whole: Vec<u16> = (1..=n as u16).collect();
+    let mut book = vec![whole; GROUPS - pairs as usize];
+    book.extend((1..=pairs).map(|leaf| vec![leaf, leaf + 1]));
+    (book, vec![1, pairs + 1])
+}
+
+/// Nanoseconds that a call takes, of `calls` calls that f makes.
+fn timed(calls: usize, f: impl FnOnce()) -> f64 {
+    let start = Instant::now();
+    f();
+    start.elapsed().as_nanos() as f64 / calls as f64
+}
+
+fn median(mut times: Vec<f64>) -> f64 {
+    times.sort_by(f64::total_cmp);
+    times[times.len() / 2]
+}
+
+/// The proved planner and the plain one, each with the same ring.
+type Sides = [Box<dyn Planner>; 2];
+
+fn opened(n: usize) -> Sides {
+    [Box::new(Proved::fresh(n)), Box::new(Plain::fresh(n))]
+}
+
+/// Both with a ring that was changed so.
+fn changed(n: usize, change: impl Fn(&mut dyn Planner)) -> Sides {
+    let mut sides = opened(n);
+    sides.iter_mut().for_each(|ring| change(ring.as_mut()));
+    sides
+}
+
+/// The median time of the rounds, for each side.
+fn both(rounds: usize, mut sides: Sides, round: impl Fn(&mut dyn Planner) -> f64) -> [f64; 2] {
+    let mut times = [Vec::new(), Vec::new()];
+    for _ in 0..rounds {
+        for (ring, times) in sides.iter_mut().zip(&mut times) {
+            times.push(round(ring.as_mut()));
+        }
+    }
+    times.map(median)
+}
+
+/// A call made ten times in a round.
+fn repeated(sides: Sides, call: impl Fn(&mut dyn Planner)) -> [f64; 2] {
+    both(ROUNDS, sides, |ring| timed(10, || (0..10).for_each(|_| call(ring))))
+}
+
+/// A join, over the growth of the book.
+fn joins(ring: &mut dyn Planner, groups: &[Vec<u16>]) -> f64 {
+    ring.open();
+    timed(GROUPS, || groups.iter().for_each(|group| ring.join(black_box(group))))
+}
+
+/// A trial, over the growth of the book: each group is tried before it joins.
+fn trials(ring: &mut dyn Planner, groups: &[Vec<u16>]) -> f64 {
+    ring.open();
+    let mut total = 0.0;
+    for group in groups {
+        total += timed(GROUPS, || ring.trial(black_box(group)));
+        ring.join(group);
+    }
+    total
+}
+
+/// A join of the plain planner's tree, with no table, over the growth of the book.
+fn tree_joins(n: usize, groups: &[Vec<u16>]) -> f64 {
+    let groups: Vec<[u64; 4]> = groups.iter().map(|group| marks(group)).collect();
+    let round = || {
+        let mut tree = plain::Tree::fresh(n);
+        timed(GROUPS, || assert!(groups.iter().all(|group| tree.join(black_box(group)))))
+    };
+    median((0..ROUNDS).map(|_| round()).collect())
+}
+
+/// The calls that are timed, and for each the times of both sides on a ring of n leaves.
+fn rows(n: usize) -> Vec<(&'static str, [f64; 2])> {
+    let mut groups = runs(n);
+    let last = groups.pop().expect("97 groups");
+    let (pairs, ends) = chain(n);
+    let grown = || changed(n, |ring| groups.iter().for_each(|group| ring.join(group)));
+    let text = grown()[0].text();
+    vec![
+        ("join", both(ROUNDS, opened(n), |ring| joins(ring, &groups))),
+        ("trial", both(ROUNDS, opened(n), |ring| trials(ring, &groups))),
+        ("order", repeated(grown(), |ring| ring.order())),
+        ("write", repeated(grown(), |ring| ring.write())),
+        ("read", repeated(grown(), |ring| ring.read(black_box(&text)))),
+        ("conflict, empty list", repeated(grown(), |ring| assert_eq!(ring.conflict(black_box(&last)), 0))),
+        ("conflict, longest list", {
+            let booked = changed(n, |ring| pairs.iter().for_each(|group| ring.book(group)));
+            both(5, booked, |ring| timed(1, || assert_eq!(ring.conflict(black_box(&ends)), GROUPS.min(n - 2))))
+        }),
+    ]
+}
+
+fn main() {
+    let tables: Vec<_> = SIZES.iter().map(|&n| rows(n)).collect();
+    println!("| call | n | proved, ns | plain, ns | ratio |\n|---|---|---|---|---|");
+    for call in 0..tables[0].len() {
+        for (n, table) in SIZES.iter().zip(&tables) {
+            let (name, [ours, theirs]) = table[call];
+            println!("| {name} | {n} | {ours:.0} | {theirs:.0} | {:.1} |", ours / theirs);
+        }
+    }
+    println!("\n| call | proved, 256 over 64 | plain, 256 over 64 |\n|---|---|---|");
+    for (small, large) in tables[1].iter().zip(&tables[2]) {
+        println!("| {} | {:.2} | {:.2} |", small.0, large.1[0] / small.1[0], large.1[1] / small.1[1]);
+    }
+    println!("\n| n | plain's `Tree::join` alone, ns |\n|---|---|");
+    for n in SIZES {
+        println!("| {n} | {:.0} |", tree_joins(n, &runs(n)[..GROUPS]));
+    }
+}
