@@ -60,13 +60,5 @@ extern "C" {
     ) -> u8;
     pub fn tokuwhape_scan(file: *const u8, length: usize, head: *mut usize, lines: *mut usize, value: *mut usize) -> u8;
     pub fn tokuwhape_name(file: *const u8, length: usize, k: usize, start: *mut usize) -> usize;
-    pub fn tokuwhape_group(
-        file: *const u8,
-        length: usize,
-        names: usize,
-        head: usize,
-        line: usize,
-        list: *mut u16,
-        places: usize,
-    ) -> usize;
+    pub fn tokuwhape_group(file: *const u8, length: usize, names: usize, head: usize, line: usize, list: *mut u16, places: usize) -> usize;
 }

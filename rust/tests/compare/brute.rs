@@ -9,7 +9,10 @@ type Set = u32;
 fn orders(n: usize) -> Vec<Vec<u16>> {
     let mut found = vec![vec![1]];
     for _ in 1..n {
-        found = found.iter().flat_map(|begun| (2..=n as u16).filter(|leaf| !begun.contains(leaf)).map(|leaf| [&begun[..], &[leaf]].concat())).collect();
+        found = found
+            .iter()
+            .flat_map(|begun| (2..=n as u16).filter(|leaf| !begun.contains(leaf)).map(|leaf| [&begun[..], &[leaf]].concat()))
+            .collect();
     }
     found
 }

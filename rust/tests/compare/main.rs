@@ -27,11 +27,11 @@ const ANSWERS: [(&str, &[u8]); 9] = [
 /// Grows rings, and keeps some of them.
 fn grown(tally: &mut Tally, draw: &mut Draw) -> Vec<Grown> {
     let mut kept = Vec::new();
-    for round in 0..400 {
+    for round in 0..1_000 {
         let n = draw.size();
         let steps = draw.pick(&[0, 2, 5, 10, 20, 110]);
         let ring = rings::grow(tally, draw, n, steps, if n > 64 { 20 } else { 4 });
-        if round % 4 == 0 {
+        if round % 8 == 0 {
             kept.push(ring);
         }
     }
@@ -79,6 +79,27 @@ fn texts(tally: &mut Tally, draw: &mut Draw, kept: &mut [Grown]) {
     }
 }
 
+/// Lists and texts far longer than any that is accepted.
+fn long(tally: &mut Tally, draw: &mut Draw, kept: &mut [Grown]) {
+    for Grown { n, count, sides, .. } in kept.iter_mut().take(20) {
+        let leaves = draw.leaves(*n);
+        for length in [1_000, 100_000] {
+            let lists = [vec![1; length], vec![0; length], leaves.iter().copied().cycle().take(length).collect()];
+            for list in lists {
+                for call in [Call::Join(*count, &list), Call::Trial(*count, &list), Call::Conflict(*count, &list)] {
+                    assert!(sides.call(tally, *n, call).is_err());
+                }
+            }
+            for part in ["1", " ", "1 ", "P(", "1 P(", "2 3 ", "(", ")"] {
+                let text = ["1 P(2 ", part].concat().into_bytes();
+                for text in [part.repeat(length).into_bytes(), [&text[..], &part.repeat(length).into_bytes()].concat()] {
+                    assert!(sides.call(tally, *n, Call::Read(&text)).is_err());
+                }
+            }
+        }
+    }
+}
+
 /// Ring files.
 fn files(tally: &mut Tally, draw: &mut Draw) {
     for _ in 0..20_000 {
@@ -94,10 +115,14 @@ fn both_planners_answer_alike() {
     damaged(&mut tally, &mut draw, &kept);
     conflicts(&mut tally, &mut draw);
     texts(&mut tally, &mut draw, &mut kept);
+    long(&mut tally, &mut draw, &mut kept);
     files(&mut tally, &mut draw);
     let mut cases = 0;
     for (call, answers) in ANSWERS {
-        println!("{call}: {:?}", tally.0.iter().filter(|((name, _), _)| *name == call).map(|((_, number), times)| (number, times)).collect::<Vec<_>>());
+        println!(
+            "{call}: {:?}",
+            tally.0.iter().filter(|((name, _), _)| *name == call).map(|((_, number), times)| (number, times)).collect::<Vec<_>>()
+        );
         assert_eq!(tally.given(call), answers, "{call} gave other answers");
         cases += tally.made(call);
     }

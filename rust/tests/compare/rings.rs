@@ -144,7 +144,14 @@ fn other_lengths(draw: &mut Draw, n: usize, nodes: &mut Vec<Node>, book: &mut Ve
     [(places - few.min(places)), 96 - few, 2048 - few]
 }
 
-/// One call on a grown ring's tables, damaged, shortened or lent with another n; or on the node table with the book of another ring.
+/// The node table of the fresh ring.
+fn lent_fresh(n: usize) -> Vec<Node> {
+    let mut nodes = vec![Node::UNUSED; 256];
+    assert_eq!(tokuwhape::open(n, &mut nodes, &mut vec![0; 384]), Ok(0));
+    nodes
+}
+
+/// One call on a grown ring's tables, damaged, shortened or lent with another n; or on a node table and the book of another ring.
 pub fn damaged(tally: &mut Tally, draw: &mut Draw, ring: &Grown, other: &Grown) {
     let (mut n, mut count) = (ring.n, ring.count);
     let (mut nodes, mut book) = (ring.sides.ours.nodes.clone(), ring.sides.ours.book.clone());
@@ -153,7 +160,8 @@ pub fn damaged(tally: &mut Tally, draw: &mut Draw, ring: &Grown, other: &Grown) 
         0..=3 => damage_nodes(draw, n, &mut nodes),
         4 | 5 => damage_book(draw, n, &mut book, &mut count),
         6 => n = draw.other_size(n),
-        7 => (book, count) = (other.sides.ours.book.clone(), other.count),
+        7 if draw.one_in(2) => (book, count) = (other.sides.ours.book.clone(), other.count),
+        7 => nodes = lent_fresh(n),
         8 => places = other_lengths(draw, n, &mut nodes, &mut book),
         _ => {
             damage_nodes(draw, n, &mut nodes);
@@ -169,7 +177,8 @@ pub fn damaged(tally: &mut Tally, draw: &mut Draw, ring: &Grown, other: &Grown) 
 
 /// One call of any kind.
 fn any_call(tally: &mut Tally, draw: &mut Draw, sides: &mut Sides, n: usize, count: usize, list: &[u16]) {
-    let group = draw.pick(&[0, 1, count / 2, count, count.wrapping_add(1), usize::MAX, draw.below(97)]);
+    let drawn = draw.below(97);
+    let group = draw.pick(&[0, 1, count / 2, count, count.wrapping_add(1), usize::MAX, drawn]);
     let text = draw.pick(&[&b"1"[..], b"1 2", b"1 P(2 3)", b"1 P(2 3 4)", b"1 C(P(2 4) 5 3)", b""]);
     let call = match draw.below(16) {
         0 => Call::Open,

@@ -180,7 +180,8 @@ impl Sides {
 /// The tables without the records and words that are zero.
 fn shown(tables: &Tables<Node>) -> String {
     let used: Vec<_> = tables.nodes.iter().enumerate().filter(|(_, node)| **node != Node::UNUSED).collect();
-    let records: Vec<String> = used.iter().map(|(at, node)| format!("{at}: {} {} {:?}", node.kind, node.count, brief(&node.items))).collect();
+    let records: Vec<String> =
+        used.iter().map(|(at, node)| format!("{at}: {} {} {:?}", node.kind, node.count, brief(&node.items))).collect();
     format!("{} records {records:?}, {} words {:?}", tables.nodes.len(), tables.book.len(), brief(&tables.book))
 }
 
