@@ -128,9 +128,12 @@ fn refusals_of_texts_and_files() {
     assert_eq!(tokuwhape::group_of(file, shape, 0, &mut list[..2]), 0);
 }
 
+/// A call on a ring's tables.
+type OnTables = fn(&mut Tables) -> Result<usize, Refusal>;
+
 /// Each call that is lent a node table, on circle e with so many records: its answer, and the tables afterwards.
 fn each_call(records: usize) -> Vec<(Result<usize, Refusal>, Tables)> {
-    let calls: [fn(&mut Tables) -> Result<usize, Refusal>; 7] = [
+    let calls: [OnTables; 7] = [
         |t| tokuwhape::open(5, &mut t.nodes, &mut t.book),
         |t| tokuwhape::join(5, &mut t.nodes, &mut t.book, 2, &[2, 4]),
         |t| tokuwhape::trial(5, &t.nodes, &t.book, 2, &[2, 4]),
