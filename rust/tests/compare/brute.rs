@@ -1,5 +1,6 @@
 //! Small rings against all circular orders: what can join, which orders are left, which groups are in conflict, where a group is aimed.
 use crate::draw::Draw;
+use crate::texts::shaped;
 use tokuwhape::{Node, Refusal};
 
 /// A group as a set of leaves: leaf b is bit b.
@@ -126,6 +127,14 @@ impl Watched {
         ring
     }
 
+    /// The ring with the tree of this text; none where it is refused.
+    fn of_text(n: usize, text: &[u8]) -> Option<Watched> {
+        let mut ring = Watched::fresh(n);
+        tokuwhape::read(n, &mut ring.nodes, &mut ring.book, text).ok()?;
+        ring.left = allowed(&ring.nodes, n);
+        Some(ring)
+    }
+
     /// Joins the group, and checks its answer and the orders left.
     fn join(&mut self, list: &[u16]) {
         let after: Vec<Vec<u16>> = self.left.iter().filter(|order| consecutive(set(list), order)).cloned().collect();
@@ -170,6 +179,26 @@ fn small_rings_allow_what_all_orders_say() {
             }
         }
     }
+}
+
+/// Joins random groups to trees of 3 to 6 leaves that were read from texts.
+#[test]
+fn small_trees_allow_what_all_orders_say() {
+    let mut draw = Draw::new(0xfedc_ba98_7654_3210);
+    let mut accepted = 0;
+    for _ in 0..2_000 {
+        let n = 3 + draw.below(4);
+        let text = shaped(&mut draw, n);
+        let Some(mut ring) = Watched::of_text(n, &text) else { continue };
+        accepted += 1;
+        let all = orders(n);
+        for _ in 0..3 {
+            let list = draw.group(n);
+            ring.read(&all, &list);
+            ring.join(&list);
+        }
+    }
+    assert!(accepted > 500, "only {accepted} texts");
 }
 
 /// Every set of two groups of a ring of 5 leaves, in both sequences.

@@ -84,7 +84,7 @@ fn item(draw: &mut Draw, leaves: &[u16], loose: usize) -> String {
 }
 
 /// A text of the shape for n leaves. Some keep the P and C rules, some do not.
-fn shaped(draw: &mut Draw, n: usize) -> Vec<u8> {
+pub fn shaped(draw: &mut Draw, n: usize) -> Vec<u8> {
     let mut leaves: Vec<u16> = (2..=n as u16).collect();
     let loose = draw.pick(&[2, 10, 1000]);
     for _ in 0..draw.pick(&[0, 0, 1, 5]) {
@@ -106,13 +106,27 @@ fn given(draw: &mut Draw, n: usize) -> usize {
     n
 }
 
-/// Reads the text on both sides. Where it is accepted, it is written again unchanged.
-fn read(tally: &mut Tally, sides: &mut Sides, n: usize, text: &[u8]) {
-    if sides.call(tally, n, Call::Read(text)).is_ok() {
+/// Reads the text on both sides. Where it is accepted, it is written again unchanged. Returns whether it is.
+fn read(tally: &mut Tally, sides: &mut Sides, n: usize, text: &[u8]) -> bool {
+    let accepted = sides.call(tally, n, Call::Read(text)).is_ok();
+    if accepted {
         sides.refill(n, 96, 2048, 0xa5a5);
         assert_eq!(sides.call(tally, n, Call::Write), Ok(text.len()), "{}", String::from_utf8_lossy(text));
         assert_eq!(sides.text(text.len()), text);
         assert_eq!(sides.call(tally, n, Call::Order), Ok(n));
+    }
+    accepted
+}
+
+/// Joins some groups to the tree that was read: runs of its standard order, and any leaves.
+fn joined(tally: &mut Tally, draw: &mut Draw, sides: &mut Sides, n: usize) {
+    let order = sides.ours.order[..n].to_vec();
+    let mut count = 0;
+    for _ in 0..draw.below(5) {
+        let group = if draw.one_in(3) { draw.group(n) } else { draw.run(&order) };
+        let tried = sides.call(tally, n, Call::Trial(count, &group));
+        assert_eq!(tried, sides.call(tally, n, Call::Join(count, &group)));
+        count = tried.unwrap_or(count);
     }
 }
 
@@ -126,13 +140,15 @@ pub fn changed(tally: &mut Tally, draw: &mut Draw, sides: &mut Sides, n: usize, 
     read(tally, sides, n, &text);
 }
 
-/// Reads a text of the shape, or one changed.
+/// Reads a text of the shape, or one changed, and joins groups to its tree.
 pub fn of_the_shape(tally: &mut Tally, draw: &mut Draw, sides: &mut Sides, n: usize) {
     let text = shaped(draw, n);
     if draw.one_in(3) {
         return changed(tally, draw, sides, n, &text);
     }
-    read(tally, sides, n, &text);
+    if read(tally, sides, n, &text) {
+        joined(tally, draw, sides, n);
+    }
 }
 
 /// Reads random bytes, mostly of those that stand in texts.
