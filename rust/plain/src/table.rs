@@ -84,38 +84,41 @@ impl Tree {
         (seen == n).then_some(())
     }
 
-    /// Writes the tree's table. The records from `dirty` on are zero already. `nodes` has 256 records.
-    pub fn store(&self, nodes: &mut [Node], dirty: usize) {
+    /// Writes the tree's table over a table that is in form or zero. `nodes` has 256 records.
+    pub fn store(&self, nodes: &mut [Node]) {
         let mut record_of = [0; RECORDS];
         let mut opened = 0;
         let mut item = if self.leaves() < 3 { NONE } else { ROOT };
         while item != NONE {
             if is_node(item) {
-                record_of[usize::from(item - ROOT)] = opened;
-                self.store_record(item, &mut nodes[usize::from(opened)]);
+                record_of[usize::from(item - ROOT)] = 256 + opened as u16;
+                self.store_record(item, &mut nodes[opened]);
                 opened += 1;
             }
             item = self.after(item);
         }
-        let opened = usize::from(opened);
         for record in &mut nodes[..opened] {
             let count = usize::from(record.count);
             for item in &mut record.items[..count] {
                 if *item > 256 {
-                    *item = 256 + record_of[usize::from(*item - 257)];
+                    *item = record_of[usize::from(*item - 257)];
                 }
             }
         }
-        if opened < dirty {
-            nodes[opened..dirty].fill(Node::UNUSED);
-        }
+        let unused = nodes[opened..RECORDS].iter_mut().take_while(|record| record.kind != 0);
+        unused.for_each(|record| *record = Node::UNUSED);
     }
 
-    /// Writes a node's record, with each child node as 257 plus its slot.
+    /// Writes a node's record over one in form or zero, with each child node as 257 plus its slot.
     fn store_record(&self, node: Item, record: &mut Node) {
-        *record = Node { kind: 1 + u8::from(self.kind(node) == Kind::C), count: self.degree(node), ..Node::UNUSED };
+        let (count, before) = (usize::from(self.degree(node)), usize::from(record.count));
         for (place, child) in record.items.iter_mut().zip(self.children(node)) {
             *place = number(child);
         }
+        if count < before {
+            record.items[count..before].fill(0);
+        }
+        record.kind = 1 + u8::from(self.kind(node) == Kind::C);
+        record.count = count as u16;
     }
 }
