@@ -81,38 +81,35 @@ impl Tree {
     /// Writes the tree's table over a table that is in form or zero. `nodes` has 256 records.
     pub fn store(&self, nodes: &mut [Node]) {
         let mut record_of = [0; RECORDS];
+        let mut filled = [0; RECORDS];
         let mut opened = 0;
         let mut item = if self.leaves() < 3 { NONE } else { ROOT };
         while item != NONE {
+            let mut value = number(item);
             if is_node(item) {
-                record_of[usize::from(item - ROOT)] = 256 + opened as u16;
-                self.store_record(item, &mut nodes[opened]);
+                record_of[usize::from(item - ROOT)] = opened;
+                value = 256 + opened as u16;
+                self.store_head(item, &mut nodes[opened]);
                 opened += 1;
             }
-            item = self.after(item);
-        }
-        for record in &mut nodes[..opened] {
-            let count = usize::from(record.count);
-            for item in &mut record.items[..count] {
-                if *item > 256 {
-                    *item = record_of[usize::from(*item - 257)];
-                }
+            if item != ROOT {
+                let record = record_of[usize::from(self.parent(item) - ROOT)];
+                nodes[record].items[filled[record]] = value;
+                filled[record] += 1;
             }
+            item = self.after(item);
         }
         let unused = nodes[opened..RECORDS].iter_mut().take_while(|record| record.kind != 0);
         unused.for_each(|record| *record = Node::UNUSED);
     }
 
-    /// Writes a node's record over one in form or zero, with each child node as 257 plus its slot.
-    fn store_record(&self, node: Item, record: &mut Node) {
-        let (count, before) = (usize::from(self.degree(node)), usize::from(record.count));
-        for (place, child) in record.items.iter_mut().zip(self.children(node)) {
-            *place = number(child);
-        }
-        if count < before {
-            record.items[count..before].fill(0);
-        }
+    /// Writes the kind and count of a node over a record in form or zero, and zeros where its items end.
+    fn store_head(&self, node: Item, record: &mut Node) {
+        let (count, before) = (self.degree(node), record.count);
         record.kind = 1 + u8::from(self.kind(node) == Kind::C);
-        record.count = count as u16;
+        record.count = count;
+        if count < before {
+            record.items[usize::from(count)..usize::from(before)].fill(0);
+        }
     }
 }
