@@ -38,30 +38,57 @@ impl<'a> Book<'a> {
         std::array::from_fn(|w| self.words[4 * k + w])
     }
 
-    /// Writes the numbers, from 1 and rising, of the groups that the leaving-out rule keeps for `group`; returns how
-    /// many, 0 if the book and `group` can hang together.
-    ///
-    /// The groups before the next kept one are left out, and it is the last one that, with those kept and all
-    /// after it, is impossible: so the groups join the tree of the kept ones from the last down to it.
-    pub fn conflict(&self, n: usize, group: &Marks, kept: &mut [u16]) -> usize {
+    /// Returns the groups that the leaving-out rule keeps for `group`, none if the book and `group` can hang together.
+    pub fn conflict(&self, n: usize, group: &Marks) -> Kept {
+        let mut kept = Kept { numbers: [0; GROUPS], size: 0 };
+        let count = self.words.len() / 4;
         let mut tree = Tree::fresh(n);
         tree.join(group);
-        let mut size = 0;
-        let mut from = 0;
-        while let Some(last) = self.last_impossible(tree.clone(), from) {
-            kept[size] = last as u16 + 1;
-            size += 1;
-            if !tree.join(&self.group(last)) {
-                break;
-            }
-            from = last + 1;
+        if !self.join_all(&mut tree.clone(), 0..count) {
+            self.keep(&tree, 0, count, &mut kept);
         }
-        size
+        kept
     }
 
-    /// Returns the first group, from the last down to `from`, that cannot join the tree after those before it.
-    fn last_impossible(&self, mut tree: Tree, from: usize) -> Option<usize> {
-        (from..self.words.len() / 4).rev().find(|&k| !tree.join(&self.group(k)))
+    /// Joins the groups to the tree until one is impossible; returns whether none is.
+    fn join_all(&self, tree: &mut Tree, mut groups: impl Iterator<Item = usize>) -> bool {
+        groups.all(|k| tree.join(&self.group(k)))
+    }
+
+    /// Adds those of the groups `from` to `to` that the leaving-out rule keeps. `tree` is the tree of the new group,
+    /// of those kept before `from` and of all from `to` on; it cannot take all of the groups between.
+    ///
+    /// The rule goes through the first half with the second one whole, then through the second with what is kept of
+    /// the first; with an impossible rest it keeps nothing.
+    fn keep(&self, tree: &Tree, from: usize, to: usize, kept: &mut Kept) {
+        if to - from == 1 {
+            kept.numbers[kept.size] = to as u16;
+            kept.size += 1;
+            return;
+        }
+        let middle = from.midpoint(to);
+        let before = kept.size;
+        let mut rest = tree.clone();
+        if self.join_all(&mut rest, middle..to) {
+            self.keep(&rest, from, middle, kept);
+        }
+        rest.clone_from(tree);
+        if self.join_all(&mut rest, kept.numbers()[before..].iter().map(|&number| usize::from(number) - 1)) {
+            self.keep(&rest, middle, to, kept);
+        }
+    }
+}
+
+/// The numbers, from 1 and rising, of the groups in conflict.
+pub struct Kept {
+    pub numbers: [u16; GROUPS],
+    pub size: usize,
+}
+
+impl Kept {
+    /// Returns the numbers without the zeros after them.
+    pub fn numbers(&self) -> &[u16] {
+        &self.numbers[..self.size]
     }
 }
 

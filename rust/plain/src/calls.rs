@@ -73,7 +73,8 @@ fn check_join(n: usize, nodes: &[Node], book: &[u64], count: usize, list: &[u16]
 /// Fills the node table with the fresh tree of n bins and empties the book. Returns 0, the count of groups.
 pub fn open(n: usize, nodes: &mut [Node], book: &mut [u64]) -> Answer {
     check_sizes(n, &[(nodes.len(), RECORDS), (book.len(), WORDS)])?;
-    Tree::fresh(n).store(nodes, RECORDS);
+    nodes[..RECORDS].fill(Node::UNUSED);
+    Tree::fresh(n).store(nodes);
     book[..WORDS].fill(0);
     Ok(0)
 }
@@ -81,9 +82,8 @@ pub fn open(n: usize, nodes: &mut [Node], book: &mut [u64]) -> Answer {
 /// Joins the group in the list to the tree and the book. Returns the new count of groups.
 pub fn join(n: usize, nodes: &mut [Node], book: &mut [u64], count: usize, list: &[u16]) -> Answer {
     let (mut tree, group) = check_join(n, nodes, book, count, list)?;
-    let used = tree.nodes();
     check(8, tree.join(&group))?;
-    tree.store(nodes, used);
+    tree.store(nodes);
     book::put(book, count, &group);
     Ok(count + 1)
 }
@@ -129,10 +129,9 @@ pub fn conflict(n: usize, book: &[u64], count: usize, list: &[u16], conflicts: &
     check_sizes(n, &[(book.len(), WORDS), (conflicts.len(), GROUPS)])?;
     let book = check_book(n, book, count)?;
     let group = check_list(n, list)?;
-    let mut kept = [0; GROUPS];
-    let size = book.conflict(n, &group, &mut kept);
-    conflicts[..GROUPS].copy_from_slice(&kept);
-    Ok(size)
+    let kept = book.conflict(n, &group);
+    conflicts[..GROUPS].copy_from_slice(&kept.numbers);
+    Ok(kept.size)
 }
 
 /// Writes the tree text, then zeros to 2,048 bytes. Returns the text's length.
@@ -148,7 +147,8 @@ pub fn write(n: usize, nodes: &[Node], bytes: &mut [u8]) -> Answer {
 pub fn read(n: usize, nodes: &mut [Node], book: &mut [u64], text: &[u8]) -> Answer {
     check_sizes(n, &[(nodes.len(), RECORDS), (book.len(), WORDS)])?;
     let tree = Tree::read_text(n, text).map_err(|place| Refused { number: 12, place })?;
-    tree.store(nodes, RECORDS);
+    nodes[..RECORDS].fill(Node::UNUSED);
+    tree.store(nodes);
     book[..WORDS].fill(0);
     Ok(0)
 }

@@ -72,9 +72,8 @@ fn join_lines(file: &[u8], scanned: File, tree: &mut Tree) -> Vec<Line> {
             line_of.push(line + 1);
             return Line::Kept(group);
         }
-        let mut kept = [0; GROUPS];
-        let size = Book::of(&words[..4 * count]).conflict(n, &group, &mut kept);
-        Line::Refused(kept[..size].iter().map(|&number| line_of[usize::from(number) - 1]).collect())
+        let kept = Book::of(&words[..4 * count]).conflict(n, &group);
+        Line::Refused(kept.numbers().iter().map(|&number| line_of[usize::from(number) - 1]).collect())
     };
     (0..lines).map(&mut join_line).collect()
 }

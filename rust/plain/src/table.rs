@@ -36,86 +36,80 @@ impl Node {
 impl Tree {
     /// Returns the tree of n leaves whose table `nodes` is, none if it is no tree's. `nodes` has 256 records.
     pub fn load(n: usize, nodes: &[Node]) -> Option<Tree> {
-        let mut tree = Tree::bare(n);
-        if n >= 3 {
-            tree.load_items(nodes)?;
-        }
-        let used = tree.nodes();
-        if nodes[used..].iter().any(|record| *record != Node::UNUSED) {
+        let used = nodes.iter().take_while(|record| record.kind != 0).count();
+        if (used == 0) != (n < 3) || nodes[used..].iter().any(|record| *record != Node::UNUSED) {
             return None;
         }
-        for record in (0..used).rev() {
-            tree.set_first(ROOT + record as Item);
+        let mut tree = Tree::bare(n);
+        for record in &nodes[..used] {
+            tree.open(record.checked_kind()?);
         }
-        tree.least_fault(|_| 0).is_none().then_some(tree)
-    }
-
-    /// Adds the nodes and items from record 0 on, slot by record; returns none if one does not fit.
-    fn load_items(&mut self, nodes: &[Node]) -> Option<()> {
-        let n = self.leaves();
-        let mut done = [0; RECORDS];
+        let mut ends = [0; RECORDS];
         let mut seen = 1;
-        let mut node = self.open(nodes[0].checked_kind()?);
-        while node != NONE {
-            let record = usize::from(node - ROOT);
-            let at = &mut done[record];
-            if *at == usize::from(nodes[record].count) {
-                node = self.parent(node);
-                continue;
-            }
-            let item = usize::from(nodes[record].items[*at]);
-            *at += 1;
-            if (2..=n).contains(&item) {
-                if self.parent(leaf(item)) != NONE {
-                    return None;
-                }
-                seen += 1;
-                self.append(node, leaf(item));
-            } else {
-                let opened = self.nodes();
-                if opened == RECORDS || item != 256 + opened {
-                    return None;
-                }
-                let child = self.open(nodes[opened].checked_kind()?);
-                self.append(node, child);
-                node = child;
-            }
+        for record in (0..used).rev() {
+            seen += tree.load_items(record, &nodes[record], &mut ends)?;
         }
-        (seen == n).then_some(())
+        (used == 0 || seen == n && ends[0] == used && tree.least_fault(|_| 0).is_none()).then_some(tree)
     }
 
-    /// Writes the tree's table. The records from `dirty` on are zero already. `nodes` has 256 records.
-    pub fn store(&self, nodes: &mut [Node], dirty: usize) {
+    /// Gives the node of a record its items and returns how many leaves they are, none if an item does not fit.
+    /// `ends` holds, for each later record, the record after those below it, and is given this one's: the nodes
+    /// among the items must be the record after this one, then the one after those below it, and so on.
+    fn load_items(&mut self, record: usize, node: &Node, ends: &mut [usize; RECORDS]) -> Option<usize> {
+        let n = self.leaves();
+        let parent = ROOT + record as Item;
+        let mut leaves = 0;
+        let mut end = record + 1;
+        for &item in &node.items[..usize::from(node.count)] {
+            let item = usize::from(item);
+            let child = if (2..=n).contains(&item) && self.parent(leaf(item)) == NONE {
+                leaves += 1;
+                leaf(item)
+            } else if item == 256 + end && end < self.nodes() {
+                end = ends[end];
+                item as Item
+            } else {
+                return None;
+            };
+            self.append(parent, child);
+        }
+        ends[record] = end;
+        self.set_first(parent);
+        Some(leaves)
+    }
+
+    /// Writes the tree's table over a table that is in form or zero. `nodes` has 256 records.
+    pub fn store(&self, nodes: &mut [Node]) {
         let mut record_of = [0; RECORDS];
+        let mut filled = [0; RECORDS];
         let mut opened = 0;
         let mut item = if self.leaves() < 3 { NONE } else { ROOT };
         while item != NONE {
+            let mut value = number(item);
             if is_node(item) {
                 record_of[usize::from(item - ROOT)] = opened;
-                self.store_record(item, &mut nodes[usize::from(opened)]);
+                value = 256 + opened as u16;
+                self.store_head(item, &mut nodes[opened]);
                 opened += 1;
+            }
+            if item != ROOT {
+                let record = record_of[usize::from(self.parent(item) - ROOT)];
+                nodes[record].items[filled[record]] = value;
+                filled[record] += 1;
             }
             item = self.after(item);
         }
-        let opened = usize::from(opened);
-        for record in &mut nodes[..opened] {
-            let count = usize::from(record.count);
-            for item in &mut record.items[..count] {
-                if *item > 256 {
-                    *item = 256 + record_of[usize::from(*item - 257)];
-                }
-            }
-        }
-        if opened < dirty {
-            nodes[opened..dirty].fill(Node::UNUSED);
-        }
+        let unused = nodes[opened..RECORDS].iter_mut().take_while(|record| record.kind != 0);
+        unused.for_each(|record| *record = Node::UNUSED);
     }
 
-    /// Writes a node's record, with each child node as 257 plus its slot.
-    fn store_record(&self, node: Item, record: &mut Node) {
-        *record = Node { kind: 1 + u8::from(self.kind(node) == Kind::C), count: self.degree(node), ..Node::UNUSED };
-        for (place, child) in record.items.iter_mut().zip(self.children(node)) {
-            *place = number(child);
+    /// Writes the kind and count of a node over a record in form or zero, and zeros where its items end.
+    fn store_head(&self, node: Item, record: &mut Node) {
+        let (count, before) = (self.degree(node), record.count);
+        record.kind = 1 + u8::from(self.kind(node) == Kind::C);
+        record.count = count;
+        if count < before {
+            record.items[usize::from(count)..usize::from(before)].fill(0);
         }
     }
 }
