@@ -33,7 +33,7 @@ pub fn scan(file: &[u8]) -> Result<File, Refused> {
         refuse_unless(fits, 11, head + place)?;
     }
     let rest = file.len() - head;
-    refuse_unless(rest % width == 0, 11, file.len())?;
+    refuse_unless(rest.is_multiple_of(width), 11, file.len())?;
     Ok(File { names, head, lines: rest / width })
 }
 

@@ -220,8 +220,7 @@ impl Tree {
     }
 
     fn release(&mut self, node: Item) {
-        let s = slot(node);
-        self.used[s / 64] &= !(1 << (s % 64));
+        marks::clear(&mut self.used, slot(node));
     }
 
     /// Links `left` and `right` as siblings in `node`'s list; none on either side is the list's end.
