@@ -3,7 +3,7 @@
 use crate::book::{self, Book, GROUPS, WORDS};
 use crate::calls::aim_in;
 use crate::marks::{self, Marks};
-use crate::ringfile::{group_of, name_of, scan, File};
+use crate::ringfile::{group_of, names, scan, File};
 use crate::text::TEXT_BYTES;
 use crate::tree::Tree;
 
@@ -31,7 +31,7 @@ fn list(file: &[u8], scanned: File) -> Vec<u8> {
     let mut order = vec![0; n];
     tree.frontier(&mut order);
 
-    let names: Vec<&[u8]> = (0..n).map(|k| name_of(file, k)).collect();
+    let names: Vec<&[u8]> = names(file).collect();
     let mut out = b"line answer aim conflict\n".to_vec();
     for (k, line) in lines.iter().enumerate() {
         out.extend(format!("{} ", k + 1).bytes());

@@ -13,6 +13,11 @@ pub fn set(marks: &mut Marks, k: usize) {
     marks[k / 64] |= 1 << (k % 64);
 }
 
+/// Clears mark `k` (from 0).
+pub fn clear(marks: &mut Marks, k: usize) {
+    marks[k / 64] &= !(1 << (k % 64));
+}
+
 /// Returns how many marks are set.
 pub fn size(marks: &Marks) -> usize {
     marks.iter().map(|word| word.count_ones() as usize).sum()

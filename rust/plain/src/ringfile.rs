@@ -33,7 +33,7 @@ pub fn scan(file: &[u8]) -> Result<File, Refused> {
         refuse_unless(fits, 11, head + place)?;
     }
     let rest = file.len() - head;
-    refuse_unless(rest % width == 0, 11, file.len())?;
+    refuse_unless(rest.is_multiple_of(width), 11, file.len())?;
     Ok(File { names, head, lines: rest / width })
 }
 
@@ -68,19 +68,27 @@ fn may_begin(names: &HashSet<&[u8]>, part: &[u8]) -> bool {
     }
 }
 
+/// Returns the names of an accepted file as the parts of its names line.
+pub(crate) fn names(file: &[u8]) -> impl Iterator<Item = &[u8]> {
+    let line = file.split(|&byte| byte == b'\n').next().unwrap_or_default();
+    line.split(|&byte| byte == b' ')
+}
+
 /// Returns name `k`, from 0, of an accepted file as the part of its names line; of another number an empty part.
 pub fn name_of(file: &[u8], k: usize) -> &[u8] {
-    let line = file.split(|&byte| byte == b'\n').next().unwrap_or_default();
-    line.split(|&byte| byte == b' ').nth(k).unwrap_or_default()
+    names(file).nth(k).unwrap_or_default()
 }
 
 /// Writes the bins of value line `line`, from 0, of an accepted file into `list`, rising, and returns how many. With
 /// fewer places than names, or another line, it writes nothing and returns 0.
 pub fn group_of(file: &[u8], names: usize, head: usize, line: usize, list: &mut [u16]) -> usize {
-    let values = line.checked_mul(2 * names).and_then(|before| file.get(head..)?.get(before..)?.get(..2 * names));
-    let Some(values) = values.filter(|_| list.len() >= names) else { return 0 };
+    if names > list.len().min(NAMES) {
+        return 0;
+    }
+    let width = 2 * names;
+    let values = line.checked_mul(width).and_then(|before| file.get(head..)?.get(before..)?.get(..width));
     let mut size = 0;
-    for (k, value) in values.chunks_exact(2).enumerate() {
+    for (k, value) in values.unwrap_or_default().chunks_exact(2).enumerate() {
         if value[0] == b'1' {
             list[size] = k as u16 + 1;
             size += 1;

@@ -93,6 +93,8 @@ struct Reader<'a> {
     /// The leaves not yet read.
     left: Marks,
     left_size: usize,
+    /// How many of them have a number that begins with the digits of each number.
+    left_beginning: [usize; 257],
     /// How many leaves at least are still to come, so that each open node gets two items.
     need: usize,
 }
@@ -101,7 +103,12 @@ impl<'a> Reader<'a> {
     fn new(n: usize, text: &'a [u8], at: usize) -> Reader<'a> {
         let mut left = marks::all(n);
         left[0] &= !1;
-        Reader { n, text, at, tree: Tree::bare(n), start: [0; 512], left, left_size: n - 1, need: 0 }
+        let mut left_beginning = [0; 257];
+        for beginning in (2..=n).flat_map(beginnings) {
+            left_beginning[beginning] += 1;
+        }
+        let tree = Tree::bare(n);
+        Reader { n, text, at, tree, start: [0; 512], left, left_size: n - 1, left_beginning, need: 0 }
     }
 
     /// Returns the byte at hand, or the text's length as the error.
@@ -181,24 +188,22 @@ impl<'a> Reader<'a> {
                 break;
             }
             value = 10 * value + usize::from(byte - b'0');
-            self.pass(value > 0 && self.begins_leaf(value))?;
+            self.pass((1..=self.n).contains(&value) && self.left_beginning[value] > 0)?;
         }
-        if !self.is_left(value) {
+        if value == 0 || !marks::has(&self.left, value - 1) {
             return Err(self.at);
         }
-        let k = value - 1;
-        self.left[k / 64] &= !(1 << (k % 64));
+        marks::clear(&mut self.left, value - 1);
         self.left_size -= 1;
+        for beginning in beginnings(value) {
+            self.left_beginning[beginning] -= 1;
+        }
         self.add(node, leaf(value), start);
         Ok(())
     }
+}
 
-    fn is_left(&self, value: usize) -> bool {
-        (1..=self.n).contains(&value) && marks::has(&self.left, value - 1)
-    }
-
-    /// Returns whether the digits of `value`, which is not 0, begin the number of a leaf not yet read.
-    fn begins_leaf(&self, value: usize) -> bool {
-        [1, 10, 100].iter().any(|&scale| (value * scale..(value + 1) * scale).any(|longer| self.is_left(longer)))
-    }
+/// Returns the numbers whose digits a number of at most three digits begins with, and zeros.
+fn beginnings(value: usize) -> [usize; 3] {
+    [value, value / 10, value / 100]
 }

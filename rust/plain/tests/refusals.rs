@@ -44,7 +44,8 @@ fn table_refused(n: usize, nodes: &[Node]) {
 #[test]
 fn node_tables_not_in_form() {
     let ring = Ring::with(5, &[&[1, 3], &[3, 5]]);
-    let changes: [(usize, fn(&mut Node)); 14] = [
+    type Change = (usize, fn(&mut Node));
+    let changes: [Change; 14] = [
         (0, |record| record.kind = 0),
         (0, |record| record.kind = 3),
         (0, |record| record.count = 2),
