@@ -2,7 +2,8 @@
  *
  * A ring is its number of bins n, a table of node records, a book of mark words and the count of groups in the book. The caller owns the
  * tables and lends them to each call, each as a pointer and its count of elements. A pointer is never null, and tables do not overlap.
- * Longer tables than the sizes below may be lent: what stands past the stated size is never touched.
+ * Longer tables than the sizes below may be lent: what stands past the stated size is never touched. A thread that makes calls has a stack
+ * of 1 MiB or more.
  *
  * Every call but tokuwhape_name and tokuwhape_group returns TOKUWHAPE_DONE or the number of a refusal, and writes *value: when done, the
  * call's own answer; on 5 and 6 the place in the list from 0; on 11 and 12 the byte from 0; on any other refusal 0. A refusal leaves every

@@ -1,12 +1,14 @@
 //! Times the proved planner's calls and those of the independent planner `plain`, on the same rings and tables, in one run.
 //!
 //! Both sides make whole calls on lent tables: each loads and checks what it is lent. `Tree::join` is the plain planner's join alone, with no
-//! table. A time is the median of the rounds; in a round each side makes the same calls, one side after the other.
+//! table. A call's time is its median over the rounds; in a round each side makes the same calls, one side after the other.
 use std::hint::black_box;
 use std::time::Instant;
 
 const SIZES: [usize; 3] = [8, 64, 256];
+/// Rounds over the growth of a book, and of single calls.
 const ROUNDS: usize = 41;
+const CALLS: usize = 401;
 const GROUPS: usize = 96;
 
 /// A planner with the tables of one ring.
@@ -127,11 +129,11 @@ fn chain(n: usize) -> (Vec<Vec<u16>>, Vec<u16>) {
     (book, vec![1, pairs + 1])
 }
 
-/// Nanoseconds that a call takes, of `calls` calls that f makes.
-fn timed(calls: usize, f: impl FnOnce()) -> f64 {
+/// Nanoseconds that f takes.
+fn timed(f: impl FnOnce()) -> f64 {
     let start = Instant::now();
     f();
-    start.elapsed().as_nanos() as f64 / calls as f64
+    start.elapsed().as_nanos() as f64
 }
 
 fn median(mut times: Vec<f64>) -> f64 {
@@ -153,37 +155,41 @@ fn changed(n: usize, change: impl Fn(&mut dyn Planner)) -> Sides {
     sides
 }
 
-/// The median time of the rounds, for each side.
-fn both(rounds: usize, mut sides: Sides, round: impl Fn(&mut dyn Planner) -> f64) -> [f64; 2] {
+/// The time of a call for each side. A round times the same calls each time; each call's time is its median over the rounds, and what is
+/// returned is the mean over the round's calls.
+fn both(rounds: usize, mut sides: Sides, round: impl Fn(&mut dyn Planner) -> Vec<f64>) -> [f64; 2] {
     let mut times = [Vec::new(), Vec::new()];
     for _ in 0..rounds {
         for (ring, times) in sides.iter_mut().zip(&mut times) {
             times.push(round(ring.as_mut()));
         }
     }
-    times.map(median)
+    times.map(|rounds: Vec<Vec<f64>>| {
+        let calls = rounds[0].len();
+        (0..calls).map(|call| median(rounds.iter().map(|round| round[call]).collect())).sum::<f64>() / calls as f64
+    })
 }
 
-/// A call made ten times in a round.
-fn repeated(sides: Sides, call: impl Fn(&mut dyn Planner)) -> [f64; 2] {
-    both(ROUNDS, sides, |ring| timed(10, || (0..10).for_each(|_| call(ring))))
+/// One call, the same in each round.
+fn repeated(rounds: usize, sides: Sides, call: impl Fn(&mut dyn Planner)) -> [f64; 2] {
+    both(rounds, sides, |ring| vec![timed(|| call(ring))])
 }
 
-/// A join, over the growth of the book.
-fn joins(ring: &mut dyn Planner, groups: &[Vec<u16>]) -> f64 {
+/// Joins, over the growth of the book.
+fn joins(ring: &mut dyn Planner, groups: &[Vec<u16>]) -> Vec<f64> {
     ring.open();
-    timed(GROUPS, || groups.iter().for_each(|group| ring.join(black_box(group))))
+    groups.iter().map(|group| timed(|| ring.join(black_box(group)))).collect()
 }
 
-/// A trial, over the growth of the book: each group is tried before it joins.
-fn trials(ring: &mut dyn Planner, groups: &[Vec<u16>]) -> f64 {
+/// Trials, over the growth of the book: each group is tried before it joins.
+fn trials(ring: &mut dyn Planner, groups: &[Vec<u16>]) -> Vec<f64> {
     ring.open();
-    let mut total = 0.0;
+    let mut times = Vec::new();
     for group in groups {
-        total += timed(GROUPS, || ring.trial(black_box(group)));
+        times.push(timed(|| ring.trial(black_box(group))));
         ring.join(group);
     }
-    total
+    times
 }
 
 /// A join of the plain planner's tree, with no table, over the growth of the book.
@@ -191,7 +197,7 @@ fn tree_joins(n: usize, groups: &[Vec<u16>]) -> f64 {
     let groups: Vec<[u64; 4]> = groups.iter().map(|group| marks(group)).collect();
     let round = || {
         let mut tree = plain::Tree::fresh(n);
-        timed(GROUPS, || assert!(groups.iter().all(|group| tree.join(black_box(group)))))
+        timed(|| assert!(groups.iter().all(|group| tree.join(black_box(group))))) / GROUPS as f64
     };
     median((0..ROUNDS).map(|_| round()).collect())
 }
@@ -206,13 +212,13 @@ fn rows(n: usize) -> Vec<(&'static str, [f64; 2])> {
     vec![
         ("join", both(ROUNDS, opened(n), |ring| joins(ring, &groups))),
         ("trial", both(ROUNDS, opened(n), |ring| trials(ring, &groups))),
-        ("order", repeated(grown(), |ring| ring.order())),
-        ("write", repeated(grown(), |ring| ring.write())),
-        ("read", repeated(grown(), |ring| ring.read(black_box(&text)))),
-        ("conflict, empty list", repeated(grown(), |ring| assert_eq!(ring.conflict(black_box(&last)), 0))),
+        ("order", repeated(CALLS, grown(), |ring| ring.order())),
+        ("write", repeated(CALLS, grown(), |ring| ring.write())),
+        ("read", repeated(CALLS, grown(), |ring| ring.read(black_box(&text)))),
+        ("conflict, empty list", repeated(CALLS, grown(), |ring| assert_eq!(ring.conflict(black_box(&last)), 0))),
         ("conflict, longest list", {
             let booked = changed(n, |ring| pairs.iter().for_each(|group| ring.book(group)));
-            both(5, booked, |ring| timed(1, || assert_eq!(ring.conflict(black_box(&ends)), GROUPS.min(n - 2))))
+            repeated(9, booked, |ring| assert_eq!(ring.conflict(black_box(&ends)), GROUPS.min(n - 2)))
         }),
     ]
 }
