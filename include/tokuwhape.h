@@ -1,9 +1,9 @@
 /* The planner of a bag ring: the calls of the proved archive target/staticlib/libexports.a, which `rt staticlib exports` makes.
  *
  * A ring is its number of bins n, a table of node records, a book of mark words and the count of groups in the book. The caller owns the
- * tables and lends them to each call, each as a pointer and its count of elements. A pointer is never null, and tables do not overlap.
- * Longer tables than the sizes below may be lent: what stands past the stated size is never touched. A thread that makes calls has a stack
- * of 1 MiB or more.
+ * tables and lends them to each call, each as a pointer and its count of elements; a node table is counted in 16-bit numbers, 257 to a
+ * record. A pointer is never null, and tables do not overlap. Longer tables than the sizes below may be lent: what stands past the stated
+ * size is never touched. A thread that makes calls has a stack of 1 MiB or more.
  *
  * Every call but tokuwhape_name and tokuwhape_group returns TOKUWHAPE_DONE or the number of a refusal, and writes *value: when done, the
  * call's own answer; on 5 and 6 the place in the list from 0; on 11 and 12 the byte from 0; on any other refusal 0. A refusal leaves every
@@ -17,6 +17,7 @@
 #define TOKUWHAPE_BINS 256          /* bins of the largest ring */
 #define TOKUWHAPE_RECORDS 256       /* records of a node table */
 #define TOKUWHAPE_ITEMS 255         /* items of a node record */
+#define TOKUWHAPE_NUMBERS 65792     /* 16-bit numbers of a node table, 257 to a record */
 #define TOKUWHAPE_GROUPS 96         /* groups of a book, and places of a conflict list */
 #define TOKUWHAPE_WORDS 384         /* mark words of a book, four to a group */
 #define TOKUWHAPE_TEXT 2048         /* bytes for a tree text to be written */
@@ -43,29 +44,32 @@ enum tokuwhape_answer {
     TOKUWHAPE_TREE_TEXT = 12        /* tree text malformed */
 };
 
-/* A node record: docs/NODE-TABLE.md. */
+/* A node record, 257 numbers: docs/NODE-TABLE.md. */
 typedef struct {
-    uint8_t kind;                   /* 0 unused, 1 a P-node, 2 a C-node */
+    uint16_t kind;                  /* 0 unused, 1 a P-node, 2 a C-node */
     uint16_t count;                 /* how many items */
     uint16_t items[TOKUWHAPE_ITEMS]; /* a bin, or 256 plus the number of a record; then zeros */
 } tokuwhape_node;
 
+/* Compiles only where a table of records is its numbers, with nothing between them. */
+typedef char tokuwhape_node_size[TOKUWHAPE_RECORDS * sizeof(tokuwhape_node) == TOKUWHAPE_NUMBERS * sizeof(uint16_t) ? 1 : -1];
+
 /* Opens a ring of n bins: writes the fresh tree and an empty book. *value: 0, the count of groups. */
-uint8_t tokuwhape_open(size_t n, tokuwhape_node *nodes, size_t records, uint64_t *book, size_t words, size_t *value);
+uint8_t tokuwhape_open(size_t n, tokuwhape_node *nodes, size_t numbers, uint64_t *book, size_t words, size_t *value);
 
 /* Joins the list's group: writes the new tree, and the group to the book's next place. *value: the new count of groups. */
-uint8_t tokuwhape_join(size_t n, tokuwhape_node *nodes, size_t records, uint64_t *book, size_t words, size_t count, const uint16_t *list,
+uint8_t tokuwhape_join(size_t n, tokuwhape_node *nodes, size_t numbers, uint64_t *book, size_t words, size_t count, const uint16_t *list,
                        size_t length, size_t *value);
 
 /* Returns and tells in *value what joining the list's group would, and writes no table. */
-uint8_t tokuwhape_trial(size_t n, const tokuwhape_node *nodes, size_t records, const uint64_t *book, size_t words, size_t count,
+uint8_t tokuwhape_trial(size_t n, const tokuwhape_node *nodes, size_t numbers, const uint64_t *book, size_t words, size_t count,
                         const uint16_t *list, size_t length, size_t *value);
 
 /* Writes the standard order, from bin 1, to the first n places of order. *value: n. */
-uint8_t tokuwhape_order(size_t n, const tokuwhape_node *nodes, size_t records, uint16_t *order, size_t places, size_t *value);
+uint8_t tokuwhape_order(size_t n, const tokuwhape_node *nodes, size_t numbers, uint16_t *order, size_t places, size_t *value);
 
 /* Finds the aim, in the standard order, of the book's group with this number from 1. *value: the bin. */
-uint8_t tokuwhape_aim(size_t n, const tokuwhape_node *nodes, size_t records, const uint64_t *book, size_t words, size_t count, size_t group,
+uint8_t tokuwhape_aim(size_t n, const tokuwhape_node *nodes, size_t numbers, const uint64_t *book, size_t words, size_t count, size_t group,
                       size_t *value);
 
 /* Writes the numbers of the book's groups that are in conflict with the list's group, rising, then zeros, to the first 96 places of
@@ -74,10 +78,10 @@ uint8_t tokuwhape_conflict(size_t n, const uint64_t *book, size_t words, size_t 
                            uint16_t *conflicts, size_t places, size_t *value);
 
 /* Writes the tree text, then zeros, to the first 2,048 bytes. *value: the length of the text. */
-uint8_t tokuwhape_write(size_t n, const tokuwhape_node *nodes, size_t records, uint8_t *bytes, size_t places, size_t *value);
+uint8_t tokuwhape_write(size_t n, const tokuwhape_node *nodes, size_t numbers, uint8_t *bytes, size_t places, size_t *value);
 
 /* Reads a tree text of n bins, without zeros after it: writes its tree and an empty book. *value: 0, the count of groups. */
-uint8_t tokuwhape_read(size_t n, tokuwhape_node *nodes, size_t records, uint64_t *book, size_t words, const uint8_t *text, size_t length,
+uint8_t tokuwhape_read(size_t n, tokuwhape_node *nodes, size_t numbers, uint64_t *book, size_t words, const uint8_t *text, size_t length,
                        size_t *value);
 
 /* Reads a ring file through. *value: how many names, which is n; *head: the bytes of the names line with its line end; *lines: how many
