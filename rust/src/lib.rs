@@ -8,7 +8,7 @@
 
 mod refusal;
 mod ring;
-mod symbols;
+pub mod symbols;
 
 pub use refusal::Refusal;
 pub use ring::Ring;
@@ -28,12 +28,12 @@ pub const TEXT: usize = 2048;
 /// Bytes of the longest ring file.
 pub const FILE: usize = 65536;
 
-/// A node record; its fields are described in docs/NODE-TABLE.md.
+/// A node record, 257 numbers of 16 bits; its fields are described in docs/NODE-TABLE.md.
 #[repr(C)]
 #[derive(Clone, Copy, PartialEq, Eq, Debug)]
 pub struct Node {
     /// 0 unused, 1 a P-node, 2 a C-node.
-    pub kind: u8,
+    pub kind: u16,
     /// How many items.
     pub count: u16,
     /// Leaves as their numbers, nodes as 256 plus the number of a record; then zeros.
@@ -43,6 +43,14 @@ pub struct Node {
 impl Node {
     /// A record that is not used.
     pub const UNUSED: Node = Node { kind: 0, count: 0, items: [0; ITEMS] };
+}
+
+// A record is its kind, its count and its items, with nothing between them.
+const _: () = assert!(size_of::<Node>() == (2 + ITEMS) * size_of::<u16>());
+
+/// How many numbers of 16 bits the records are.
+fn numbers(nodes: &[Node]) -> usize {
+    size_of_val(nodes) / size_of::<u16>()
 }
 
 /// What an accepted ring file holds.
@@ -66,19 +74,19 @@ fn answer(call: impl FnOnce(*mut usize) -> u8) -> Result<usize, Refusal> {
     }
 }
 
-// Each pointer below is a slice's or a local's, with the slice's length beside it, so it is valid for the call and never null; the borrow
+// Each pointer below is a slice's or a local's, with the slice's size beside it, so it is valid for the call and never null; the borrow
 // checker keeps the mutable ones apart from the others.
 
 /// Opens a ring: writes the fresh tree and an empty book. Returns the count of groups, 0.
 pub fn open(n: usize, nodes: &mut [Node], book: &mut [u64]) -> Result<usize, Refusal> {
-    answer(|value| unsafe { symbols::tokuwhape_open(n, nodes.as_mut_ptr(), nodes.len(), book.as_mut_ptr(), book.len(), value) })
+    answer(|value| unsafe { symbols::tokuwhape_open(n, nodes.as_mut_ptr(), numbers(nodes), book.as_mut_ptr(), book.len(), value) })
 }
 
 /// Joins the list's group: writes the new tree, and the group to the book's next place. Returns the new count of groups.
 pub fn join(n: usize, nodes: &mut [Node], book: &mut [u64], count: usize, list: &[u16]) -> Result<usize, Refusal> {
     answer(|value| unsafe {
         let (tree, marks) = (nodes.as_mut_ptr(), book.as_mut_ptr());
-        symbols::tokuwhape_join(n, tree, nodes.len(), marks, book.len(), count, list.as_ptr(), list.len(), value)
+        symbols::tokuwhape_join(n, tree, numbers(nodes), marks, book.len(), count, list.as_ptr(), list.len(), value)
     })
 }
 
@@ -86,18 +94,18 @@ pub fn join(n: usize, nodes: &mut [Node], book: &mut [u64], count: usize, list: 
 pub fn trial(n: usize, nodes: &[Node], book: &[u64], count: usize, list: &[u16]) -> Result<usize, Refusal> {
     answer(|value| unsafe {
         let (tree, marks) = (nodes.as_ptr(), book.as_ptr());
-        symbols::tokuwhape_trial(n, tree, nodes.len(), marks, book.len(), count, list.as_ptr(), list.len(), value)
+        symbols::tokuwhape_trial(n, tree, numbers(nodes), marks, book.len(), count, list.as_ptr(), list.len(), value)
     })
 }
 
 /// Writes the standard order, from leaf 1, to the first n places. Returns n.
 pub fn order(n: usize, nodes: &[Node], order: &mut [u16]) -> Result<usize, Refusal> {
-    answer(|value| unsafe { symbols::tokuwhape_order(n, nodes.as_ptr(), nodes.len(), order.as_mut_ptr(), order.len(), value) })
+    answer(|value| unsafe { symbols::tokuwhape_order(n, nodes.as_ptr(), numbers(nodes), order.as_mut_ptr(), order.len(), value) })
 }
 
 /// Returns the leaf that is the aim, in the standard order, of the book's group with this number from 1.
 pub fn aim(n: usize, nodes: &[Node], book: &[u64], count: usize, group: usize) -> Result<usize, Refusal> {
-    answer(|value| unsafe { symbols::tokuwhape_aim(n, nodes.as_ptr(), nodes.len(), book.as_ptr(), book.len(), count, group, value) })
+    answer(|value| unsafe { symbols::tokuwhape_aim(n, nodes.as_ptr(), numbers(nodes), book.as_ptr(), book.len(), count, group, value) })
 }
 
 /// Writes the numbers of the book's groups that are in conflict with the list's group, rising, then zeros, to the first 96 places: none where
@@ -111,14 +119,14 @@ pub fn conflict(n: usize, book: &[u64], count: usize, list: &[u16], conflicts: &
 
 /// Writes the tree text, then zeros, to the first 2,048 bytes. Returns the length of the text.
 pub fn write(n: usize, nodes: &[Node], bytes: &mut [u8]) -> Result<usize, Refusal> {
-    answer(|value| unsafe { symbols::tokuwhape_write(n, nodes.as_ptr(), nodes.len(), bytes.as_mut_ptr(), bytes.len(), value) })
+    answer(|value| unsafe { symbols::tokuwhape_write(n, nodes.as_ptr(), numbers(nodes), bytes.as_mut_ptr(), bytes.len(), value) })
 }
 
 /// Reads a tree text of n leaves: writes its tree and an empty book. Returns the count of groups, 0.
 pub fn read(n: usize, nodes: &mut [Node], book: &mut [u64], text: &[u8]) -> Result<usize, Refusal> {
     answer(|value| unsafe {
         let (tree, marks) = (nodes.as_mut_ptr(), book.as_mut_ptr());
-        symbols::tokuwhape_read(n, tree, nodes.len(), marks, book.len(), text.as_ptr(), text.len(), value)
+        symbols::tokuwhape_read(n, tree, numbers(nodes), marks, book.len(), text.as_ptr(), text.len(), value)
     })
 }
 

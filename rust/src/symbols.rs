@@ -1,12 +1,12 @@
-//! The archive's functions, as include/tokuwhape.h declares them.
+//! The archive's functions, as include/tokuwhape.h declares them. A node table is counted in numbers of 16 bits, 257 to a record.
 use crate::Node;
 
 extern "C" {
-    pub fn tokuwhape_open(n: usize, nodes: *mut Node, records: usize, book: *mut u64, words: usize, value: *mut usize) -> u8;
+    pub fn tokuwhape_open(n: usize, nodes: *mut Node, numbers: usize, book: *mut u64, words: usize, value: *mut usize) -> u8;
     pub fn tokuwhape_join(
         n: usize,
         nodes: *mut Node,
-        records: usize,
+        numbers: usize,
         book: *mut u64,
         words: usize,
         count: usize,
@@ -17,7 +17,7 @@ extern "C" {
     pub fn tokuwhape_trial(
         n: usize,
         nodes: *const Node,
-        records: usize,
+        numbers: usize,
         book: *const u64,
         words: usize,
         count: usize,
@@ -25,11 +25,11 @@ extern "C" {
         length: usize,
         value: *mut usize,
     ) -> u8;
-    pub fn tokuwhape_order(n: usize, nodes: *const Node, records: usize, order: *mut u16, places: usize, value: *mut usize) -> u8;
+    pub fn tokuwhape_order(n: usize, nodes: *const Node, numbers: usize, order: *mut u16, places: usize, value: *mut usize) -> u8;
     pub fn tokuwhape_aim(
         n: usize,
         nodes: *const Node,
-        records: usize,
+        numbers: usize,
         book: *const u64,
         words: usize,
         count: usize,
@@ -47,11 +47,11 @@ extern "C" {
         places: usize,
         value: *mut usize,
     ) -> u8;
-    pub fn tokuwhape_write(n: usize, nodes: *const Node, records: usize, bytes: *mut u8, places: usize, value: *mut usize) -> u8;
+    pub fn tokuwhape_write(n: usize, nodes: *const Node, numbers: usize, bytes: *mut u8, places: usize, value: *mut usize) -> u8;
     pub fn tokuwhape_read(
         n: usize,
         nodes: *mut Node,
-        records: usize,
+        numbers: usize,
         book: *mut u64,
         words: usize,
         text: *const u8,

@@ -10,7 +10,7 @@ pub const RECORDS: usize = 256;
 #[repr(C)]
 #[derive(Clone, Copy, PartialEq, Eq, Debug)]
 pub struct Node {
-    pub kind: u8,
+    pub kind: u16,
     pub count: u16,
     pub items: [u16; 255],
 }
@@ -106,7 +106,7 @@ impl Tree {
     /// Writes the kind and count of a node over a record in form or zero, and zeros where its items end.
     fn store_head(&self, node: Item, record: &mut Node) {
         let (count, before) = (self.degree(node), record.count);
-        record.kind = 1 + u8::from(self.kind(node) == Kind::C);
+        record.kind = 1 + u16::from(self.kind(node) == Kind::C);
         record.count = count;
         if count < before {
             record.items[usize::from(count)..usize::from(before)].fill(0);

@@ -16,7 +16,7 @@ fn damage(random: &mut Random, ring: &mut Ring) {
     let place = [random.below(count + 1), random.below(255)][random.below(2)];
     let second = random.below(count + 1);
     match random.below(8) {
-        0 => ring.nodes[record].kind = value as u8,
+        0 => ring.nodes[record].kind = value,
         1 => ring.nodes[record].count = value,
         2 | 3 => ring.nodes[record].items[place] = value,
         4 => ring.nodes[record].items.swap(place, second),
@@ -82,7 +82,7 @@ fn tables_of_noise() {
     for _ in 0..100 {
         let n = 1 + random.below(256);
         let noise = |random: &mut Random| Node {
-            kind: random.below(4) as u8,
+            kind: random.below(4) as u16,
             count: random.below(300) as u16,
             items: std::array::from_fn(|_| random.below(600) as u16),
         };

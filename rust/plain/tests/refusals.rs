@@ -45,9 +45,10 @@ fn table_refused(n: usize, nodes: &[Node]) {
 fn node_tables_not_in_form() {
     let ring = Ring::with(5, &[&[1, 3], &[3, 5]]);
     type Change = (usize, fn(&mut Node));
-    let changes: [Change; 14] = [
+    let changes: [Change; 15] = [
         (0, |record| record.kind = 0),
         (0, |record| record.kind = 3),
+        (0, |record| record.kind = 258),
         (0, |record| record.count = 2),
         (0, |record| record.count = 4),
         (0, |record| record.count = u16::MAX),

@@ -16,7 +16,7 @@ pub struct Grown {
 fn odd_record(draw: &mut Draw) -> Node {
     let mut items = [0; 255];
     items.fill_with(|| draw.number() as u16);
-    Node { kind: draw.number() as u8, count: draw.number() as u16, items }
+    Node { kind: draw.number() as u16, count: draw.number() as u16, items }
 }
 
 /// Both sides' tables, of their stated size or longer, full of old numbers.
@@ -97,8 +97,8 @@ fn damage_nodes(draw: &mut Draw, n: usize, nodes: &mut [Node]) {
     let (i, j) = (draw.below(count + 1), draw.below(count + 1));
     let record = &mut nodes[at];
     match draw.below(13) {
-        0 => record.kind = draw.pick(&[0, 1, 2, 3, 255]),
-        1 => record.kind = 3 - record.kind.min(2),
+        0 => record.kind = draw.pick(&[0, 1, 2, 3, 255, 256, 257, 258, 65_535]),
+        1 => record.kind = draw.pick(&[3 - record.kind.min(2), record.kind | 256, record.kind << 8]),
         2 => record.count = draw.pick(&[0, 1, 2, 3, 254, 255, 256, 65_535]),
         3 => record.count = record.count.wrapping_add(draw.pick(&[1, 65_535])),
         4 => record.items[i] = draw.below(n + 3) as u16,
