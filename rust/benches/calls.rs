@@ -1,14 +1,17 @@
 //! Times the proved planner's calls and those of the independent planner `plain`, on the same rings and tables, in one run.
 //!
-//! Both sides make whole calls on lent tables: each loads and checks what it is lent. `Tree::join` is the plain planner's join alone, with no
-//! table. A call's time is its median over the rounds; in a round each side makes the same calls, one side after the other.
+//! Both sides make whole calls on lent tables, and each checks what it is lent. A call's time is its median over the rounds; in a round each
+//! side makes the same calls, one side after the other.
 use std::hint::black_box;
 use std::time::Instant;
 
 const SIZES: [usize; 3] = [8, 64, 256];
-/// Rounds over the growth of a book, and of single calls.
+/// Rounds over the growth of a book, of the other calls, and of the longest call.
 const ROUNDS: usize = 41;
-const CALLS: usize = 401;
+const CALLS: usize = 201;
+const LONGEST: usize = 9;
+/// How often a call that leaves the ring as it is, a conflict call apart, is made in a round.
+const TIMES: usize = 10;
 const GROUPS: usize = 96;
 
 /// A planner with the tables of one ring.
@@ -18,8 +21,14 @@ trait Planner {
     fn trial(&mut self, list: &[u16]);
     fn order(&mut self);
     fn write(&mut self);
+    fn aim(&mut self);
     fn read(&mut self, text: &[u8]);
     fn conflict(&mut self, list: &[u16]) -> usize;
+    fn scan(&mut self, file: &[u8]) -> usize;
+    /// The ring file's last name.
+    fn name(&mut self, file: &[u8]);
+    /// The group of the ring file's last line, 96 in all after a names line of `head` bytes.
+    fn group(&mut self, file: &[u8], head: usize);
     /// Puts the list's group into the book's next place, whatever the tree.
     fn book(&mut self, list: &[u16]);
     /// The ring's tree text.
@@ -27,7 +36,7 @@ trait Planner {
 }
 
 macro_rules! planner {
-    ($name:ident, $planner:ident) => {
+    ($name:ident, $planner:ident, $group_of:path) => {
         struct $name {
             n: usize,
             nodes: Vec<$planner::Node>,
@@ -62,6 +71,9 @@ macro_rules! planner {
             fn order(&mut self) {
                 black_box($planner::order(self.n, &self.nodes, &mut self.order).expect("in form"));
             }
+            fn aim(&mut self) {
+                black_box($planner::aim(self.n, &self.nodes, &self.book, self.count, self.count).expect("in form"));
+            }
             fn write(&mut self) {
                 black_box($planner::write(self.n, &self.nodes, &mut self.bytes).expect("in form"));
             }
@@ -70,6 +82,15 @@ macro_rules! planner {
             }
             fn conflict(&mut self, list: &[u16]) -> usize {
                 $planner::conflict(self.n, &self.book, self.count, list, &mut self.conflicts).expect("in form")
+            }
+            fn scan(&mut self, file: &[u8]) -> usize {
+                $planner::scan(file).expect("a ring file").head
+            }
+            fn name(&mut self, file: &[u8]) {
+                black_box($planner::name_of(file, self.n - 1));
+            }
+            fn group(&mut self, file: &[u8], head: usize) {
+                black_box($group_of(file, self.n, head, GROUPS - 1, &mut self.order));
             }
             fn book(&mut self, list: &[u16]) {
                 self.book[4 * self.count..4 * self.count + 4].copy_from_slice(&marks(list));
@@ -83,8 +104,13 @@ macro_rules! planner {
     };
 }
 
-planner!(Proved, tokuwhape);
-planner!(Plain, plain);
+planner!(Proved, tokuwhape, proved_group);
+planner!(Plain, plain, plain::group_of);
+
+/// The proved planner's group of a ring file's line.
+fn proved_group(file: &[u8], names: usize, head: usize, line: usize, list: &mut [u16]) -> usize {
+    tokuwhape::group_of(file, tokuwhape::File { names, head, lines: GROUPS }, line, list)
+}
 
 /// The mark words of a group.
 fn marks(list: &[u16]) -> [u64; 4] {
@@ -129,6 +155,17 @@ fn chain(n: usize) -> (Vec<Vec<u16>>, Vec<u16>) {
     (book, vec![1, pairs + 1])
 }
 
+/// A ring file with the names B1, B2, .. and these groups.
+fn ring_file(n: usize, groups: &[Vec<u16>]) -> Vec<u8> {
+    let line = |values: Vec<String>| values.join(" ") + "\n";
+    let mut file = line((1..=n).map(|leaf| format!("B{leaf}")).collect());
+    for group in groups {
+        let marks = marks(group);
+        file += &line((0..n).map(|mark| (marks[mark / 64] >> (mark % 64) & 1).to_string()).collect());
+    }
+    file.into_bytes()
+}
+
 /// Nanoseconds that f takes.
 fn timed(f: impl FnOnce()) -> f64 {
     let start = Instant::now();
@@ -170,9 +207,14 @@ fn both(rounds: usize, mut sides: Sides, round: impl Fn(&mut dyn Planner) -> Vec
     })
 }
 
-/// One call, the same in each round.
-fn repeated(rounds: usize, sides: Sides, call: impl Fn(&mut dyn Planner)) -> [f64; 2] {
-    both(rounds, sides, |ring| vec![timed(|| call(ring))])
+/// One call, made so many times in each round.
+fn repeated(rounds: usize, times: usize, sides: Sides, call: impl Fn(&mut dyn Planner)) -> [f64; 2] {
+    both(rounds, sides, |ring| vec![timed(|| (0..times).for_each(|_| call(ring))) / times as f64])
+}
+
+/// One short call.
+fn short(sides: Sides, call: impl Fn(&mut dyn Planner)) -> [f64; 2] {
+    repeated(CALLS, TIMES, sides, call)
 }
 
 /// Joins, over the growth of the book.
@@ -192,39 +234,48 @@ fn trials(ring: &mut dyn Planner, groups: &[Vec<u16>]) -> Vec<f64> {
     times
 }
 
-/// A join of the plain planner's tree, with no table, over the growth of the book.
-fn tree_joins(n: usize, groups: &[Vec<u16>]) -> f64 {
-    let groups: Vec<[u64; 4]> = groups.iter().map(|group| marks(group)).collect();
-    let round = || {
-        let mut tree = plain::Tree::fresh(n);
-        timed(|| assert!(groups.iter().all(|group| tree.join(black_box(group))))) / GROUPS as f64
-    };
-    median((0..ROUNDS).map(|_| round()).collect())
-}
+/// A call's name, and the times of both sides.
+type Row = (&'static str, [f64; 2]);
 
-/// The calls that are timed, and for each the times of both sides on a ring of n leaves.
-fn rows(n: usize) -> Vec<(&'static str, [f64; 2])> {
+/// The calls on a ring of n leaves.
+fn ring_rows(n: usize) -> Vec<Row> {
     let mut groups = runs(n);
     let last = groups.pop().expect("97 groups");
-    let (pairs, ends) = chain(n);
     let grown = || changed(n, |ring| groups.iter().for_each(|group| ring.join(group)));
     let text = grown()[0].text();
     vec![
+        ("open", short(opened(n), |ring| ring.open())),
         ("join", both(ROUNDS, opened(n), |ring| joins(ring, &groups))),
         ("trial", both(ROUNDS, opened(n), |ring| trials(ring, &groups))),
-        ("order", repeated(CALLS, grown(), |ring| ring.order())),
-        ("write", repeated(CALLS, grown(), |ring| ring.write())),
-        ("read", repeated(CALLS, grown(), |ring| ring.read(black_box(&text)))),
-        ("conflict, empty list", repeated(CALLS, grown(), |ring| assert_eq!(ring.conflict(black_box(&last)), 0))),
-        ("conflict, longest list", {
-            let booked = changed(n, |ring| pairs.iter().for_each(|group| ring.book(group)));
-            repeated(9, booked, |ring| assert_eq!(ring.conflict(black_box(&ends)), GROUPS.min(n - 2)))
-        }),
+        ("order", short(grown(), |ring| ring.order())),
+        ("aim", short(grown(), |ring| ring.aim())),
+        ("write", short(grown(), |ring| ring.write())),
+        ("read", short(grown(), |ring| ring.read(black_box(&text)))),
+        ("conflict, empty list", repeated(CALLS, 1, grown(), |ring| assert_eq!(ring.conflict(black_box(&last)), 0))),
+    ]
+}
+
+/// The conflict call that names the most groups.
+fn longest_conflict(n: usize) -> Row {
+    let (pairs, ends) = chain(n);
+    let booked = changed(n, |ring| pairs.iter().for_each(|group| ring.book(group)));
+    let times = repeated(LONGEST, 1, booked, |ring| assert_eq!(ring.conflict(black_box(&ends)), GROUPS.min(n - 2)));
+    ("conflict, longest list", times)
+}
+
+/// The calls on a ring file with n names.
+fn file_rows(n: usize) -> Vec<Row> {
+    let file = ring_file(n, &runs(n)[..GROUPS]);
+    let head = opened(n)[0].scan(&file);
+    vec![
+        ("scan", short(opened(n), |ring| assert_eq!(ring.scan(black_box(&file)), head))),
+        ("name", short(opened(n), |ring| ring.name(black_box(&file)))),
+        ("group", short(opened(n), |ring| ring.group(black_box(&file), head))),
     ]
 }
 
 fn main() {
-    let tables: Vec<_> = SIZES.iter().map(|&n| rows(n)).collect();
+    let tables = SIZES.map(|n| [ring_rows(n), vec![longest_conflict(n)], file_rows(n)].concat());
     println!("| call | n | proved, ns | plain, ns | ratio |\n|---|---|---|---|---|");
     for call in 0..tables[0].len() {
         for (n, table) in SIZES.iter().zip(&tables) {
@@ -235,9 +286,5 @@ fn main() {
     println!("\n| call | proved, 256 over 64 | plain, 256 over 64 |\n|---|---|---|");
     for (small, large) in tables[1].iter().zip(&tables[2]) {
         println!("| {} | {:.2} | {:.2} |", small.0, large.1[0] / small.1[0], large.1[1] / small.1[1]);
-    }
-    println!("\n| n | plain's `Tree::join` alone, ns |\n|---|---|");
-    for n in SIZES {
-        println!("| {n} | {:.0} |", tree_joins(n, &runs(n)[..GROUPS]));
     }
 }
