@@ -1,4 +1,5 @@
-//! Circle e of document 01 through the wrappers and through the archive's functions, which count a node table in numbers: whole records or not.
+//! Circle e of document 01: its node table in numbers, lent to the archive's functions with any count of them; its conflicts; ring files; and a
+//! ring that owns its tables.
 use tokuwhape::symbols::*;
 use tokuwhape::{Node, Refusal, Ring};
 
@@ -108,17 +109,18 @@ fn kinds_above_a_byte_are_refused() {
 }
 
 #[test]
-fn conflicts_texts_and_files() {
-    let mut ring = Ring::from_text(5, "1 C(P(2 4) 5 3)").unwrap();
-    assert_eq!(ring.join(&[1, 5]), Err(Refusal::Impossible));
-    let mut conflicts = [9; 97];
-    let book = circle_e(NUMBERS).book;
+fn conflicts_of_circle_e() {
+    let (book, mut conflicts) = (circle_e(NUMBERS).book, [9; 97]);
     assert_eq!(tokuwhape::conflict(5, &book, 2, &[1, 5], &mut conflicts[..95]), Err(Refusal::ShortTable));
+    assert_eq!(tokuwhape::conflict(5, &book[..383], 2, &[1, 5], &mut conflicts), Err(Refusal::ShortTable));
     assert_eq!(conflicts, [9; 97]);
     assert_eq!(tokuwhape::conflict(5, &book, 2, &[1, 5], &mut conflicts), Ok(2));
     assert_eq!(conflicts[..3], [1, 2, 0]);
     assert!(conflicts[3..96].iter().all(|number| *number == 0) && conflicts[96] == 9);
-    assert_eq!(Ring::from_text(5, "1 C(P(2 4) 5 5)"), Err(Refusal::TreeText(13)));
+}
+
+#[test]
+fn ring_files() {
     assert_eq!(tokuwhape::scan(b"A B A\n"), Err(Refusal::RingFile(5)));
     assert_eq!(tokuwhape::scan(&[b'A'; 65_537]), Err(Refusal::RingFile(65_536)));
     let file = b"A B C\n1 - 1\n0 0 0\n";
