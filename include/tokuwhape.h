@@ -1,0 +1,103 @@
+/* The planner of a bag ring: the calls of the proved archive target/staticlib/libexports.a, which `rt staticlib exports` makes.
+ *
+ * A ring is its number of bins n, a table of node records, a book of mark words and the count of groups in the book. The caller owns the
+ * tables and lends them to each call, each as a pointer and its count of elements; a node table is counted in 16-bit numbers, 257 to a
+ * record. A pointer is never null, and tables do not overlap. Longer tables than the sizes below may be lent: what stands past the stated
+ * size is never touched. A thread that makes calls has a stack of 1 MiB or more.
+ *
+ * Every call but tokuwhape_name and tokuwhape_group returns TOKUWHAPE_DONE or the number of a refusal, and writes *value: when done, the
+ * call's own answer; on 5 and 6 the place in the list from 0; on 11 and 12 the byte from 0; on any other refusal 0. A refusal leaves every
+ * table as it was. */
+#ifndef TOKUWHAPE_H
+#define TOKUWHAPE_H
+
+#include <stddef.h>
+#include <stdint.h>
+
+#define TOKUWHAPE_BINS 256          /* bins of the largest ring */
+#define TOKUWHAPE_RECORDS 256       /* records of a node table */
+#define TOKUWHAPE_ITEMS 255         /* items of a node record */
+#define TOKUWHAPE_NUMBERS 65792     /* 16-bit numbers of a node table, 257 to a record */
+#define TOKUWHAPE_GROUPS 96         /* groups of a book, and places of a conflict list */
+#define TOKUWHAPE_WORDS 384         /* mark words of a book, four to a group */
+#define TOKUWHAPE_TEXT 2048         /* bytes for a tree text to be written */
+#define TOKUWHAPE_FILE 65536        /* bytes of the longest ring file */
+
+#ifdef __cplusplus
+extern "C" {
+#endif
+
+/* What a call returns. */
+enum tokuwhape_answer {
+    TOKUWHAPE_DONE = 0,
+    TOKUWHAPE_RING_SIZE = 1,        /* n is 0 or above 256 */
+    TOKUWHAPE_SHORT_TABLE = 2,      /* a lent table is too short */
+    TOKUWHAPE_NOT_IN_FORM = 3,      /* node table or book not in form, or the count above 96 */
+    TOKUWHAPE_EMPTY_GROUP = 4,      /* the list is empty */
+    TOKUWHAPE_OUTSIDE_RING = 5,     /* a bin is 0 or above n */
+    TOKUWHAPE_REPEATED = 6,         /* a bin stands earlier in the same list */
+    TOKUWHAPE_BOOK_FULL = 7,        /* 96 groups already in the book */
+    TOKUWHAPE_IMPOSSIBLE = 8,       /* no order of the tree has the group consecutive */
+    TOKUWHAPE_NO_SUCH_GROUP = 9,    /* the group number is 0 or above the count */
+    TOKUWHAPE_NOT_CONSECUTIVE = 10, /* the book's group is not consecutive in the standard order */
+    TOKUWHAPE_RING_FILE = 11,       /* ring file malformed */
+    TOKUWHAPE_TREE_TEXT = 12        /* tree text malformed */
+};
+
+/* A node record, 257 numbers: docs/NODE-TABLE.md. */
+typedef struct {
+    uint16_t kind;                  /* 0 unused, 1 a P-node, 2 a C-node */
+    uint16_t count;                 /* how many items */
+    uint16_t items[TOKUWHAPE_ITEMS]; /* a bin, or 256 plus the number of a record; then zeros */
+} tokuwhape_node;
+
+/* Compiles only where a table of records is its numbers, with nothing between them. */
+typedef char tokuwhape_node_size[TOKUWHAPE_RECORDS * sizeof(tokuwhape_node) == TOKUWHAPE_NUMBERS * sizeof(uint16_t) ? 1 : -1];
+
+/* Opens a ring of n bins: writes the fresh tree and an empty book. *value: 0, the count of groups. */
+uint8_t tokuwhape_open(size_t n, tokuwhape_node *nodes, size_t numbers, uint64_t *book, size_t words, size_t *value);
+
+/* Joins the list's group: writes the new tree, and the group to the book's next place. *value: the new count of groups. */
+uint8_t tokuwhape_join(size_t n, tokuwhape_node *nodes, size_t numbers, uint64_t *book, size_t words, size_t count, const uint16_t *list,
+                       size_t length, size_t *value);
+
+/* Returns and tells in *value what joining the list's group would, and writes no table. */
+uint8_t tokuwhape_trial(size_t n, const tokuwhape_node *nodes, size_t numbers, const uint64_t *book, size_t words, size_t count,
+                        const uint16_t *list, size_t length, size_t *value);
+
+/* Writes the standard order, from bin 1, to the first n places of order. *value: n. */
+uint8_t tokuwhape_order(size_t n, const tokuwhape_node *nodes, size_t numbers, uint16_t *order, size_t places, size_t *value);
+
+/* Finds the aim, in the standard order, of the book's group with this number from 1. *value: the bin. */
+uint8_t tokuwhape_aim(size_t n, const tokuwhape_node *nodes, size_t numbers, const uint64_t *book, size_t words, size_t count, size_t group,
+                      size_t *value);
+
+/* Writes the numbers of the book's groups that are in conflict with the list's group, rising, then zeros, to the first 96 places of
+ * conflicts: none where the whole book and the group can hang together. *value: how many numbers. */
+uint8_t tokuwhape_conflict(size_t n, const uint64_t *book, size_t words, size_t count, const uint16_t *list, size_t length,
+                           uint16_t *conflicts, size_t places, size_t *value);
+
+/* Writes the tree text, then zeros, to the first 2,048 bytes. *value: the length of the text. */
+uint8_t tokuwhape_write(size_t n, const tokuwhape_node *nodes, size_t numbers, uint8_t *bytes, size_t places, size_t *value);
+
+/* Reads a tree text of n bins, without zeros after it: writes its tree and an empty book. *value: 0, the count of groups. */
+uint8_t tokuwhape_read(size_t n, tokuwhape_node *nodes, size_t numbers, uint64_t *book, size_t words, const uint8_t *text, size_t length,
+                       size_t *value);
+
+/* Reads a ring file through. *value: how many names, which is n; *head: the bytes of the names line with its line end; *lines: how many
+ * lines of values. Where it is refused, *head and *lines are 0. */
+uint8_t tokuwhape_scan(const uint8_t *file, size_t length, size_t *head, size_t *lines, size_t *value);
+
+/* Returns the length, 1 to 8, of the name of bin k + 1 in a file that tokuwhape_scan accepts with more than k names. *start: its first
+ * byte. Of any other file or number, some part of the file. */
+size_t tokuwhape_name(const uint8_t *file, size_t length, size_t k, size_t *start);
+
+/* Writes the bins, rising, of value line `line`, from 0, to list and returns how many: of a file that tokuwhape_scan accepts with these
+ * names and this head and with more than `line` lines. With fewer than `names` places it writes nothing and returns 0. */
+size_t tokuwhape_group(const uint8_t *file, size_t length, size_t names, size_t head, size_t line, uint16_t *list, size_t places);
+
+#ifdef __cplusplus
+}
+#endif
+
+#endif

@@ -1,0 +1,290 @@
+//! Times the proved planner's calls and those of the independent planner `plain`, on the same rings and tables, in one run.
+//!
+//! Both sides make whole calls on lent tables, and each checks what it is lent. A call's time is its median over the rounds; in a round each
+//! side makes the same calls, one side after the other.
+use std::hint::black_box;
+use std::time::Instant;
+
+const SIZES: [usize; 3] = [8, 64, 256];
+/// Rounds over the growth of a book, of the other calls, and of the longest call.
+const ROUNDS: usize = 41;
+const CALLS: usize = 201;
+const LONGEST: usize = 9;
+/// How often a call that leaves the ring as it is, a conflict call apart, is made in a round.
+const TIMES: usize = 10;
+const GROUPS: usize = 96;
+
+/// A planner with the tables of one ring.
+trait Planner {
+    fn open(&mut self);
+    fn join(&mut self, list: &[u16]);
+    fn trial(&mut self, list: &[u16]);
+    fn order(&mut self);
+    fn write(&mut self);
+    fn aim(&mut self);
+    fn read(&mut self, text: &[u8]);
+    fn conflict(&mut self, list: &[u16]) -> usize;
+    fn scan(&mut self, file: &[u8]) -> usize;
+    /// The ring file's last name.
+    fn name(&mut self, file: &[u8]);
+    /// The group of the ring file's last line, 96 in all after a names line of `head` bytes.
+    fn group(&mut self, file: &[u8], head: usize);
+    /// Puts the list's group into the book's next place, whatever the tree.
+    fn book(&mut self, list: &[u16]);
+    /// The ring's tree text.
+    fn text(&mut self) -> Vec<u8>;
+}
+
+macro_rules! planner {
+    ($name:ident, $planner:ident, $group_of:path) => {
+        struct $name {
+            n: usize,
+            nodes: Vec<$planner::Node>,
+            book: Vec<u64>,
+            count: usize,
+            order: Vec<u16>,
+            conflicts: Vec<u16>,
+            bytes: Vec<u8>,
+        }
+
+        impl $name {
+            /// A ring of n leaves, opened, in tables of its own.
+            fn fresh(n: usize) -> $name {
+                let nodes = vec![$planner::Node { kind: 0, count: 0, items: [0; 255] }; 256];
+                let (order, conflicts, bytes) = (vec![0; n], vec![0; GROUPS], vec![0; 2048]);
+                let mut ring = $name { n, nodes, book: vec![0; 4 * GROUPS], count: 0, order, conflicts, bytes };
+                ring.open();
+                ring
+            }
+        }
+
+        impl Planner for $name {
+            fn open(&mut self) {
+                self.count = $planner::open(self.n, &mut self.nodes, &mut self.book).expect("opened");
+            }
+            fn join(&mut self, list: &[u16]) {
+                self.count = $planner::join(self.n, &mut self.nodes, &mut self.book, self.count, list).expect("kept");
+            }
+            fn trial(&mut self, list: &[u16]) {
+                black_box($planner::trial(self.n, &self.nodes, &self.book, self.count, list).expect("kept"));
+            }
+            fn order(&mut self) {
+                black_box($planner::order(self.n, &self.nodes, &mut self.order).expect("in form"));
+            }
+            fn aim(&mut self) {
+                black_box($planner::aim(self.n, &self.nodes, &self.book, self.count, self.count).expect("in form"));
+            }
+            fn write(&mut self) {
+                black_box($planner::write(self.n, &self.nodes, &mut self.bytes).expect("in form"));
+            }
+            fn read(&mut self, text: &[u8]) {
+                black_box($planner::read(self.n, &mut self.nodes, &mut self.book, text).expect("a text"));
+            }
+            fn conflict(&mut self, list: &[u16]) -> usize {
+                $planner::conflict(self.n, &self.book, self.count, list, &mut self.conflicts).expect("in form")
+            }
+            fn scan(&mut self, file: &[u8]) -> usize {
+                $planner::scan(file).expect("a ring file").head
+            }
+            fn name(&mut self, file: &[u8]) {
+                black_box($planner::name_of(file, self.n - 1));
+            }
+            fn group(&mut self, file: &[u8], head: usize) {
+                black_box($group_of(file, self.n, head, GROUPS - 1, &mut self.order));
+            }
+            fn book(&mut self, list: &[u16]) {
+                self.book[4 * self.count..4 * self.count + 4].copy_from_slice(&marks(list));
+                self.count += 1;
+            }
+            fn text(&mut self) -> Vec<u8> {
+                let length = $planner::write(self.n, &self.nodes, &mut self.bytes).expect("in form");
+                self.bytes[..length].to_vec()
+            }
+        }
+    };
+}
+
+planner!(Proved, tokuwhape, proved_group);
+planner!(Plain, plain, plain::group_of);
+
+/// The proved planner's group of a ring file's line.
+fn proved_group(file: &[u8], names: usize, head: usize, line: usize, list: &mut [u16]) -> usize {
+    tokuwhape::group_of(file, tokuwhape::File { names, head, lines: GROUPS }, line, list)
+}
+
+/// The mark words of a group.
+fn marks(list: &[u16]) -> [u64; 4] {
+    let mut words = [0; 4];
+    for &leaf in list {
+        let mark = leaf as usize - 1;
+        words[mark / 64] |= 1 << (mark % 64);
+    }
+    words
+}
+
+/// The next state of a xorshift32 generator, modulo k.
+fn draw(state: &mut u32, k: usize) -> usize {
+    *state ^= *state << 13;
+    *state ^= *state >> 17;
+    *state ^= *state << 5;
+    *state as usize % k
+}
+
+/// 97 groups that are runs of one random circular order, of 1 to n - 1 leaves each.
+fn runs(n: usize) -> Vec<Vec<u16>> {
+    let mut state = 2_463_534_242;
+    let mut order: Vec<u16> = (1..=n as u16).collect();
+    for i in (1..n).rev() {
+        order.swap(i, draw(&mut state, i + 1));
+    }
+    let mut groups = Vec::new();
+    for _ in 0..GROUPS + 1 {
+        let (start, length) = (draw(&mut state, n), 1 + draw(&mut state, n - 1));
+        groups.push((start..start + length).map(|i| order[i % n]).collect());
+    }
+    groups
+}
+
+/// A book of 96 groups and a group that cannot join it: pairs {1, 2}, {2, 3}, .. of which each is needed, as many as there can be, after whole
+/// rings; and the pair of the chain's ends.
+fn chain(n: usize) -> (Vec<Vec<u16>>, Vec<u16>) {
+    let pairs = (n - 2).min(GROUPS) as u16;
+    let whole: Vec<u16> = (1..=n as u16).collect();
+    let mut book = vec![whole; GROUPS - pairs as usize];
+    book.extend((1..=pairs).map(|leaf| vec![leaf, leaf + 1]));
+    (book, vec![1, pairs + 1])
+}
+
+/// A ring file with the names B1, B2, .. and these groups.
+fn ring_file(n: usize, groups: &[Vec<u16>]) -> Vec<u8> {
+    let line = |values: Vec<String>| values.join(" ") + "\n";
+    let mut file = line((1..=n).map(|leaf| format!("B{leaf}")).collect());
+    for group in groups {
+        let marks = marks(group);
+        file += &line((0..n).map(|mark| (marks[mark / 64] >> (mark % 64) & 1).to_string()).collect());
+    }
+    file.into_bytes()
+}
+
+/// Nanoseconds that f takes.
+fn timed(f: impl FnOnce()) -> f64 {
+    let start = Instant::now();
+    f();
+    start.elapsed().as_nanos() as f64
+}
+
+fn median(mut times: Vec<f64>) -> f64 {
+    times.sort_by(f64::total_cmp);
+    times[times.len() / 2]
+}
+
+/// The proved planner and the plain one, each with the same ring.
+type Sides = [Box<dyn Planner>; 2];
+
+fn opened(n: usize) -> Sides {
+    [Box::new(Proved::fresh(n)), Box::new(Plain::fresh(n))]
+}
+
+/// Both with a ring that was changed so.
+fn changed(n: usize, change: impl Fn(&mut dyn Planner)) -> Sides {
+    let mut sides = opened(n);
+    sides.iter_mut().for_each(|ring| change(ring.as_mut()));
+    sides
+}
+
+/// The time of a call for each side. A round times the same calls each time; each call's time is its median over the rounds, and what is
+/// returned is the mean over the round's calls.
+fn both(rounds: usize, mut sides: Sides, round: impl Fn(&mut dyn Planner) -> Vec<f64>) -> [f64; 2] {
+    let mut times = [Vec::new(), Vec::new()];
+    for _ in 0..rounds {
+        for (ring, times) in sides.iter_mut().zip(&mut times) {
+            times.push(round(ring.as_mut()));
+        }
+    }
+    times.map(|rounds: Vec<Vec<f64>>| {
+        let calls = rounds[0].len();
+        (0..calls).map(|call| median(rounds.iter().map(|round| round[call]).collect())).sum::<f64>() / calls as f64
+    })
+}
+
+/// One call, made so many times in each round.
+fn repeated(rounds: usize, times: usize, sides: Sides, call: impl Fn(&mut dyn Planner)) -> [f64; 2] {
+    both(rounds, sides, |ring| vec![timed(|| (0..times).for_each(|_| call(ring))) / times as f64])
+}
+
+/// One short call.
+fn short(sides: Sides, call: impl Fn(&mut dyn Planner)) -> [f64; 2] {
+    repeated(CALLS, TIMES, sides, call)
+}
+
+/// Joins, over the growth of the book.
+fn joins(ring: &mut dyn Planner, groups: &[Vec<u16>]) -> Vec<f64> {
+    ring.open();
+    groups.iter().map(|group| timed(|| ring.join(black_box(group)))).collect()
+}
+
+/// Trials, over the growth of the book: each group is tried before it joins.
+fn trials(ring: &mut dyn Planner, groups: &[Vec<u16>]) -> Vec<f64> {
+    ring.open();
+    let mut times = Vec::new();
+    for group in groups {
+        times.push(timed(|| ring.trial(black_box(group))));
+        ring.join(group);
+    }
+    times
+}
+
+/// A call's name, and the times of both sides.
+type Row = (&'static str, [f64; 2]);
+
+/// The calls on a ring of n leaves.
+fn ring_rows(n: usize) -> Vec<Row> {
+    let mut groups = runs(n);
+    let last = groups.pop().expect("97 groups");
+    let grown = || changed(n, |ring| groups.iter().for_each(|group| ring.join(group)));
+    let text = grown()[0].text();
+    vec![
+        ("open", short(opened(n), |ring| ring.open())),
+        ("join", both(ROUNDS, opened(n), |ring| joins(ring, &groups))),
+        ("trial", both(ROUNDS, opened(n), |ring| trials(ring, &groups))),
+        ("order", short(grown(), |ring| ring.order())),
+        ("aim", short(grown(), |ring| ring.aim())),
+        ("write", short(grown(), |ring| ring.write())),
+        ("read", short(grown(), |ring| ring.read(black_box(&text)))),
+        ("conflict, empty list", repeated(CALLS, 1, grown(), |ring| assert_eq!(ring.conflict(black_box(&last)), 0))),
+    ]
+}
+
+/// The conflict call that names the most groups.
+fn longest_conflict(n: usize) -> Row {
+    let (pairs, ends) = chain(n);
+    let booked = changed(n, |ring| pairs.iter().for_each(|group| ring.book(group)));
+    let times = repeated(LONGEST, 1, booked, |ring| assert_eq!(ring.conflict(black_box(&ends)), GROUPS.min(n - 2)));
+    ("conflict, longest list", times)
+}
+
+/// The calls on a ring file with n names.
+fn file_rows(n: usize) -> Vec<Row> {
+    let file = ring_file(n, &runs(n)[..GROUPS]);
+    let head = opened(n)[0].scan(&file);
+    vec![
+        ("scan", short(opened(n), |ring| assert_eq!(ring.scan(black_box(&file)), head))),
+        ("name", short(opened(n), |ring| ring.name(black_box(&file)))),
+        ("group", short(opened(n), |ring| ring.group(black_box(&file), head))),
+    ]
+}
+
+fn main() {
+    let tables = SIZES.map(|n| [ring_rows(n), vec![longest_conflict(n)], file_rows(n)].concat());
+    println!("| call | n | proved, ns | plain, ns | ratio |\n|---|---|---|---|---|");
+    for call in 0..tables[0].len() {
+        for (n, table) in SIZES.iter().zip(&tables) {
+            let (name, [ours, theirs]) = table[call];
+            println!("| {name} | {n} | {ours:.0} | {theirs:.0} | {:.1} |", ours / theirs);
+        }
+    }
+    println!("\n| call | proved, 256 over 64 | plain, 256 over 64 |\n|---|---|---|");
+    for (small, large) in tables[1].iter().zip(&tables[2]) {
+        println!("| {} | {:.2} | {:.2} |", small.0, large.1[0] / small.1[0], large.1[1] / small.1[1]);
+    }
+}

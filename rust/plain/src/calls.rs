@@ -1,0 +1,154 @@
+//! The calls on lent tables. Each makes its checks in the sequence of the refusals' numbers, and a refusal leaves
+//! every table as it was. Entries past a table's stated size are never touched.
+
+use crate::book::{self, Book, GROUPS, WORDS};
+use crate::marks::{self, Marks};
+use crate::table::{Node, RECORDS};
+use crate::text::TEXT_BYTES;
+use crate::tree::Tree;
+
+/// Why a call refuses: the cause's number, and the list place or byte where the cause has one, else 0.
+#[derive(Clone, Copy, PartialEq, Eq, Debug)]
+pub struct Refused {
+    pub number: u8,
+    pub place: usize,
+}
+
+/// What a call returns: its own answer or why it refuses.
+pub type Answer = Result<usize, Refused>;
+
+/// Returns the refusal with this number if `fits` does not hold.
+fn check(number: u8, fits: bool) -> Result<(), Refused> {
+    refuse_unless(fits, number, 0)
+}
+
+/// Returns the refusal with this number and place if `fits` does not hold.
+pub(crate) fn refuse_unless(fits: bool, number: u8, place: usize) -> Result<(), Refused> {
+    if fits {
+        Ok(())
+    } else {
+        Err(Refused { number, place })
+    }
+}
+
+/// Makes checks 1 and 2: n is 1 to 256, and each table, given as its length and its stated size, is long enough.
+fn check_sizes(n: usize, tables: &[(usize, usize)]) -> Result<(), Refused> {
+    check(1, (1..=256).contains(&n))?;
+    check(2, tables.iter().all(|&(length, stated)| length >= stated))
+}
+
+/// Makes check 3 of the node table; returns its tree.
+fn check_tree(n: usize, nodes: &[Node]) -> Result<Tree, Refused> {
+    Tree::load(n, &nodes[..RECORDS]).ok_or(Refused { number: 3, place: 0 })
+}
+
+/// Makes check 3 of the book; returns its groups.
+fn check_book(n: usize, book: &[u64], count: usize) -> Result<Book<'_>, Refused> {
+    Book::checked(n, &book[..WORDS], count).ok_or(Refused { number: 3, place: 0 })
+}
+
+/// Makes checks 4 to 6 of a list; returns its marks.
+fn check_list(n: usize, list: &[u16]) -> Result<Marks, Refused> {
+    check(4, !list.is_empty())?;
+    let mut group = [0; 4];
+    for (place, &bin) in list.iter().enumerate() {
+        let bin = usize::from(bin);
+        refuse_unless((1..=n).contains(&bin), 5, place)?;
+        refuse_unless(!marks::has(&group, bin - 1), 6, place)?;
+        marks::set(&mut group, bin - 1);
+    }
+    Ok(group)
+}
+
+/// Makes the checks of joining but the last; returns the tree and the group's marks.
+fn check_join(n: usize, nodes: &[Node], book: &[u64], count: usize, list: &[u16]) -> Result<(Tree, Marks), Refused> {
+    check_sizes(n, &[(nodes.len(), RECORDS), (book.len(), WORDS)])?;
+    let tree = check_tree(n, nodes)?;
+    check_book(n, book, count)?;
+    let group = check_list(n, list)?;
+    check(7, count < GROUPS)?;
+    Ok((tree, group))
+}
+
+/// Fills the node table with the fresh tree of n bins and empties the book. Returns 0, the count of groups.
+pub fn open(n: usize, nodes: &mut [Node], book: &mut [u64]) -> Answer {
+    check_sizes(n, &[(nodes.len(), RECORDS), (book.len(), WORDS)])?;
+    nodes[..RECORDS].fill(Node::UNUSED);
+    Tree::fresh(n).store(nodes);
+    book[..WORDS].fill(0);
+    Ok(0)
+}
+
+/// Joins the group in the list to the tree and the book. Returns the new count of groups.
+pub fn join(n: usize, nodes: &mut [Node], book: &mut [u64], count: usize, list: &[u16]) -> Answer {
+    let (mut tree, group) = check_join(n, nodes, book, count, list)?;
+    check(8, tree.join(&group))?;
+    tree.store(nodes);
+    book::put(book, count, &group);
+    Ok(count + 1)
+}
+
+/// Answers as joining would and changes nothing.
+pub fn trial(n: usize, nodes: &[Node], book: &[u64], count: usize, list: &[u16]) -> Answer {
+    let (tree, group) = check_join(n, nodes, book, count, list)?;
+    check(8, tree.fits(&group))?;
+    Ok(count + 1)
+}
+
+/// Writes the standard order into the first n places of `order`. Returns n.
+pub fn order(n: usize, nodes: &[Node], order: &mut [u16]) -> Answer {
+    check_sizes(n, &[(nodes.len(), RECORDS), (order.len(), n)])?;
+    check_tree(n, nodes)?.frontier(&mut order[..n]);
+    Ok(n)
+}
+
+/// Returns the bin at which the book's group with this number, from 1, has its aim in the standard order.
+pub fn aim(n: usize, nodes: &[Node], book: &[u64], count: usize, group: usize) -> Answer {
+    check_sizes(n, &[(nodes.len(), RECORDS), (book.len(), WORDS)])?;
+    let tree = check_tree(n, nodes)?;
+    let book = check_book(n, book, count)?;
+    check(9, (1..=count).contains(&group))?;
+    let mut order = [0; 256];
+    tree.frontier(&mut order[..n]);
+    aim_in(&order[..n], &book.group(group - 1)).ok_or(Refused { number: 10, place: 0 })
+}
+
+/// Returns the bin at which a group, which has a mark, has its aim in an order, none if it is not consecutive.
+pub(crate) fn aim_in(order: &[u16], group: &Marks) -> Option<usize> {
+    let n = order.len();
+    let size = marks::size(group);
+    let member = |place: usize| marks::has(group, usize::from(order[place % n]) - 1);
+    let start = if size == n { 0 } else { (0..n).find(|&place| member(place) && !member(place + n - 1))? };
+    let run = (start..start + size).all(member);
+    run.then(|| usize::from(order[(start + (size - 1) / 2) % n]))
+}
+
+/// Writes the numbers, rising, of the book's groups that are in conflict with the group in the list, then zeros to
+/// 96 places. Returns how many they are, 0 if the whole book and the group can hang together.
+pub fn conflict(n: usize, book: &[u64], count: usize, list: &[u16], conflicts: &mut [u16]) -> Answer {
+    check_sizes(n, &[(book.len(), WORDS), (conflicts.len(), GROUPS)])?;
+    let book = check_book(n, book, count)?;
+    let group = check_list(n, list)?;
+    let kept = book.conflict(n, &group);
+    conflicts[..GROUPS].copy_from_slice(&kept.numbers);
+    Ok(kept.size)
+}
+
+/// Writes the tree text, then zeros to 2,048 bytes. Returns the text's length.
+pub fn write(n: usize, nodes: &[Node], bytes: &mut [u8]) -> Answer {
+    check_sizes(n, &[(nodes.len(), RECORDS), (bytes.len(), TEXT_BYTES)])?;
+    let tree = check_tree(n, nodes)?;
+    let length = tree.write_text(&mut bytes[..TEXT_BYTES]);
+    bytes[length..TEXT_BYTES].fill(0);
+    Ok(length)
+}
+
+/// Fills the node table with the tree of the text and empties the book. Returns 0, the count of groups.
+pub fn read(n: usize, nodes: &mut [Node], book: &mut [u64], text: &[u8]) -> Answer {
+    check_sizes(n, &[(nodes.len(), RECORDS), (book.len(), WORDS)])?;
+    let tree = Tree::read_text(n, text).map_err(|place| Refused { number: 12, place })?;
+    nodes[..RECORDS].fill(Node::UNUSED);
+    tree.store(nodes);
+    book[..WORDS].fill(0);
+    Ok(0)
+}

@@ -1,0 +1,50 @@
+//! The archive's functions. A node table is counted in records.
+use crate::Node;
+
+extern "C" {
+    pub fn ring_open(n: usize, nodes: *mut Node, records: usize, book: *mut u64, words: usize, value: *mut usize) -> u8;
+    pub fn ring_join(
+        n: usize,
+        nodes: *mut Node,
+        records: usize,
+        book: *mut u64,
+        words: usize,
+        count: usize,
+        list: *const u16,
+        length: usize,
+        value: *mut usize,
+    ) -> u8;
+    pub fn ring_trial(
+        n: usize,
+        nodes: *const Node,
+        records: usize,
+        book: *const u64,
+        words: usize,
+        count: usize,
+        list: *const u16,
+        length: usize,
+        value: *mut usize,
+    ) -> u8;
+    pub fn ring_order(n: usize, nodes: *const Node, records: usize, order: *mut u16, places: usize, value: *mut usize) -> u8;
+    pub fn ring_aim(
+        n: usize,
+        nodes: *const Node,
+        records: usize,
+        book: *const u64,
+        words: usize,
+        count: usize,
+        group: usize,
+        value: *mut usize,
+    ) -> u8;
+    pub fn ring_write(n: usize, nodes: *const Node, records: usize, bytes: *mut u8, places: usize, value: *mut usize) -> u8;
+    pub fn ring_read(
+        n: usize,
+        nodes: *mut Node,
+        records: usize,
+        book: *mut u64,
+        words: usize,
+        text: *const u8,
+        length: usize,
+        value: *mut usize,
+    ) -> u8;
+}

@@ -1,0 +1,149 @@
+//! The calls on node records: circle e of document 01, every refusal, and tables of 255, 256 and 257 records.
+use ring_records::{aim, join, open, order, read, trial, write, Answer, Node};
+
+/// A record with numbers in it that no call is to look at or touch.
+const SENTINEL: Node = Node { kind: 171, count: 43_981, items: [52_719; 255] };
+
+/// The tables of a ring of five leaves.
+#[derive(Clone, PartialEq, Debug)]
+struct Tables {
+    nodes: Vec<Node>,
+    book: Vec<u64>,
+}
+
+/// A record of this kind with these items.
+fn record(kind: u8, items: &[u16]) -> Node {
+    let mut node = Node { kind, count: items.len() as u16, ..Node::UNUSED };
+    node.items[..items.len()].copy_from_slice(items);
+    node
+}
+
+/// Circle e: five leaves, {1, 3} and {3, 5} joined; its table has so many records, those past the 256th sentinels.
+fn circle_e(records: usize) -> Tables {
+    let mut tables = Tables { nodes: vec![SENTINEL; 256], book: vec![u64::MAX; 384] };
+    open(5, &mut tables.nodes, &mut tables.book).unwrap();
+    join(5, &mut tables.nodes, &mut tables.book, 0, &[1, 3]).unwrap();
+    join(5, &mut tables.nodes, &mut tables.book, 1, &[3, 5]).unwrap();
+    tables.nodes.resize(records, SENTINEL);
+    tables
+}
+
+/// Joins the list to circle e and checks that it is refused so, by a trial too, and that no table changes.
+fn refuses(change: impl Fn(&mut Tables), count: usize, list: &[u16], refusal: (u8, usize)) {
+    let mut tables = circle_e(257);
+    change(&mut tables);
+    let before = tables.clone();
+    assert_eq!(trial(5, &tables.nodes, &tables.book, count, list), Err(refusal));
+    assert_eq!(join(5, &mut tables.nodes, &mut tables.book, count, list), Err(refusal));
+    assert_eq!(tables, before);
+}
+
+#[test]
+fn circle_e_on_records() {
+    let Tables { nodes, book } = circle_e(257);
+    assert_eq!(nodes[0], record(2, &[257, 5, 3]));
+    assert_eq!(nodes[1], record(1, &[2, 4]));
+    assert!(nodes[2..256].iter().all(|node| *node == Node::UNUSED));
+    assert_eq!(nodes[256], SENTINEL);
+    assert_eq!((book[0], book[4]), (0b00101, 0b10100));
+    let mut bytes = [255; 2049];
+    assert_eq!(write(5, &nodes, &mut bytes), Ok(15));
+    assert_eq!(&bytes[..15], b"1 C(P(2 4) 5 3)");
+    assert!(bytes[15..2048].iter().all(|byte| *byte == 0) && bytes[2048] == 255);
+    let mut leaves = [9; 6];
+    assert_eq!(order(5, &nodes, &mut leaves), Ok(5));
+    assert_eq!(leaves, [1, 2, 4, 5, 3, 9]);
+    assert_eq!(aim(5, &nodes, &book, 2, 1), Ok(3));
+    assert_eq!(aim(5, &nodes, &book, 2, 2), Ok(5));
+}
+
+#[test]
+fn circles_f_and_g_on_records() {
+    let Tables { mut nodes, mut book } = circle_e(256);
+    refuses(|_| {}, 2, &[1, 5], (8, 0));
+    let tree = nodes.clone();
+    assert_eq!(join(5, &mut nodes, &mut book, 2, &[2, 4]), Ok(3));
+    assert!(nodes == tree && book[8] == 0b01010);
+}
+
+#[test]
+fn refusals_of_joining_and_trial() {
+    refuses(|t| t.nodes.truncate(255), 2, &[2, 4], (2, 0));
+    refuses(|t| t.book.truncate(383), 2, &[2, 4], (2, 0));
+    refuses(|t| t.nodes[0].kind = 1, 2, &[2, 4], (3, 0));
+    refuses(|t| t.nodes[255].items[254] = 1, 2, &[2, 4], (3, 0));
+    refuses(|t| t.book[0] = 0b100000, 2, &[2, 4], (3, 0));
+    refuses(|_| {}, 1, &[2, 4], (3, 0));
+    refuses(|_| {}, 97, &[2, 4], (3, 0));
+    refuses(|_| {}, 2, &[], (4, 0));
+    refuses(|_| {}, 2, &[2, 0, 6], (5, 1));
+    refuses(|_| {}, 2, &[2, 4, 6], (5, 2));
+    refuses(|_| {}, 2, &[2, 4, 2, 6], (6, 2));
+    refuses(|t| t.book[..384].fill_with(|| 0b11111), 96, &[1, 5], (3, 0));
+    refuses(|t| (0..96).for_each(|group| t.book[4 * group] = 0b11111), 96, &[1, 5], (7, 0));
+    refuses(|_| {}, 2, &[1, 5], (8, 0));
+}
+
+#[test]
+fn refusals_of_the_other_calls() {
+    let Tables { nodes, book } = circle_e(256);
+    for n in [0, 257, usize::MAX] {
+        let mut tables = circle_e(256);
+        assert_eq!(open(n, &mut tables.nodes, &mut tables.book), Err((1, 0)));
+        assert_eq!(read(n, &mut tables.nodes, &mut tables.book, b"1"), Err((1, 0)));
+        assert_eq!(tables, circle_e(256));
+    }
+    let (mut leaves, mut bytes) = ([9; 4], [9; 2047]);
+    assert_eq!(order(5, &nodes, &mut leaves), Err((2, 0)));
+    assert_eq!(write(5, &nodes, &mut bytes), Err((2, 0)));
+    assert_eq!(order(4, &nodes, &mut leaves), Err((3, 0)));
+    assert!(leaves == [9; 4] && bytes == [9; 2047]);
+    assert_eq!(aim(5, &nodes, &book, 2, 0), Err((9, 0)));
+    assert_eq!(aim(5, &nodes, &book, 2, 3), Err((9, 0)));
+    let mut apart = book.clone();
+    apart[4] = 0b01001;
+    assert_eq!(aim(5, &nodes, &apart, 2, 2), Err((10, 0)));
+}
+
+#[test]
+fn refusals_of_texts() {
+    for (text, byte) in [("1 C(P(2 4) 5 5)", 13), ("1 C(P(4 2) 3 5)", 8), ("1 C(5 3 P(2 4))", 4), ("1 C(P(2 4) 5 3", 14), ("", 0)] {
+        let mut tables = circle_e(256);
+        assert_eq!(read(5, &mut tables.nodes, &mut tables.book, text.as_bytes()), Err((12, byte)), "{text}");
+        assert_eq!(tables, circle_e(256));
+    }
+}
+
+/// A call on a ring's tables.
+type OnTables = fn(&mut Tables) -> Answer;
+
+/// Each call that is lent a node table, on circle e with so many records: its answer, and the tables afterwards.
+fn each_call(records: usize) -> Vec<(Answer, Tables)> {
+    let calls: [OnTables; 7] = [
+        |t| open(5, &mut t.nodes, &mut t.book),
+        |t| join(5, &mut t.nodes, &mut t.book, 2, &[2, 4]),
+        |t| trial(5, &t.nodes, &t.book, 2, &[2, 4]),
+        |t| order(5, &t.nodes, &mut [0; 5]),
+        |t| aim(5, &t.nodes, &t.book, 2, 1),
+        |t| write(5, &t.nodes, &mut [0; 2048]),
+        |t| read(5, &mut t.nodes, &mut t.book, b"1 P(2 3 4 5)"),
+    ];
+    let made = calls.map(|call| {
+        let mut tables = circle_e(records);
+        (call(&mut tables), tables)
+    });
+    made.to_vec()
+}
+
+#[test]
+fn tables_of_255_256_and_257_records() {
+    for (answer, tables) in each_call(255) {
+        assert_eq!(answer, Err((2, 0)));
+        assert_eq!(tables, circle_e(255));
+    }
+    for ((answer, tables), (longer, mut others)) in each_call(256).into_iter().zip(each_call(257)) {
+        assert!(answer.is_ok() && answer == longer);
+        assert_eq!(others.nodes.pop(), Some(SENTINEL));
+        assert_eq!(tables, others);
+    }
+}

@@ -1,0 +1,152 @@
+//! Safe calls to the proved planner of a bag ring.
+//!
+//! The functions of this crate pass lent tables on to the archive that `rt staticlib exports` makes; [`Ring`] owns its tables. What each call
+//! answers, refuses and writes is proved in the Rattle crate `exports`.
+//!
+//! A ring is its number of leaves n (document 01's bins), a node table, a book of mark words and the count of groups in the book. Longer
+//! tables than the sizes below may be lent: what stands past the stated size is never touched. A refusal leaves every table as it was.
+
+mod refusal;
+mod ring;
+pub mod symbols;
+
+pub use refusal::Refusal;
+pub use ring::Ring;
+
+/// Leaves of the largest ring.
+pub const LEAVES: usize = 256;
+/// Records of a node table.
+pub const RECORDS: usize = 256;
+/// Items of a node record.
+pub const ITEMS: usize = 255;
+/// Groups of a book, and places of a conflict list.
+pub const GROUPS: usize = 96;
+/// Mark words of a book, four to a group.
+pub const WORDS: usize = 384;
+/// Bytes for a tree text to be written.
+pub const TEXT: usize = 2048;
+/// Bytes of the longest ring file.
+pub const FILE: usize = 65536;
+
+/// A node record, 257 numbers of 16 bits; its fields are described in docs/NODE-TABLE.md.
+#[repr(C)]
+#[derive(Clone, Copy, PartialEq, Eq, Debug)]
+pub struct Node {
+    /// 0 unused, 1 a P-node, 2 a C-node.
+    pub kind: u16,
+    /// How many items.
+    pub count: u16,
+    /// Leaves as their numbers, nodes as 256 plus the number of a record; then zeros.
+    pub items: [u16; ITEMS],
+}
+
+impl Node {
+    /// A record that is not used.
+    pub const UNUSED: Node = Node { kind: 0, count: 0, items: [0; ITEMS] };
+}
+
+// A record is its kind, its count and its items, with nothing between them.
+const _: () = assert!(size_of::<Node>() == (2 + ITEMS) * size_of::<u16>());
+
+/// How many numbers of 16 bits the records are.
+fn numbers(nodes: &[Node]) -> usize {
+    size_of_val(nodes) / size_of::<u16>()
+}
+
+/// What an accepted ring file holds.
+#[derive(Clone, Copy, PartialEq, Eq, Debug)]
+pub struct File {
+    /// How many names: the ring's number of leaves.
+    pub names: usize,
+    /// Bytes of the names line with its line end.
+    pub head: usize,
+    /// How many lines of values.
+    pub lines: usize,
+}
+
+/// The answer of a call that is given where to write its number.
+fn answer(call: impl FnOnce(*mut usize) -> u8) -> Result<usize, Refusal> {
+    let mut value = 0;
+    let number = call(&mut value);
+    match Refusal::reported(number, value) {
+        None => Ok(value),
+        Some(refusal) => Err(refusal),
+    }
+}
+
+// Each pointer below is a slice's or a local's, with the slice's size beside it, so it is valid for the call and never null; the borrow
+// checker keeps the mutable ones apart from the others.
+
+/// Opens a ring: writes the fresh tree and an empty book. Returns the count of groups, 0.
+pub fn open(n: usize, nodes: &mut [Node], book: &mut [u64]) -> Result<usize, Refusal> {
+    answer(|value| unsafe { symbols::tokuwhape_open(n, nodes.as_mut_ptr(), numbers(nodes), book.as_mut_ptr(), book.len(), value) })
+}
+
+/// Joins the list's group: writes the new tree, and the group to the book's next place. Returns the new count of groups.
+pub fn join(n: usize, nodes: &mut [Node], book: &mut [u64], count: usize, list: &[u16]) -> Result<usize, Refusal> {
+    answer(|value| unsafe {
+        let (tree, marks) = (nodes.as_mut_ptr(), book.as_mut_ptr());
+        symbols::tokuwhape_join(n, tree, numbers(nodes), marks, book.len(), count, list.as_ptr(), list.len(), value)
+    })
+}
+
+/// Returns what joining the list's group would, and writes no table.
+pub fn trial(n: usize, nodes: &[Node], book: &[u64], count: usize, list: &[u16]) -> Result<usize, Refusal> {
+    answer(|value| unsafe {
+        let (tree, marks) = (nodes.as_ptr(), book.as_ptr());
+        symbols::tokuwhape_trial(n, tree, numbers(nodes), marks, book.len(), count, list.as_ptr(), list.len(), value)
+    })
+}
+
+/// Writes the standard order, from leaf 1, to the first n places. Returns n.
+pub fn order(n: usize, nodes: &[Node], order: &mut [u16]) -> Result<usize, Refusal> {
+    answer(|value| unsafe { symbols::tokuwhape_order(n, nodes.as_ptr(), numbers(nodes), order.as_mut_ptr(), order.len(), value) })
+}
+
+/// Returns the leaf that is the aim, in the standard order, of the book's group with this number from 1.
+pub fn aim(n: usize, nodes: &[Node], book: &[u64], count: usize, group: usize) -> Result<usize, Refusal> {
+    answer(|value| unsafe { symbols::tokuwhape_aim(n, nodes.as_ptr(), numbers(nodes), book.as_ptr(), book.len(), count, group, value) })
+}
+
+/// Writes the numbers of the book's groups that are in conflict with the list's group, rising, then zeros, to the first 96 places: none where
+/// the whole book and the group can be consecutive together. Returns how many numbers.
+pub fn conflict(n: usize, book: &[u64], count: usize, list: &[u16], conflicts: &mut [u16]) -> Result<usize, Refusal> {
+    answer(|value| unsafe {
+        let numbers = conflicts.as_mut_ptr();
+        symbols::tokuwhape_conflict(n, book.as_ptr(), book.len(), count, list.as_ptr(), list.len(), numbers, conflicts.len(), value)
+    })
+}
+
+/// Writes the tree text, then zeros, to the first 2,048 bytes. Returns the length of the text.
+pub fn write(n: usize, nodes: &[Node], bytes: &mut [u8]) -> Result<usize, Refusal> {
+    answer(|value| unsafe { symbols::tokuwhape_write(n, nodes.as_ptr(), numbers(nodes), bytes.as_mut_ptr(), bytes.len(), value) })
+}
+
+/// Reads a tree text of n leaves: writes its tree and an empty book. Returns the count of groups, 0.
+pub fn read(n: usize, nodes: &mut [Node], book: &mut [u64], text: &[u8]) -> Result<usize, Refusal> {
+    answer(|value| unsafe {
+        let (tree, marks) = (nodes.as_mut_ptr(), book.as_mut_ptr());
+        symbols::tokuwhape_read(n, tree, numbers(nodes), marks, book.len(), text.as_ptr(), text.len(), value)
+    })
+}
+
+/// Reads a ring file through. Returns what it holds.
+pub fn scan(file: &[u8]) -> Result<File, Refusal> {
+    let (mut head, mut lines) = (0, 0);
+    let names = answer(|value| unsafe { symbols::tokuwhape_scan(file.as_ptr(), file.len(), &mut head, &mut lines, value) })?;
+    Ok(File { names, head, lines })
+}
+
+/// Returns the name of leaf k + 1 of an accepted file with more than k names; of any other file or number, some part of the file.
+pub fn name_of(file: &[u8], k: usize) -> &[u8] {
+    let mut start = 0;
+    let length = unsafe { symbols::tokuwhape_name(file.as_ptr(), file.len(), k, &mut start) };
+    &file[start..start + length]
+}
+
+/// Writes the leaves, rising, of value line `line`, from 0, and returns how many: of an accepted file that holds `shape` and more than `line`
+/// lines. With fewer places than the file has names it writes nothing and returns 0.
+pub fn group_of(file: &[u8], shape: File, line: usize, list: &mut [u16]) -> usize {
+    let File { names, head, .. } = shape;
+    unsafe { symbols::tokuwhape_group(file.as_ptr(), file.len(), names, head, line, list.as_mut_ptr(), list.len()) }
+}

@@ -1,0 +1,83 @@
+//! A ring that owns its tables.
+use crate::{Node, Refusal, GROUPS, RECORDS, TEXT, WORDS};
+
+const IN_FORM: &str = "a ring's tables are in form";
+
+/// A ring with its node table and book.
+#[derive(Clone, PartialEq, Eq, Debug)]
+pub struct Ring {
+    n: usize,
+    nodes: Box<[Node]>,
+    book: Box<[u64]>,
+    count: usize,
+}
+
+impl Ring {
+    /// A ring of n leaves whose tables are empty, as neither `new` nor `from_text` hands it out.
+    fn unopened(n: usize) -> Ring {
+        Ring { n, nodes: vec![Node::UNUSED; RECORDS].into(), book: vec![0; WORDS].into(), count: 0 }
+    }
+
+    /// The fresh ring of n leaves, with an empty book.
+    pub fn new(n: usize) -> Result<Ring, Refusal> {
+        let mut ring = Ring::unopened(n);
+        ring.count = crate::open(n, &mut ring.nodes, &mut ring.book)?;
+        Ok(ring)
+    }
+
+    /// The ring of n leaves with the tree that the text describes, and an empty book.
+    pub fn from_text(n: usize, text: &str) -> Result<Ring, Refusal> {
+        let mut ring = Ring::unopened(n);
+        ring.count = crate::read(n, &mut ring.nodes, &mut ring.book, text.as_bytes())?;
+        Ok(ring)
+    }
+
+    /// How many leaves the ring has.
+    pub fn leaves(&self) -> usize {
+        self.n
+    }
+
+    /// How many groups the book has.
+    pub fn groups(&self) -> usize {
+        self.count
+    }
+
+    /// Joins the group and returns how many groups the book then has, which is the group's number.
+    pub fn join(&mut self, group: &[u16]) -> Result<usize, Refusal> {
+        self.count = crate::join(self.n, &mut self.nodes, &mut self.book, self.count, group)?;
+        Ok(self.count)
+    }
+
+    /// Returns what joining the group would, and changes nothing.
+    pub fn trial(&self, group: &[u16]) -> Result<usize, Refusal> {
+        crate::trial(self.n, &self.nodes, &self.book, self.count, group)
+    }
+
+    /// The standard order, from leaf 1.
+    pub fn order(&self) -> Vec<u16> {
+        let mut order = vec![0; self.n];
+        crate::order(self.n, &self.nodes, &mut order).expect(IN_FORM);
+        order
+    }
+
+    /// The leaf that is the aim, in the standard order, of the book's group with this number from 1.
+    pub fn aim(&self, group: usize) -> Result<usize, Refusal> {
+        crate::aim(self.n, &self.nodes, &self.book, self.count, group)
+    }
+
+    /// The numbers of the book's groups that are in conflict with the group, rising.
+    pub fn conflict(&self, group: &[u16]) -> Result<Vec<u16>, Refusal> {
+        let mut conflicts = vec![0; GROUPS];
+        let numbers = crate::conflict(self.n, &self.book, self.count, group, &mut conflicts)?;
+        conflicts.truncate(numbers);
+        Ok(conflicts)
+    }
+
+    /// The tree text.
+    pub fn text(&self) -> String {
+        let mut bytes = vec![0; TEXT];
+        let length = crate::write(self.n, &self.nodes, &mut bytes).expect(IN_FORM);
+        bytes.truncate(length);
+        String::from_utf8(bytes).expect("a tree text is ASCII")
+    }
+}

@@ -1,0 +1,64 @@
+//! The archive's functions, as include/tokuwhape.h declares them. A node table is counted in numbers of 16 bits, 257 to a record.
+use crate::Node;
+
+extern "C" {
+    pub fn tokuwhape_open(n: usize, nodes: *mut Node, numbers: usize, book: *mut u64, words: usize, value: *mut usize) -> u8;
+    pub fn tokuwhape_join(
+        n: usize,
+        nodes: *mut Node,
+        numbers: usize,
+        book: *mut u64,
+        words: usize,
+        count: usize,
+        list: *const u16,
+        length: usize,
+        value: *mut usize,
+    ) -> u8;
+    pub fn tokuwhape_trial(
+        n: usize,
+        nodes: *const Node,
+        numbers: usize,
+        book: *const u64,
+        words: usize,
+        count: usize,
+        list: *const u16,
+        length: usize,
+        value: *mut usize,
+    ) -> u8;
+    pub fn tokuwhape_order(n: usize, nodes: *const Node, numbers: usize, order: *mut u16, places: usize, value: *mut usize) -> u8;
+    pub fn tokuwhape_aim(
+        n: usize,
+        nodes: *const Node,
+        numbers: usize,
+        book: *const u64,
+        words: usize,
+        count: usize,
+        group: usize,
+        value: *mut usize,
+    ) -> u8;
+    pub fn tokuwhape_conflict(
+        n: usize,
+        book: *const u64,
+        words: usize,
+        count: usize,
+        list: *const u16,
+        length: usize,
+        conflicts: *mut u16,
+        places: usize,
+        value: *mut usize,
+    ) -> u8;
+    pub fn tokuwhape_write(n: usize, nodes: *const Node, numbers: usize, bytes: *mut u8, places: usize, value: *mut usize) -> u8;
+    pub fn tokuwhape_read(
+        n: usize,
+        nodes: *mut Node,
+        numbers: usize,
+        book: *mut u64,
+        words: usize,
+        text: *const u8,
+        length: usize,
+        value: *mut usize,
+    ) -> u8;
+    pub fn tokuwhape_scan(file: *const u8, length: usize, head: *mut usize, lines: *mut usize, value: *mut usize) -> u8;
+    pub fn tokuwhape_name(file: *const u8, length: usize, k: usize, start: *mut usize) -> usize;
+    pub fn tokuwhape_group(file: *const u8, length: usize, names: usize, head: usize, line: usize, list: *mut u16, places: usize) -> usize;
+}

@@ -1,0 +1,215 @@
+//! Small rings against all circular orders: what can join, which orders are left, which groups are in conflict, where a group is aimed.
+use crate::draw::Draw;
+use crate::texts::shaped;
+use tokuwhape::{Node, Refusal};
+
+/// A group as a set of leaves: leaf b is bit b.
+type Set = u32;
+
+/// Every circular order of n leaves, read from leaf 1, in dictionary order.
+fn orders(n: usize) -> Vec<Vec<u16>> {
+    let mut found = vec![vec![1]];
+    for _ in 1..n {
+        found = found
+            .iter()
+            .flat_map(|begun| (2..=n as u16).filter(|leaf| !begun.contains(leaf)).map(|leaf| [&begun[..], &[leaf]].concat()))
+            .collect();
+    }
+    found
+}
+
+fn set(group: &[u16]) -> Set {
+    group.iter().map(|leaf| 1 << leaf).sum()
+}
+
+fn has(group: Set, leaf: u16) -> bool {
+    group >> leaf & 1 == 1
+}
+
+/// Where a run of the group starts in the order: the places of the group that follow a place outside it.
+fn starts(group: Set, order: &[u16]) -> Vec<usize> {
+    let n = order.len();
+    (0..n).filter(|&i| has(group, order[i]) && !has(group, order[(i + n - 1) % n])).collect()
+}
+
+fn consecutive(group: Set, order: &[u16]) -> bool {
+    starts(group, order).len() <= 1
+}
+
+/// Whether some order has each of these groups consecutive.
+fn possible(orders: &[Vec<u16>], groups: &[Set]) -> bool {
+    orders.iter().any(|order| groups.iter().all(|&group| consecutive(group, order)))
+}
+
+/// The numbers of the groups that the leaving-out rule keeps.
+fn conflict(orders: &[Vec<u16>], book: &[Set], new: Set) -> Vec<u16> {
+    let mut kept: Vec<u16> = (1..=book.len() as u16).collect();
+    let with = |numbers: &[u16]| -> Vec<Set> { numbers.iter().map(|&number| book[number as usize - 1]).chain([new]).collect() };
+    if possible(orders, &with(&kept)) {
+        return Vec::new();
+    }
+    for number in 1..=book.len() as u16 {
+        let rest: Vec<u16> = kept.iter().copied().filter(|&other| other != number).collect();
+        if !possible(orders, &with(&rest)) {
+            kept = rest;
+        }
+    }
+    kept
+}
+
+/// The leaf at which the group is aimed in this order.
+fn aim(group: Set, order: &[u16]) -> usize {
+    let start = starts(group, order).first().copied().unwrap_or(0);
+    let size = group.count_ones() as usize;
+    order[(start + (size - 1) / 2) % order.len()] as usize
+}
+
+/// Every sequence of these entries.
+fn sequences(entries: &[u16]) -> Vec<Vec<u16>> {
+    if entries.is_empty() {
+        return vec![Vec::new()];
+    }
+    let mut found = Vec::new();
+    for (i, &first) in entries.iter().enumerate() {
+        let rest = [&entries[..i], &entries[i + 1..]].concat();
+        found.extend(sequences(&rest).into_iter().map(|tail| [&[first], &tail[..]].concat()));
+    }
+    found
+}
+
+/// The sequences of leaves that an item of a small ring's node table allows; 256 is its record 0.
+fn frontiers(nodes: &[Node], item: u16) -> Vec<Vec<u16>> {
+    if item < 256 {
+        return vec![vec![item]];
+    }
+    let node = &nodes[item as usize - 256];
+    let items = &node.items[..node.count as usize];
+    let reversed: Vec<u16> = items.iter().rev().copied().collect();
+    let arranged = if node.kind == 1 { sequences(items) } else { vec![items.to_vec(), reversed] };
+    let mut found = Vec::new();
+    for sequence in arranged {
+        let mut begun = vec![Vec::new()];
+        for item in sequence {
+            let ends = frontiers(nodes, item);
+            begun = begun.iter().flat_map(|first: &Vec<u16>| ends.iter().map(move |end| [&first[..], &end[..]].concat())).collect();
+        }
+        found.extend(begun);
+    }
+    found
+}
+
+/// The orders that the node table's tree allows, in dictionary order.
+fn allowed(nodes: &[Node], n: usize) -> Vec<Vec<u16>> {
+    let top = match n {
+        1 => return vec![vec![1]],
+        2 => 2,
+        _ => 256,
+    };
+    let mut found: Vec<Vec<u16>> = frontiers(nodes, top).into_iter().map(|rest| [&[1], &rest[..]].concat()).collect();
+    found.sort();
+    found.dedup();
+    found
+}
+
+/// A ring, and what it should be: its groups, and the orders that have each of them consecutive.
+struct Watched {
+    n: usize,
+    nodes: Vec<Node>,
+    book: Vec<u64>,
+    groups: Vec<Set>,
+    left: Vec<Vec<u16>>,
+}
+
+impl Watched {
+    fn fresh(n: usize) -> Watched {
+        let mut ring = Watched { n, nodes: vec![Node::UNUSED; 256], book: vec![0; 384], groups: Vec::new(), left: orders(n) };
+        assert_eq!(tokuwhape::open(n, &mut ring.nodes, &mut ring.book), Ok(0));
+        ring
+    }
+
+    /// The ring with the tree of this text; none where it is refused.
+    fn of_text(n: usize, text: &[u8]) -> Option<Watched> {
+        let mut ring = Watched::fresh(n);
+        tokuwhape::read(n, &mut ring.nodes, &mut ring.book, text).ok()?;
+        ring.left = allowed(&ring.nodes, n);
+        Some(ring)
+    }
+
+    /// Joins the group, and checks its answer and the orders left.
+    fn join(&mut self, list: &[u16]) {
+        let after: Vec<Vec<u16>> = self.left.iter().filter(|order| consecutive(set(list), order)).cloned().collect();
+        let answer = tokuwhape::join(self.n, &mut self.nodes, &mut self.book, self.groups.len(), list);
+        if after.is_empty() {
+            assert_eq!(answer, Err(Refusal::Impossible), "{list:?}");
+        } else {
+            self.groups.push(set(list));
+            self.left = after;
+            assert_eq!(answer, Ok(self.groups.len()), "{list:?}");
+        }
+        assert_eq!(allowed(&self.nodes, self.n), self.left, "{list:?}");
+    }
+
+    /// Checks the standard order, the aims and the conflict list of the group.
+    fn read(&self, all: &[Vec<u16>], list: &[u16]) {
+        let (mut order, mut conflicts) = (vec![0; self.n], vec![0; 96]);
+        assert_eq!(tokuwhape::order(self.n, &self.nodes, &mut order), Ok(self.n));
+        assert_eq!(order, self.left[0]);
+        for (i, &group) in self.groups.iter().enumerate() {
+            assert_eq!(tokuwhape::aim(self.n, &self.nodes, &self.book, self.groups.len(), i + 1), Ok(aim(group, &order)));
+        }
+        let wanted = conflict(all, &self.groups, set(list));
+        assert_eq!(tokuwhape::conflict(self.n, &self.book, self.groups.len(), list, &mut conflicts), Ok(wanted.len()));
+        assert_eq!(conflicts[..wanted.len()], wanted);
+        assert!(conflicts[wanted.len()..].iter().all(|&place| place == 0));
+    }
+}
+
+/// Joins random groups to rings of 1 to 6 leaves and compares each answer with all circular orders.
+#[test]
+fn small_rings_allow_what_all_orders_say() {
+    let mut draw = Draw::new(0x0123_4567_89ab_cdef);
+    for n in 1..=6 {
+        let all = orders(n);
+        for _ in 0..40 * n {
+            let mut ring = Watched::fresh(n);
+            for _ in 0..6 {
+                let list = draw.group(n);
+                ring.read(&all, &list);
+                ring.join(&list);
+            }
+        }
+    }
+}
+
+/// Joins random groups to trees of 3 to 6 leaves that were read from texts.
+#[test]
+fn small_trees_allow_what_all_orders_say() {
+    let mut draw = Draw::new(0xfedc_ba98_7654_3210);
+    let mut accepted = 0;
+    for _ in 0..2_000 {
+        let n = 3 + draw.below(4);
+        let text = shaped(&mut draw, n);
+        let Some(mut ring) = Watched::of_text(n, &text) else { continue };
+        accepted += 1;
+        let all = orders(n);
+        for _ in 0..3 {
+            let list = draw.group(n);
+            ring.read(&all, &list);
+            ring.join(&list);
+        }
+    }
+    assert!(accepted > 500, "only {accepted} texts");
+}
+
+/// Every set of two groups of a ring of 5 leaves, in both sequences.
+#[test]
+fn every_two_groups_of_five_leaves() {
+    let groups: Vec<Vec<u16>> = (1..32u16).map(|marks| (1..=5).filter(|leaf| marks >> (leaf - 1) & 1 == 1).collect()).collect();
+    for first in &groups {
+        for second in &groups {
+            let mut ring = Watched::fresh(5);
+            ring.join(first);
+            ring.join(second);
+        }
+    }
+}

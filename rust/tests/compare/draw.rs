@@ -1,0 +1,96 @@
+//! A seeded xorshift64 generator, and what is drawn from it.
+
+pub struct Draw(u64);
+
+impl Draw {
+    /// The generator with this seed, which is not 0.
+    pub fn new(seed: u64) -> Draw {
+        Draw(seed)
+    }
+
+    /// The next state.
+    pub fn number(&mut self) -> u64 {
+        self.0 ^= self.0 << 13;
+        self.0 ^= self.0 >> 7;
+        self.0 ^= self.0 << 17;
+        self.0
+    }
+
+    /// A number below k.
+    pub fn below(&mut self, k: usize) -> usize {
+        (self.number() >> 11) as usize % k
+    }
+
+    /// True one time in k.
+    pub fn one_in(&mut self, k: usize) -> bool {
+        self.below(k) == 0
+    }
+
+    /// One of these.
+    pub fn pick<T: Copy>(&mut self, from: &[T]) -> T {
+        from[self.below(from.len())]
+    }
+
+    /// Puts these in a random sequence.
+    pub fn shuffle<T>(&mut self, entries: &mut [T]) {
+        for i in (1..entries.len()).rev() {
+            entries.swap(i, self.below(i + 1));
+        }
+    }
+
+    /// The leaves 1 to n in a random sequence.
+    pub fn leaves(&mut self, n: usize) -> Vec<u16> {
+        let mut leaves: Vec<u16> = (1..=n as u16).collect();
+        self.shuffle(&mut leaves);
+        leaves
+    }
+
+    /// A size of a ring, small ones more often.
+    pub fn size(&mut self) -> usize {
+        let most = self.pick(&[6, 10, 10, 20, 70, 256]);
+        if self.one_in(40) {
+            return self.pick(&[63, 64, 65, 127, 128, 129, 191, 192, 193, 255, 256]);
+        }
+        1 + self.below(most)
+    }
+
+    /// A number that is no ring's size, or close to n.
+    pub fn other_size(&mut self, n: usize) -> usize {
+        self.pick(&[0, 257, 258, 65_535, 65_536, usize::MAX, n - 1, n + 1])
+    }
+
+    /// A group that is a run of the circular order `hidden`.
+    pub fn run(&mut self, hidden: &[u16]) -> Vec<u16> {
+        let n = hidden.len();
+        let most = if self.one_in(2) { n } else { n.min(5) };
+        let (start, length) = (self.below(n), 1 + self.below(most));
+        let mut group: Vec<u16> = (start..start + length).map(|i| hidden[i % n]).collect();
+        self.shuffle(&mut group);
+        group
+    }
+
+    /// A group of any leaves.
+    pub fn group(&mut self, n: usize) -> Vec<u16> {
+        let mut leaves = self.leaves(n);
+        let most = if self.one_in(2) { n } else { n.min(4) };
+        leaves.truncate(1 + self.below(most));
+        leaves
+    }
+
+    /// A list that may be no group: empty, with a number outside 1 to n, with a leaf twice, or several of these.
+    pub fn list(&mut self, n: usize) -> Vec<u16> {
+        let mut list = self.group(n.clamp(1, 300));
+        for _ in 0..1 + self.below(2) {
+            let at = self.below(list.len() + 1);
+            match self.below(6) {
+                0 => list.clear(),
+                1 => list.insert(at, 0),
+                2 => list.insert(at, (n % 65_536) as u16 + 1),
+                3 => list.insert(at, self.pick(&[256, 257, 320, 65_535])),
+                4 => list.insert(at, self.pick(&[1, 2, 3])),
+                _ => list.extend(list.clone()),
+            }
+        }
+        list
+    }
+}

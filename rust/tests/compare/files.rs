@@ -1,0 +1,135 @@
+//! Ring files: accepted ones, whose names and groups are compared too, and changed ones.
+use crate::draw::Draw;
+use crate::tables::{Answer, Tally};
+use std::collections::HashSet;
+use tokuwhape::File;
+
+const LETTERS: &[u8] = b"ABCDEFGHIJKLMNOPQRSTUVWXYZabcdefghijklmnopqrstuvwxyz0123456789";
+
+/// A name of up to `most` bytes.
+fn name(draw: &mut Draw, most: usize) -> Vec<u8> {
+    (0..1 + draw.below(most)).map(|_| draw.pick(LETTERS)).collect()
+}
+
+/// n names, all different.
+fn names(draw: &mut Draw, n: usize) -> Vec<Vec<u8>> {
+    let most = if n < 20 { draw.pick(&[1, 2, 8]) } else { draw.pick(&[2, 3, 8]) };
+    let mut seen = HashSet::new();
+    let mut names = Vec::new();
+    while names.len() < n {
+        let next = name(draw, most);
+        if seen.insert(next.clone()) {
+            names.push(next);
+        }
+    }
+    names
+}
+
+/// A ring file with n names and so many lines of values.
+fn file(draw: &mut Draw, n: usize, lines: usize) -> Vec<u8> {
+    let mut bytes = names(draw, n).join(&b' ');
+    bytes.push(b'\n');
+    for _ in 0..lines {
+        let values: Vec<[u8; 1]> = (0..n).map(|_| [draw.pick(b"001-")]).collect();
+        bytes.extend(values.join(&b' '));
+        bytes.push(b'\n');
+    }
+    bytes
+}
+
+/// Makes one change.
+fn change(draw: &mut Draw, bytes: &mut Vec<u8>) {
+    let near = if draw.one_in(2) { bytes.len() } else { bytes.len().min(40) };
+    let at = draw.below(near + 1);
+    let inside = at.min(bytes.len().saturating_sub(1));
+    let byte = if draw.one_in(8) { draw.number() as u8 } else { draw.pick(b" \n01-AZaz9_\r") };
+    match draw.below(6) {
+        0 | 1 if !bytes.is_empty() => bytes[inside] = byte,
+        2 if !bytes.is_empty() => drop(bytes.remove(inside)),
+        3 => bytes.insert(at, byte),
+        4 => bytes.truncate(at),
+        _ => {
+            let from = draw.below(bytes.len() + 1);
+            let length = draw.below(10).min(bytes.len() - from);
+            let part = bytes[from..from + length].to_vec();
+            bytes.splice(at..at, part);
+        }
+    }
+}
+
+/// Compares what the file holds. Returns it where the file is accepted.
+fn scan(tally: &mut Tally, bytes: &[u8]) -> Option<File> {
+    let ours = tokuwhape::scan(bytes).map_err(|refusal| (refusal.number(), refusal.place().unwrap_or(0)));
+    let theirs = plain::scan(bytes).map_err(|refused| (refused.number, refused.place));
+    let theirs = theirs.map(|file| File { names: file.names, head: file.head, lines: file.lines });
+    assert_eq!(ours, theirs, "{:?}", String::from_utf8_lossy(bytes));
+    let answer: Answer = ours.map(|file| file.names);
+    tally.count("scan", &answer);
+    ours.ok()
+}
+
+/// Compares a name of an accepted file.
+fn compare_name(tally: &mut Tally, bytes: &[u8], k: usize) {
+    let name = tokuwhape::name_of(bytes, k);
+    assert_eq!(name, plain::name_of(bytes, k), "name {k} of {:?}", String::from_utf8_lossy(bytes));
+    tally.count("name", &Ok(name.len()));
+}
+
+/// Compares a group of an accepted file, with so many places for it.
+fn compare_group(tally: &mut Tally, bytes: &[u8], shape: File, line: usize, places: usize) {
+    let (mut ours, mut theirs) = (vec![7; places], vec![7; places]);
+    let many = tokuwhape::group_of(bytes, shape, line, &mut ours);
+    assert_eq!(many, plain::group_of(bytes, shape.names, shape.head, line, &mut theirs), "line {line}");
+    assert_eq!(ours, theirs, "line {line}");
+    if places < shape.names {
+        assert!(many == 0 && ours.iter().all(|&old| old == 7));
+    }
+    tally.count("group", &Ok(many));
+}
+
+/// Compares what the file holds and, where it is accepted, some names and groups.
+fn compare(tally: &mut Tally, draw: &mut Draw, bytes: &[u8]) {
+    let Some(shape) = scan(tally, bytes) else { return };
+    for k in [0, shape.names - 1, draw.below(shape.names)] {
+        compare_name(tally, bytes, k);
+    }
+    if shape.lines > 0 {
+        for line in [0, shape.lines - 1, draw.below(shape.lines)] {
+            let places = draw.pick(&[shape.names, shape.names + 3, 256, shape.names - 1]);
+            compare_group(tally, bytes, shape, line, places);
+        }
+    }
+}
+
+/// A ring file, accepted or changed.
+pub fn any(tally: &mut Tally, draw: &mut Draw) {
+    let n = draw.size();
+    let lines = draw.pick(&[0, 1, 2, 5, 20]);
+    let mut bytes = file(draw, n, lines);
+    if !draw.one_in(4) {
+        for _ in 0..1 + draw.below(2) {
+            change(draw, &mut bytes);
+        }
+    }
+    compare(tally, draw, &bytes);
+}
+
+/// Files with 255 to 258 names, repeated ones among them, and files as long as a file may be or longer.
+pub fn long(tally: &mut Tally, draw: &mut Draw) {
+    for n in [255, 256, 257, 258] {
+        for lines in [0, 1, 40] {
+            let mut bytes = file(draw, n, lines);
+            compare(tally, draw, &bytes);
+            change(draw, &mut bytes);
+            compare(tally, draw, &bytes);
+        }
+    }
+    for n in [1, 2, 7, 100, 256] {
+        let bytes = file(draw, n, 65_536 / n);
+        for length in [65_535, 65_536, 65_537, bytes.len()] {
+            compare(tally, draw, &bytes[..length.min(bytes.len())]);
+        }
+        let whole = bytes[..65_536].iter().rposition(|&byte| byte == b'\n').map_or(0, |end| end + 1);
+        compare(tally, draw, &bytes[..whole]);
+    }
+}

@@ -1,0 +1,213 @@
+//! Rings grown by random joins, and the same rings with damaged tables.
+use crate::draw::Draw;
+use crate::tables::{Call, Sides, Tally};
+use tokuwhape::Node;
+
+/// A ring that was grown by joins.
+#[derive(Clone)]
+pub struct Grown {
+    pub n: usize,
+    pub count: usize,
+    pub hidden: Vec<u16>,
+    pub sides: Sides,
+}
+
+/// A record with numbers in it that no call is to look at or touch.
+fn odd_record(draw: &mut Draw) -> Node {
+    let mut items = [0; 255];
+    items.fill_with(|| draw.number() as u16);
+    Node { kind: draw.number() as u16, count: draw.number() as u16, items }
+}
+
+/// Both sides' tables, of their stated size or longer, full of old numbers.
+fn lent(draw: &mut Draw) -> Sides {
+    let records = draw.pick(&[256, 256, 256, 257, 258]);
+    let words = draw.pick(&[384, 384, 384, 385, 400]);
+    let old = odd_record(draw);
+    let mut nodes = vec![old; 256];
+    nodes.resize_with(records, || odd_record(draw));
+    let mut book = vec![0; words];
+    book.fill_with(|| draw.number());
+    Sides::new(nodes, book)
+}
+
+/// A list to join: mostly a run of the hidden order, so that it is kept.
+fn list_for(draw: &mut Draw, hidden: &[u16], odd: usize) -> Vec<u16> {
+    if draw.one_in(odd) {
+        return draw.list(hidden.len());
+    }
+    if draw.one_in(6) {
+        return draw.group(hidden.len());
+    }
+    draw.run(hidden)
+}
+
+/// Tables to fill, of their stated size or longer.
+fn room(draw: &mut Draw, sides: &mut Sides, n: usize) {
+    let (more, old) = (draw.pick(&[0, 0, 1, 7]), draw.number() as u16);
+    sides.refill(n + more, 96 + more, 2048 + more, old);
+}
+
+/// Opens a ring of n leaves and tries and joins up to `steps` lists, with the calls that read a ring between. A conflict call is made one time
+/// in `conflicts`. Returns the ring.
+pub fn grow(tally: &mut Tally, draw: &mut Draw, n: usize, steps: usize, conflicts: usize) -> Grown {
+    let mut ring = Grown { n, count: 0, hidden: draw.leaves(n), sides: lent(draw) };
+    assert_eq!(ring.sides.call(tally, n, Call::Open), Ok(0));
+    for _ in 0..steps {
+        step(tally, draw, &mut ring, conflicts);
+    }
+    ring
+}
+
+/// One list tried and joined, and one other call.
+fn step(tally: &mut Tally, draw: &mut Draw, ring: &mut Grown, conflicts: usize) {
+    let n = ring.n;
+    let list = list_for(draw, &ring.hidden, 12);
+    room(draw, &mut ring.sides, n);
+    let tried = ring.sides.call(tally, n, Call::Trial(ring.count, &list));
+    let conflict = draw.one_in(conflicts).then(|| ring.sides.call(tally, n, Call::Conflict(ring.count, &list)));
+    let joined = ring.sides.call(tally, n, Call::Join(ring.count, &list));
+    assert_eq!(tried, joined, "a trial answers as joining would");
+    if let (Some(Ok(numbers)), Err((8, _)) | Ok(_)) = (conflict, joined) {
+        assert_eq!(numbers == 0, joined.is_ok(), "a group is refused exactly if it has a conflict");
+    }
+    ring.count = joined.unwrap_or(ring.count);
+    match draw.below(4) {
+        0 => assert_eq!(ring.sides.call(tally, n, Call::Order), Ok(n)),
+        1 => drop(ring.sides.call(tally, n, Call::Aim(ring.count, draw.below(ring.count + 2)))),
+        2 => written_and_read(tally, ring),
+        _ => {}
+    }
+}
+
+/// Writes the ring's tree and reads it again from its text, into the same tables and a book that keeps its groups.
+fn written_and_read(tally: &mut Tally, ring: &mut Grown) {
+    let length = ring.sides.call(tally, ring.n, Call::Write).expect("the tables are in form");
+    let text = ring.sides.text(length);
+    let mut copy = ring.sides.clone();
+    assert_eq!(copy.call(tally, ring.n, Call::Read(&text)), Ok(0));
+    assert!(copy.ours.nodes == ring.sides.ours.nodes, "a text has one table");
+}
+
+/// Changes one field of the node table.
+fn damage_nodes(draw: &mut Draw, n: usize, nodes: &mut [Node]) {
+    let used = nodes.iter().take_while(|node| node.kind != 0).count();
+    let (at, other) = (draw.below(used + 1).min(255), draw.below(used + 1).min(255));
+    let count = (nodes[at].count as usize).min(254);
+    let (i, j) = (draw.below(count + 1), draw.below(count + 1));
+    let record = &mut nodes[at];
+    match draw.below(13) {
+        0 => record.kind = draw.pick(&[0, 1, 2, 3, 255, 256, 257, 258, 65_535]),
+        1 => record.kind = draw.pick(&[3 - record.kind.min(2), record.kind | 256, record.kind << 8]),
+        2 => record.count = draw.pick(&[0, 1, 2, 3, 254, 255, 256, 65_535]),
+        3 => record.count = record.count.wrapping_add(draw.pick(&[1, 65_535])),
+        4 => record.items[i] = draw.below(n + 3) as u16,
+        5 => record.items[i] = 256 + draw.below(used + 2) as u16,
+        6 => record.items[draw.below(255)] = draw.pick(&[0, 1, 2, 256, 257, 511, 512, 65_535]),
+        7 | 8 => record.items.swap(i, j),
+        9 => record.items[..count].reverse(),
+        10 => nodes.swap(at, other),
+        11 => nodes[at] = nodes[other],
+        _ => {
+            let far = draw.below(256);
+            nodes[far].items[draw.below(255)] ^= 1
+        }
+    }
+}
+
+/// Changes one field of the book, or its count.
+fn damage_book(draw: &mut Draw, n: usize, book: &mut [u64], count: &mut usize) {
+    let group = draw.below(*count + 1).min(95);
+    match draw.below(6) {
+        0 => book[draw.below(384)] ^= 1 << draw.below(64),
+        1 => book[4 * group + n / 64 % 4] ^= 1 << (n % 64),
+        2 => book[4 * group..4 * group + 4].fill(0),
+        3 => book[4 * group + draw.below(4)] = draw.number(),
+        4 => *count = draw.below(98),
+        _ => *count = draw.pick(&[*count + 1, 95, 96, 97, 65_536, usize::MAX, usize::MAX / 4 + 1]),
+    }
+}
+
+/// Lends tables of another length, each too short one time in some.
+fn other_lengths(draw: &mut Draw, n: usize, nodes: &mut Vec<Node>, book: &mut Vec<u64>) -> [usize; 3] {
+    if draw.one_in(3) {
+        nodes.truncate(draw.pick(&[0, 1, 255, 255, 255]));
+    }
+    if draw.one_in(3) {
+        book.truncate(draw.pick(&[0, 4, 380, 383, 383]));
+    }
+    let few = draw.one_in(3) as usize;
+    let places = n.min(300);
+    if draw.one_in(8) {
+        return [0, 0, 0];
+    }
+    [(places - few.min(places)), 96 - few, 2048 - few]
+}
+
+/// The node table of the fresh ring.
+fn lent_fresh(n: usize) -> Vec<Node> {
+    let mut nodes = vec![Node::UNUSED; 256];
+    assert_eq!(tokuwhape::open(n, &mut nodes, &mut vec![0; 384]), Ok(0));
+    nodes
+}
+
+/// One call on a grown ring's tables, damaged, shortened or lent with another n; or on a node table and the book of another ring.
+pub fn damaged(tally: &mut Tally, draw: &mut Draw, ring: &Grown, other: &Grown) {
+    let (mut n, mut count) = (ring.n, ring.count);
+    let (mut nodes, mut book) = (ring.sides.ours.nodes.clone(), ring.sides.ours.book.clone());
+    let mut places = [n, 96, 2048];
+    match draw.below(10) {
+        0..=3 => damage_nodes(draw, n, &mut nodes),
+        4 | 5 => damage_book(draw, n, &mut book, &mut count),
+        6 => n = draw.other_size(n),
+        7 if draw.one_in(2) => (book, count) = (other.sides.ours.book.clone(), other.count),
+        7 => nodes = lent_fresh(n),
+        8 => places = other_lengths(draw, n, &mut nodes, &mut book),
+        _ => {
+            damage_nodes(draw, n, &mut nodes);
+            damage_book(draw, n, &mut book, &mut count);
+            places = other_lengths(draw, n, &mut nodes, &mut book);
+        }
+    }
+    let mut sides = Sides::new(nodes, book);
+    sides.refill(places[0], places[1], places[2], draw.number() as u16);
+    let list = list_for(draw, &ring.hidden, 3);
+    any_call(tally, draw, &mut sides, n, count, &list);
+}
+
+/// One call of any kind.
+fn any_call(tally: &mut Tally, draw: &mut Draw, sides: &mut Sides, n: usize, count: usize, list: &[u16]) {
+    let drawn = draw.below(97);
+    let group = draw.pick(&[0, 1, count / 2, count, count.wrapping_add(1), usize::MAX, drawn]);
+    let text = draw.pick(&[&b"1"[..], b"1 2", b"1 P(2 3)", b"1 P(2 3 4)", b"1 C(P(2 4) 5 3)", b""]);
+    let call = match draw.below(16) {
+        0 => Call::Open,
+        1..=3 => Call::Join(count, list),
+        4..=6 => Call::Trial(count, list),
+        7 | 8 => Call::Order,
+        9..=11 => Call::Aim(count, group),
+        12 => Call::Conflict(count, list),
+        13 | 14 => Call::Write,
+        _ => Call::Read(text),
+    };
+    let _ = sides.call(tally, n, call);
+}
+
+/// A conflict call on a book of any groups, which may be impossible together, repeat and be a part of the ring each.
+pub fn conflict(tally: &mut Tally, draw: &mut Draw, n: usize, count: usize) {
+    let hidden = draw.leaves(n);
+    let wild = draw.pick(&[1, 3, 10, 1000]);
+    let mut book = vec![0u64; draw.pick(&[384, 384, 385])];
+    for group in 0..count {
+        let list = if draw.one_in(wild) { draw.group(n) } else { draw.run(&hidden) };
+        for leaf in list {
+            let mark = leaf as usize - 1;
+            book[4 * group + mark / 64] |= 1 << (mark % 64);
+        }
+    }
+    let list = if draw.one_in(20) { draw.list(n) } else { draw.group(n) };
+    let mut sides = Sides::new(Vec::new(), book);
+    let more = draw.pick(&[0, 0, 1, 5]);
+    sides.refill(0, 96 + more, 0, draw.number() as u16);
+    let _ = sides.call(tally, n, Call::Conflict(count, &list));
+}

@@ -1,0 +1,31 @@
+//! Every call on the deepest trees, in a thread with the stack that include/tokuwhape.h asks for.
+use std::thread;
+use tokuwhape::{Refusal, Ring};
+
+const STACK: usize = 1 << 20;
+
+/// The text of 256 leaves with one node in another, 254 deep, of these kinds in turn.
+fn deepest(kinds: [char; 2]) -> String {
+    let opened: String = (2..256).map(|leaf| format!("{}({leaf} ", kinds[leaf % 2])).collect();
+    format!("1 {opened}256{}", ")".repeat(254))
+}
+
+/// Makes every call on the tree of this text.
+fn every_call(text: &str) {
+    let mut ring = Ring::from_text(256, text).expect("a tree text");
+    assert_eq!(ring.text(), text);
+    assert_eq!(ring.order(), (1..=256).collect::<Vec<u16>>());
+    for group in [vec![255, 256], vec![2, 256], vec![128, 129], (100..=200).collect(), (1..=256).collect()] {
+        let tried = ring.trial(&group);
+        assert_eq!(ring.join(&group), tried);
+        assert!(matches!(tried, Ok(_) | Err(Refusal::Impossible)));
+        assert_eq!(ring.conflict(&[1, 128]), Ok(vec![]));
+    }
+    assert!(ring.aim(1).is_ok());
+}
+
+#[test]
+fn a_mebibyte_of_stack_is_enough() {
+    let calls = || [['P', 'P'], ['P', 'C'], ['C', 'C']].map(deepest).iter().for_each(|text| every_call(text));
+    thread::Builder::new().stack_size(STACK).spawn(calls).expect("a thread").join().expect("every call");
+}
