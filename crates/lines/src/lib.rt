@@ -81,11 +81,17 @@ pub fn lines(x: &[u16], back: bool, out: &mut [u16]) -> usize
     ensures { λ r. ⌜ ((j : Judged) → now (x .entry) ≡ encode j
         → Wrote (flat (all-in-line back (totals j))) (now (out .entry)) (now (out .exit)) r) ⌝ }
 {
-    if x.len() == 0 {
-        return 0;
+    let mut i = 0;
+    while i < x.len() {
+        let y = &x[i..];
+        if tokens::state(y) == 2 {
+            let k = tokens::strip(&x[0..i], out);
+            let m = k + line(y, back, &mut out[k..]);
+            return m + lines(tokens::rest(y), back, &mut out[m..]);
+        }
+        i += tokens::size(y);
     }
-    let k = line(x, back, out);
-    k + lines(tokens::rest(x), back, &mut out[k..])
+    tokens::strip(&x[0..i], out)
 }
 
 // Writes the lines of all items, from the last to the first.

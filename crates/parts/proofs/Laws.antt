@@ -2,11 +2,11 @@
 use mathlib.Core.Path.{_≡_, refl, sym, ap, _∙_}
 use mathlib.Core.Bool.{Bool, false, cond}
 use mathlib.Core.List.{List, [], _∷_, _++_, append-nil}
-use Prim.Native.Nat.{ℕ, _+_, _*_, _≤_, _<_}
+use Prim.Native.Nat.{ℕ, _+_, _-_, _*_, _%_, _≤_, _<_}
 use native.Mathlib.Omega.{arith}
 use borrow.Author.Tests.{eq-eqb, ne-eqb, lt-ltb, le-ltb, le-leb, lt-leb}
 use lib.Dec.{eqb, ltb}
-use lib.ListN.{length, length-append}
+use lib.ListN.{length, getD, length-append}
 use Rattle.orders.specs.Tree.{Kind, P, C, Forest, nil, leaf, node, Item, leaf-item, node-item, items, append, rev}
 use Rattle.orders.specs.Form.{first}
 use Rattle.orders.specs.Reduce.{put, one, insert, pack}
@@ -16,9 +16,9 @@ use Rattle.orders.proofs.Laws.{items-append}
 use Rattle.orders.proofs.Parts.{put-one, items-put}
 use Rattle.orders.proofs.Insert.{insert-perm}
 use Rattle.tokens.specs.Tokens.{State, E, F, L, R, X, number, Judged, j-nil, j-leaf, j-node, tree, plain, j-rev, node-token, encode}
-use Rattle.tokens.specs.Views.{state-of, first-of, rest-of}
+use Rattle.tokens.specs.Views.{shape-of, state-of, first-of, rest-of}
 use Rattle.tokens.proofs.Laws.{at-end}
-use Rattle.tokens.proofs.Sequences.{encode-append, plain-append, plain-rev, tree-plain, rev-length, plain-length, encode-injective}
+use Rattle.tokens.proofs.Sequences.{encode-append, plain-append, plain-rev, tree-plain, rev-length, plain-length, bare-is, encode-injective}
 use Rattle.judge.specs.Judge.{all-empty, all-full, rises}
 use Rattle.judge.specs.Total.{Total, states-of, whole-of, c-node-of, unchanged, total-by, totals}
 use Rattle.parts.specs.Writers.{flat, with-state, all-with-state, from-partial}
@@ -365,3 +365,11 @@ placed-le g j = omega (arith, insert-length g (whole-of (with-state 0 (totals j)
 -- A tree's first leaf, where the tokens are those of two.
 pub same-leaf : (g h : Forest) {l : List ℕ} {b : ℕ} → l ≡ flat g → b ≡ first g → l ≡ flat h → b ≡ first h
 same-leaf g h e q d = q ∙ ap first (flat-injective g h (sym e ∙ d))
+
+-- The tokens of a leaf without its state.
+pub bare-leaf : (j : Judged) {l : List ℕ} → l ≡ encode j → shape-of j ≡ 1 → encode (plain (tree (first-of j))) ≡ (getD l 0 0 - getD l 0 0 % 8) ∷ []
+unfolding encode shape-of first-of
+bare-leaf j-nil e h = absurd (omega arith)
+bare-leaf (j-leaf s b j) e h = rw e (sym (bare-is (j-leaf s b j-nil)))
+bare-leaf (j-node s P i j) e h = absurd (omega arith)
+bare-leaf (j-node s C i j) e h = absurd (omega arith)

@@ -114,9 +114,19 @@ module _ (g : Judged → List ℕ) where
     pub passed-part : take (i - 0) (drop 0 x) ≡ encode (p .front)
     passed-part = let n : i - 0 ≡ i = omega arith in rw n (p .its)
 
-    -- Once they are written, the walk is a writer's.
-    pub passed-writing : {old out : List ℕ} {k : ℕ} → Wrote (encode (plain (tree (p .front)))) old out k → Writing g x old out i k
-    passed-writing w = record { text = encode (plain (tree (p .front))); wrote = w; rest = p .rest }
+    -- They are written, and then the others, which write ys and zs; there are no others.
+    pub passed-two : {ys zs old mid part new : List ℕ} {k m n : ℕ} → Wrote (encode (plain (tree (p .front)))) old mid k → g (p .rest .left) ≡ ys ++ zs
+        → Wrote ys (take (length mid - k) (drop k mid)) part m
+        → Wrote zs (take (length (putMid k (length mid - k) mid part) - (k + m)) (drop (k + m) (putMid k (length mid - k) mid part))) new n
+        → (j : Judged) → x ≡ encode j
+        → Wrote (g j) old (putMid (k + m) (length (putMid k (length mid - k) mid part) - (k + m)) (putMid k (length mid - k) mid part) new) ((k + m) + n)
+    passed-two {ys} {zs} w h u v j e =
+        let a = encode (plain (tree (p .front))) in
+        rw (p .rest .same j e ∙ ap (λ (l : List ℕ). a ++ l) h ∙ sym (append-assoc a ys zs)) (wrote-then (wrote-then w u) v)
+
+    pub passed-end : {old out : List ℕ} {k : ℕ} → Wrote (encode (plain (tree (p .front)))) old out k → length x ≤ i → g j-nil ≡ []
+        → (j : Judged) → x ≡ encode j → Wrote (g j) old out k
+    passed-end w h n j e = rw (left-none g (p .rest) h j e, n, append-nil) w
 
     pub passed-room : (n : ℕ) (j : Judged) → x ≡ encode j → length (g j) ≤ n → i ≤ length x → i + length (g (p .rest .left)) ≤ n
     passed-room n j e h hi =

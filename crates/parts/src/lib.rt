@@ -6,7 +6,8 @@ ghost use lib.ListN.{length};
 ghost use Rattle.orders.specs.Tree.{P, Forest, nil, node};
 ghost use Rattle.orders.specs.Form.{first};
 ghost use Rattle.orders.specs.Reduce.{pack, insert};
-ghost use Rattle.tokens.specs.Tokens.{Judged, encode, Tokens, Wrote};
+ghost use Rattle.tokens.specs.Tokens.{Judged, tree, plain, encode, Tokens, Wrote};
+ghost use Rattle.tokens.specs.Views.{first-of};
 ghost use Rattle.judge.specs.Judge.{all-empty, rises};
 ghost use Rattle.judge.specs.Total.{states-of, whole-of, c-node-of, totals};
 ghost use Rattle.parts.specs.Writers.{flat, Fits, with-state, all-with-state, from-partial};
@@ -29,6 +30,20 @@ pub fn count(x: &[u16], s: u16) -> usize
     n
 }
 
+// Writes the first item without its states.
+fn put_first(x: &[u16], out: &mut [u16]) -> usize
+    requires { ⌜ ((j : Judged) × (now x ≡ encode j) × (0 < length (now x)) × (length (encode (first-of j)) ≤ length (now out))) ⌝ }
+    ensures { λ r. ⌜ ((j : Judged) → now (x .entry) ≡ encode j
+        → Wrote (encode (plain (tree (first-of j)))) (now (out .entry)) (now (out .exit)) r) ⌝ }
+{
+    if tokens::shape(x) == 1 {
+        let t = x[0];
+        out[0] = t - t % 8;
+        return 1;
+    }
+    tokens::strip(tokens::first(x), out)
+}
+
 // Writes the items of state s, in their order.
 pub fn only(x: &[u16], s: u16, out: &mut [u16]) -> usize
     requires { ⌜ Fits (λ ts. whole-of (with-state s ts)) (now x) (now out) ⌝ }
@@ -44,7 +59,7 @@ pub fn only(x: &[u16], s: u16, out: &mut [u16]) -> usize
             i += m;
             continue;
         }
-        k += tokens::strip(tokens::first(y), &mut out[k..]);
+        k += put_first(y, &mut out[k..]);
         i += m;
     }
     k
@@ -153,7 +168,7 @@ pub fn insert(x: &[u16], b: u16, t: &[u16], out: &mut [u16]) -> usize
             let e = k + tokens::copy(t, &mut out[k..]);
             return e + only(y, 0, &mut out[e..]);
         }
-        k += tokens::strip(tokens::first(y), &mut out[k..]);
+        k += put_first(y, &mut out[k..]);
         i += m;
     }
     k + tokens::copy(t, &mut out[k..])

@@ -20,11 +20,9 @@ use Rattle.parts.proofs.insert.Reads as reads
 use Rattle.parts.proofs.insert.Lts as lts
 use Rattle.parts.proofs.only.Reads as only-reads
 use Rattle.tokens.proofs.copy.Reads as copy-reads
-use Rattle.tokens.proofs.first.Reads as first-reads
 use Rattle.tokens.proofs.first_leaf.Reads as first-leaf-reads
 use Rattle.tokens.proofs.size.Reads as size-reads
 use Rattle.tokens.proofs.state.Reads as state-reads
-use Rattle.tokens.proofs.strip.Reads as strip-reads
 
 -- The tokens of a tree among the empty items.
 abbrev text : Forest → Judged → List ℕ
@@ -50,11 +48,11 @@ before-first c g eb w =
     let e = left-part (text g) (w .rest) in
     flat-before g (at-first _ (left-some (text g) (w .rest) (c .before .before .before .before .before .before .loop-test .taken))) (sym (c .before .before .before .state .ensures _ e) ∙ c .before .before .if1 .left) (omega (arith, c .before .first-leaf .ensures _ e, c .if2 .taken))
 
-after-first : (c : tie.After-first Inv-loop μ-loop) (g : Forest) → c .before .before .before .before .before .before .before .before .before .before .before .before .args .b ≡ first g → (w : Writing (text g) (c .before .before .before .before .before .before .before .before .before .before .before .before .args .x .now) (c .before .before .before .before .before .before .before .before .before .before .before .before .args .out .now) (c .before .before .before .before .before .before .before .before .loop .out) (c .before .before .before .before .before .before .before .before .loop .i) (c .before .before .before .before .before .before .before .before .loop .k))
+after-first : (c : tie.Else2 Inv-loop μ-loop) (g : Forest) → c .before .before .before .before .before .before .before .before .before .before .before .args .b ≡ first g → (w : Writing (text g) (c .before .before .before .before .before .before .before .before .before .before .before .args .x .now) (c .before .before .before .before .before .before .before .before .before .before .before .args .out .now) (c .before .before .before .before .before .before .before .loop .out) (c .before .before .before .before .before .before .before .loop .i) (c .before .before .before .before .before .before .before .loop .k))
     → text g (w .rest .left) ≡ encode (plain (tree (first-of (w .rest .left)))) ++ text g (rest-of (w .rest .left))
 after-first c g eb w =
     let e = left-part (text g) (w .rest) in
-    flat-after g (at-first _ (left-some (text g) (w .rest) (c .before .before .before .before .before .before .before .loop-test .taken))) (sym (c .before .before .before .before .state .ensures _ e) ∙ c .before .before .before .if1 .left) (λ h. omega (arith, c .before .before .first-leaf .ensures _ e, c .before .if2 .left))
+    flat-after g (at-first _ (left-some (text g) (w .rest) (c .before .before .before .before .before .before .loop-test .taken))) (sym (c .before .before .before .state .ensures _ e) ∙ c .before .before .if1 .left) (λ h. omega (arith, c .before .first-leaf .ensures _ e, c .if2 .left))
 
 before-room : (c : tie.Then2 Inv-loop μ-loop)
     → c .before .before .before .before .before .before .before .loop .k + (length (c .before .before .before .before .before .before .before .before .before .before .before .args .t .now) + length (flat (whole-of (with-state 0 (totals (walk (c .before .before .before .before .before .before .before) .rest .left)))))) ≤ length (c .before .before .before .before .before .before .before .loop .out)
@@ -67,16 +65,15 @@ before-room c =
       ap length (c .before .before .before .before .before .before .before .before .before .before .before .pre .3),
     )
 
-after-room : (c : tie.After-first Inv-loop μ-loop) → c .before .before .before .before .before .before .before .before .loop .k + length (c .first .result .now) ≤ length (c .before .before .before .before .before .before .before .before .loop .out)
+after-room : (c : tie.Else2 Inv-loop μ-loop) → c .before .before .before .before .before .before .before .loop .k + length (encode (first-of (walk (c .before .before .before .before .before .before .before) .rest .left))) ≤ length (c .before .before .before .before .before .before .before .loop .out)
 after-room c =
-    let w = walk (c .before .before .before .before .before .before .before .before) in
+    let w = walk (c .before .before .before .before .before .before .before) in
     let l = w .rest .left in
     omega (
       arith,
-      whole-room (c .before .before .before .before .before .before .before .before),
-      ap length (after-first c (c .before .before .before .before .before .before .before .before .before .before .before .before .pre .1) (c .before .before .before .before .before .before .before .before .before .before .before .before .pre .4) w) ∙ length-append (encode (plain (tree (first-of l)))) (text (c .before .before .before .before .before .before .before .before .before .before .before .before .pre .1) (rest-of l)),
+      whole-room (c .before .before .before .before .before .before .before),
+      ap length (after-first c (c .before .before .before .before .before .before .before .before .before .before .before .pre .1) (c .before .before .before .before .before .before .before .before .before .before .before .pre .4) w) ∙ length-append (encode (plain (tree (first-of l)))) (text (c .before .before .before .before .before .before .before .before .before .before .before .pre .1) (rest-of l)),
       plain-length (first-of l),
-      ap length (c .first .ensures .1 l (left-part (text (c .before .before .before .before .before .before .before .before .before .before .before .before .pre .1)) (w .rest))),
     )
 
 -- Where no item is left, t is what is left.
@@ -177,26 +174,23 @@ returns c = λ j g e et.
     ∙ sym (append-assoc (w .text) (c .before .before .before .before .before .before .before .before .before .before .before .before .before .before .before .before .before .before .before .args .t .now) others) in
     rw parts (wrote-then (wrote-then (w .wrote) (c .before .before .before .before .before .before .copy .ensures)) (c .before .before .only .ensures _ (left-part (text g) (w .rest))))
 
-first-requires : tie.Need-first-requires Inv-loop μ-loop
-first-requires c κs = ((_, left-part (text (c .before .before .before .before .before .before .before .before .before .before .before .pre .1)) (walk (c .before .before .before .before .before .before .before) .rest)), omega (arith, length-drop (c .before .before .before .before .before .before .before .loop .i) (c .before .before .before .before .before .before .before .before .before .before .before .args .x .now)))
+mul-put-first : tie.Need-mul-put-first Inv-loop μ-loop
+mul-put-first c = omega (arith, after-room c)
 
-mul-strip : tie.Need-mul-strip Inv-loop μ-loop
-mul-strip c = omega (arith, after-room c)
+sub-put-first : tie.Need-sub-put-first Inv-loop μ-loop
+sub-put-first c = omega (arith, after-room c)
 
-sub-strip : tie.Need-sub-strip Inv-loop μ-loop
-sub-strip c = omega (arith, after-room c)
+part-put-first-start : tie.Need-part-put-first-start Inv-loop μ-loop
+part-put-first-start c = omega (arith, after-room c)
 
-part-strip-start : tie.Need-part-strip-start Inv-loop μ-loop
-part-strip-start c = omega (arith, after-room c)
+part-put-first-end : tie.Need-part-put-first-end Inv-loop μ-loop
+part-put-first-end c = search needs
 
-part-strip-end : tie.Need-part-strip-end Inv-loop μ-loop
-part-strip-end c = search needs
-
-strip-requires : tie.Need-strip-requires Inv-loop μ-loop
-strip-requires c κs = ((_, c .before .first .ensures .1 _ (left-part (text (c .before .before .before .before .before .before .before .before .before .before .before .before .before .pre .1)) (walk (c .before .before .before .before .before .before .before .before .before) .rest))), omega (arith, after-room (c .before), c .strip-arg .given))
+put-first-requires : tie.Need-put-first-requires Inv-loop μ-loop
+put-first-requires c κs = (_, left-part (text (c .before .before .before .before .before .before .before .before .before .before .before .before .pre .1)) (walk (c .before .before .before .before .before .before .before .before) .rest), omega (arith, length-drop (c .before .before .before .before .before .before .before .before .loop .i) (c .before .before .before .before .before .before .before .before .before .before .before .before .args .x .now)), omega (arith, after-room (c .before), c .put-first-arg .given))
 
 add-k : tie.Need-add-k Inv-loop μ-loop
-add-k c = omega (arith, after-room (c .before .before .before .before), c .before .before .strip .ensures .0)
+add-k c = omega (arith, after-room (c .before .before .before .before), c .before .before .put-first .ensures _ (left-part (text (c .before .before .before .before .before .before .before .before .before .before .before .before .before .before .before .pre .1)) (walk (c .before .before .before .before .before .before .before .before .before .before .before) .rest)) .many, plain-length (first-of (walk (c .before .before .before .before .before .before .before .before .before .before .before) .rest .left)))
 
 add-i-2 : tie.Need-add-i-2 Inv-loop μ-loop
 add-i-2 c = omega arith
@@ -206,12 +200,12 @@ loop-less-2 c = omega arith
 
 loop-again-2 : tie.Need-loop-again-2 Inv-loop μ-loop
 loop-again-2 c = (
-  omega (arith, length-drop (c .before .before .before .before .before .before .before .before .before .before .before .before .loop .i) (c .before .before .before .before .before .before .before .before .before .before .before .before .before .before .before .before .args .x .now)),
-  c .before .out3 .given .1 ∙ c .before .before .before .before .before .before .before .before .before .before .before .before .loop .inv .1,
+  omega (arith, length-drop (c .before .before .before .before .before .before .before .before .before .before .before .loop .i) (c .before .before .before .before .before .before .before .before .before .before .before .before .before .before .before .args .x .now)),
+  c .before .out3 .given .1 ∙ c .before .before .before .before .before .before .before .before .before .before .before .loop .inv .1,
   λ g et eb.
-      let w = c .before .before .before .before .before .before .before .before .before .before .before .before .loop .inv .2 g et eb in
+      let w = c .before .before .before .before .before .before .before .before .before .before .before .loop .inv .2 g et eb in
       let e = left-part (text g) (w .rest) in
-      writing-more (text g) w (c .before .before .before .before .before .before .before .before .before .size .ensures .2 _ e) (after-first (c .before .before .before .before) g eb w) (c .before .before .strip .ensures .1 _ (c .before .before .before .before .first .ensures .1 _ e)),
+      writing-more (text g) w (c .before .before .before .before .before .before .before .before .size .ensures .2 _ e) (after-first (c .before .before .before .before) g eb w) (c .before .before .put-first .ensures _ e),
 )
 
 mul-copy-2 : tie.Need-mul-copy-2 Inv-loop μ-loop
@@ -272,12 +266,11 @@ insert-spec =
     add-result
     same-length
     returns
-    first-requires
-    mul-strip
-    sub-strip
-    part-strip-start
-    part-strip-end
-    strip-requires
+    mul-put-first
+    sub-put-first
+    part-put-first-start
+    part-put-first-end
+    put-first-requires
     add-k
     add-i-2
     loop-less-2

@@ -15,10 +15,8 @@ use Rattle.parts.proofs.only.Statement.{statement}
 use Rattle.parts.proofs.only.Tie as tie
 use Rattle.parts.proofs.only.Reads as reads
 use Rattle.parts.proofs.only.Lts as lts
-use Rattle.tokens.proofs.first.Reads as first-reads
 use Rattle.tokens.proofs.size.Reads as size-reads
 use Rattle.tokens.proofs.state.Reads as state-reads
-use Rattle.tokens.proofs.strip.Reads as strip-reads
 
 -- The tokens of the items of state s.
 abbrev text : ℕ → Judged → List ℕ
@@ -34,18 +32,17 @@ abbrev μ-loop : tie.MeasureT-loop
 head : (c : tie.After-y Inv-loop μ-loop) → AtFirst (c .before .before .loop .inv .2 .rest .left)
 head c = at-first _ (left-some (text (c .before .before .before .before .before .args .s)) (c .before .before .loop .inv .2 .rest) (c .before .loop-test .taken))
 
-tokens-of : (c : tie.After-first Inv-loop μ-loop) → text (c .before .before .before .before .before .before .before .before .before .args .s) (c .before .before .before .before .before .before .loop .inv .2 .rest .left) ≡ encode (plain (tree (first-of (c .before .before .before .before .before .before .loop .inv .2 .rest .left)))) ++ text (c .before .before .before .before .before .before .before .before .before .args .s) (rest-of (c .before .before .before .before .before .before .loop .inv .2 .rest .left))
-tokens-of c = flat-in (c .before .before .before .before .before .before .before .before .before .args .s) (head (c .before .before .before .before)) (sym (c .before .before .state .ensures _ (left-part (text (c .before .before .before .before .before .before .before .before .before .args .s)) (c .before .before .before .before .before .before .loop .inv .2 .rest))) ∙ c .before .if1 .left)
+tokens-of : (c : tie.Else1 Inv-loop μ-loop) → text (c .before .before .before .before .before .before .before .before .args .s) (c .before .before .before .before .before .loop .inv .2 .rest .left) ≡ encode (plain (tree (first-of (c .before .before .before .before .before .loop .inv .2 .rest .left)))) ++ text (c .before .before .before .before .before .before .before .before .args .s) (rest-of (c .before .before .before .before .before .loop .inv .2 .rest .left))
+tokens-of c = flat-in (c .before .before .before .before .before .before .before .before .args .s) (head (c .before .before .before)) (sym (c .before .state .ensures _ (left-part (text (c .before .before .before .before .before .before .before .before .args .s)) (c .before .before .before .before .before .loop .inv .2 .rest))) ∙ c .if1 .left)
 
-room : (c : tie.After-first Inv-loop μ-loop) → c .before .before .before .before .before .before .loop .k + length (c .first .result .now) ≤ length (c .before .before .before .before .before .before .loop .out)
+room : (c : tie.Else1 Inv-loop μ-loop) → c .before .before .before .before .before .loop .k + length (encode (first-of (c .before .before .before .before .before .loop .inv .2 .rest .left))) ≤ length (c .before .before .before .before .before .loop .out)
 room c =
-    let l = c .before .before .before .before .before .before .loop .inv .2 .rest .left in
+    let l = c .before .before .before .before .before .loop .inv .2 .rest .left in
     omega (
       arith,
-      writing-room (text (c .before .before .before .before .before .before .before .before .before .args .s)) (c .before .before .before .before .before .before .loop .inv .2) (c .before .before .before .before .before .before .before .before .before .pre .0) (c .before .before .before .before .before .before .before .before .before .pre .1) (c .before .before .before .before .before .before .before .before .before .pre .2),
-      ap length (tokens-of c) ∙ length-append (encode (plain (tree (first-of l)))) (text (c .before .before .before .before .before .before .before .before .before .args .s) (rest-of l)),
+      writing-room (text (c .before .before .before .before .before .before .before .before .args .s)) (c .before .before .before .before .before .loop .inv .2) (c .before .before .before .before .before .before .before .before .pre .0) (c .before .before .before .before .before .before .before .before .pre .1) (c .before .before .before .before .before .before .before .before .pre .2),
+      ap length (tokens-of c) ∙ length-append (encode (plain (tree (first-of l)))) (text (c .before .before .before .before .before .before .before .before .args .s) (rest-of l)),
       plain-length (first-of l),
-      ap length (c .first .ensures .1 l (left-part (text (c .before .before .before .before .before .before .before .before .before .args .s)) (c .before .before .before .before .before .before .loop .inv .2 .rest))),
     )
 
 loop-holds : tie.Need-loop-holds Inv-loop μ-loop
@@ -85,26 +82,23 @@ loop-again c =
       writing-skip (text s) w (c .before .before .size .ensures .2 _ e) (ap (λ ts. flat (whole-of ts)) (with-out s (head (c .before .before .before)) (λ h. c .if1 .taken (c .before .state .ensures _ e ∙ h)))),
     )
 
-first-requires : tie.Need-first-requires Inv-loop μ-loop
-first-requires c κs = ((_, left-part (text (c .before .before .before .before .before .before .before .before .args .s)) (c .before .before .before .before .before .loop .inv .2 .rest)), omega (arith, length-drop (c .before .before .before .before .before .loop .i) (c .before .before .before .before .before .before .before .before .args .x .now)))
+mul-put-first : tie.Need-mul-put-first Inv-loop μ-loop
+mul-put-first c = omega (arith, room c)
 
-mul-strip : tie.Need-mul-strip Inv-loop μ-loop
-mul-strip c = omega (arith, room c)
+sub-put-first : tie.Need-sub-put-first Inv-loop μ-loop
+sub-put-first c = omega (arith, room c)
 
-sub-strip : tie.Need-sub-strip Inv-loop μ-loop
-sub-strip c = omega (arith, room c)
+part-put-first-start : tie.Need-part-put-first-start Inv-loop μ-loop
+part-put-first-start c = omega (arith, room c)
 
-part-strip-start : tie.Need-part-strip-start Inv-loop μ-loop
-part-strip-start c = omega (arith, room c)
+part-put-first-end : tie.Need-part-put-first-end Inv-loop μ-loop
+part-put-first-end c = search needs
 
-part-strip-end : tie.Need-part-strip-end Inv-loop μ-loop
-part-strip-end c = search needs
-
-strip-requires : tie.Need-strip-requires Inv-loop μ-loop
-strip-requires c κs = ((_, c .before .first .ensures .1 _ (left-part (text (c .before .before .before .before .before .before .before .before .before .before .args .s)) (c .before .before .before .before .before .before .before .loop .inv .2 .rest))), omega (arith, room (c .before), c .strip-arg .given))
+put-first-requires : tie.Need-put-first-requires Inv-loop μ-loop
+put-first-requires c κs = (_, left-part (text (c .before .before .before .before .before .before .before .before .before .args .s)) (c .before .before .before .before .before .before .loop .inv .2 .rest), omega (arith, length-drop (c .before .before .before .before .before .before .loop .i) (c .before .before .before .before .before .before .before .before .before .args .x .now)), omega (arith, room (c .before), c .put-first-arg .given))
 
 add-k : tie.Need-add-k Inv-loop μ-loop
-add-k c = omega (arith, room (c .before .before .before .before), c .before .before .strip .ensures .0)
+add-k c = omega (arith, room (c .before .before .before .before), c .before .before .put-first .ensures _ (left-part (text (c .before .before .before .before .before .before .before .before .before .before .before .before .args .s)) (c .before .before .before .before .before .before .before .before .before .loop .inv .2 .rest)) .many, plain-length (first-of (c .before .before .before .before .before .before .before .before .before .loop .inv .2 .rest .left)))
 
 add-i-2 : tie.Need-add-i-2 Inv-loop μ-loop
 add-i-2 c = omega arith
@@ -114,12 +108,12 @@ loop-less-2 c = omega arith
 
 loop-again-2 : tie.Need-loop-again-2 Inv-loop μ-loop
 loop-again-2 c =
-    let s = c .before .before .before .before .before .before .before .before .before .before .before .before .before .args .s in
-    let w = c .before .before .before .before .before .before .before .before .before .before .loop .inv .2 in
+    let s = c .before .before .before .before .before .before .before .before .before .before .before .before .args .s in
+    let w = c .before .before .before .before .before .before .before .before .before .loop .inv .2 in
     let e = left-part (text s) (w .rest) in (
-      omega (arith, length-drop (c .before .before .before .before .before .before .before .before .before .before .loop .i) (c .before .before .before .before .before .before .before .before .before .before .before .before .before .args .x .now)),
-      c .before .out .given .1 ∙ c .before .before .before .before .before .before .before .before .before .before .loop .inv .1,
-      writing-more (text s) w (c .before .before .before .before .before .before .before .size .ensures .2 _ e) (tokens-of (c .before .before .before .before)) (c .before .before .strip .ensures .1 _ (c .before .before .before .before .first .ensures .1 _ e)),
+      omega (arith, length-drop (c .before .before .before .before .before .before .before .before .before .loop .i) (c .before .before .before .before .before .before .before .before .before .before .before .before .args .x .now)),
+      c .before .out .given .1 ∙ c .before .before .before .before .before .before .before .before .before .loop .inv .1,
+      writing-more (text s) w (c .before .before .before .before .before .before .size .ensures .2 _ e) (tokens-of (c .before .before .before .before)) (c .before .before .put-first .ensures _ e),
     )
 
 same-length : tie.Need-same-length Inv-loop μ-loop
@@ -144,12 +138,11 @@ only-spec =
     add-i
     loop-less
     loop-again
-    first-requires
-    mul-strip
-    sub-strip
-    part-strip-start
-    part-strip-end
-    strip-requires
+    mul-put-first
+    sub-put-first
+    part-put-first-start
+    part-put-first-end
+    put-first-requires
     add-k
     add-i-2
     loop-less-2
