@@ -42,8 +42,7 @@ entered-node {next = next} {h = h} p t n m e g = record {
 -- There is room for it, and a record.
 pub entered-room : {toks : List ℕ} {r room i next k : ℕ} {old new : List ℕ} → Placed toks r room → Left toks i (Entered r old new next k) → i < length toks → (k < room) × (next ≤ 256)
 entered-room {r = r} {next = next} p left n =
-    let q = here left n (p .seq) (p .is) in
-    (
+    let q = here left n (p .seq) (p .is) in (
       omega (arith, p .few, items-more (q .0) (q .1 .some), written-length (q .2 .written), entries-length r (tree (p .seq)), entries-length next (tree (q .0))),
       omega (arith, p .last, q .2 .count),
     )

@@ -84,7 +84,12 @@ fn write_rows(toks: &[u16], r: usize, out: &mut [u16]) -> usize
             i += 1;
             continue;
         }
-        k += write_row((s - 1) as u16, tokens::items(&toks[i..]), next + 1, &mut out[k..]);
+        k += write_row(
+            (s - 1) as u16,
+            tokens::items(&toks[i..]),
+            next + 1,
+            &mut out[k..],
+        );
         next += 1;
         i += 1;
     }
@@ -138,7 +143,12 @@ fn rows_match(toks: &[u16], r: usize, table: &[u16]) -> bool
             continue;
         }
         let at = 257 * (next - r);
-        if !row_matches((s - 1) as u16, tokens::items(&toks[i..]), next + 1, &table[at..at + 257]) {
+        if !row_matches(
+            (s - 1) as u16,
+            tokens::items(&toks[i..]),
+            next + 1,
+            &table[at..at + 257],
+        ) {
             return false;
         }
         next += 1;
