@@ -1,7 +1,8 @@
 -- What the proofs of several functions use.
 pub mod Rows
-pub mod Entering
 pub mod Writing
+pub mod Entering
+pub mod Rowing
 pub mod Comparing
 pub mod Matching
 pub mod Forms

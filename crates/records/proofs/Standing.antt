@@ -3,14 +3,15 @@ use mathlib.Core.Path.{_≡_, sym, ap, _∙_, subst}
 use mathlib.Core.List.{List, [], _∷_, _++_, append-assoc, append-nil, head-eq-of-cons-eq, tail-eq-of-cons-eq}
 use Prim.Native.Nat.{ℕ, zero, suc, _+_, _-_, _*_, _≤_, _<_}
 use native.Mathlib.Omega.{arith}
+use native.Mathlib.Numerals.{add-one}
 use lib.ListN.{length, take, drop, getD, length-append, length-take}
+use lib.Seq.{drop-cons}
 use Rattle.orders.specs.Tree.{Kind, Forest, nil, leaf, node, items, frontier}
 use Rattle.orders.specs.Form.{nodes}
 use Rattle.orders.proofs.ListLaws.{all-left, all-right}
 use Rattle.calls.specs.NodeTable.{entries, rows, spelled}
 use Rattle.calls.proofs.NodeTables.{row, first-row, rows-after, entries-length, row-length, at-count, at-places, at-next, spelled-node, spelled-entries}
 use Rattle.tokens.specs.Tokens.{plain, encode}
-use Rattle.tokens.proofs.Laws.{whole}
 use Rattle.records.specs.Walks.{Stands, NodeStands, PlacesStand}
 
 -- A leaf first.
@@ -147,12 +148,10 @@ leaf-first table v vs d room q (leaf b f) o e s h =
     (p .0, record { first = q; later = o; seq = f; are = tail-eq-of-cons-eq e; stands = p .1 })
 leaf-first table v vs d room q (node k i f) o e s h = absurd (omega (arith, head-eq-of-cons-eq e))
 
-pub leaf-head : (table l : List ℕ) (d room : ℕ) → 0 < length l → getD l 0 0 ≤ 256 → PlacesStand table l d room
-    → (1 ≤ room) × PlacesStand table (take (length l - 1) (drop 1 l)) d (room - 1)
-leaf-head table [] d room ne h p = absurd (omega arith)
-leaf-head table (v ∷ vs) d room ne h p =
-    subst (λ (x : List ℕ). (1 ≤ room) × PlacesStand table x d (room - 1)) (sym (whole (v ∷ vs) 1))
-    (leaf-first table v vs d room (p .first) (p .seq) (p .later) (p .are) (p .stands) h)
+pub leaf-head : (table l : List ℕ) (i d room : ℕ) → i < length l → getD l i 0 ≤ 256 → PlacesStand table (drop i l) d room
+    → (1 ≤ room) × PlacesStand table (drop (i + 1) l) d (room - 1)
+leaf-head table l i d room n h p =
+    rw add-one (leaf-first table (getD l i 0) (drop (suc i) l) d room (p .first) (p .seq) (p .later) (sym (drop-cons l i 0 n) ∙ p .are) (p .stands) h)
 
 -- The first place is that of a node, in the record that it tells; m is how many tokens it has.
 node-here : (table : List ℕ) (v : ℕ) (vs : List ℕ) (d room q : ℕ) (f : Forest) → v ∷ vs ≡ entries q f → Stands table q f d room → 256 < v
@@ -173,13 +172,10 @@ node-after table v vs d room q (node k i f) e s h =
     let is : spelled d table (v - 256) ≡ node k i nil = rw (← n) (node-spelled q d room (node-first s)) in
     record { first = suc q + nodes i; later = omega arith; seq = f; are = tail-eq-of-cons-eq e; stands = rw is (node-rest s) }
 
-pub node-head : (table l : List ℕ) (d room : ℕ) → 0 < length l → 256 < getD l 0 0 → PlacesStand table l d room → NodeStands table (getD l 0 0 - 256) d room
-node-head table [] d room ne h p = absurd (omega arith)
-node-head table (v ∷ vs) d room ne h p = node-here table v vs d room (p .first) (p .seq) (p .are) (p .stands) h
+pub node-head : (table l : List ℕ) (i d room : ℕ) → i < length l → 256 < getD l i 0 → PlacesStand table (drop i l) d room → NodeStands table (getD l i 0 - 256) d room
+node-head table l i d room n h p = node-here table (getD l i 0) (drop (suc i) l) d room (p .first) (p .seq) (sym (drop-cons l i 0 n) ∙ p .are) (p .stands) h
 
-pub node-tail : (table l : List ℕ) (d room : ℕ) {m : ℕ} → 0 < length l → 256 < getD l 0 0 → m ≡ length (encode (plain (spelled d table (getD l 0 0 - 256))))
-    → PlacesStand table l d room → PlacesStand table (take (length l - 1) (drop 1 l)) d (room - m)
-node-tail table [] d room {m} ne h e p = absurd (omega arith)
-node-tail table (v ∷ vs) d room {m} ne h e p =
-    subst (λ (x : List ℕ). PlacesStand table x d (room - m)) (sym (whole (v ∷ vs) 1))
-    (rw e (node-after table v vs d room (p .first) (p .seq) (p .are) (p .stands) h))
+pub node-tail : (table l : List ℕ) (i d room : ℕ) {m : ℕ} → i < length l → 256 < getD l i 0 → m ≡ length (encode (plain (spelled d table (getD l i 0 - 256))))
+    → PlacesStand table (drop i l) d room → PlacesStand table (drop (i + 1) l) d (room - m)
+node-tail table l i d room n h e p =
+    rw (add-one, e) (node-after table (getD l i 0) (drop (suc i) l) d room (p .first) (p .seq) (sym (drop-cons l i 0 n) ∙ p .are) (p .stands) h)

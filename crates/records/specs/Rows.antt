@@ -8,16 +8,11 @@ use Rattle.orders.specs.Lists.{same}
 use Rattle.orders.specs.Tree.{Forest, items}
 use Rattle.orders.specs.Form.{Every, nodes, InForm}
 use Rattle.calls.specs.Tables.{padded}
-use Rattle.tokens.specs.Tokens.{Judged, j-nil, j-leaf, j-node, tree, plain, j-append, encode}
-use Rattle.tokens.specs.Views.{items-of, rest-of}
+use Rattle.tokens.specs.Tokens.{Judged, tree, plain, encode}
 
 -- The row of a node: the number of its kind, how many items it has, their places, and zeros.
 abbrev pub row : ℕ → List ℕ → List ℕ
 row k es = k ∷ length es ∷ padded 255 es
-
--- The first item's own items, then the items after it: what the tokens after the first one tell.
-abbrev pub opened : Judged → Judged
-opened j = j-append (items-of j) (rest-of j)
 
 -- The list begins with xs.
 abbrev pub starts : List ℕ → List ℕ → Bool

@@ -8,17 +8,8 @@ ghost use Rattle.orders.specs.Tree.{Forest};
 ghost use Rattle.calls.specs.Tables.{over, padded};
 ghost use Rattle.calls.specs.NodeTable.{entries, rows, table-of, kind-of, spelled-items, spelled};
 ghost use Rattle.tokens.specs.Tokens.{E, Judged, tree, plain, node-token, encode, Tokens, Wrote};
-ghost use Rattle.records.specs.Rows.{row, opened, starts, Placed, Rowed, Formed};
+ghost use Rattle.records.specs.Rows.{row, starts, Placed, Rowed, Formed};
 ghost use Rattle.records.specs.Walks.{NodeStands, PlacesStand, Walks, Spells, Loads};
-
-// The tokens after the first one: the first item's items, then the items after it.
-fn opened(toks: &[u16]) -> &[u16]
-    requires { ⌜ (Tokens (now toks)) × (0 < length (now toks)) ⌝ }
-    ensures { λ r. ⌜ (length (now r) < length (now (toks .entry)))
-        × ((j : Judged) → now (toks .entry) ≡ encode j → now r ≡ encode (opened j)) ⌝ }
-{
-    &toks[1..]
-}
 
 // Writes the places of the items, the first node among or below them in record r, and says how many.
 fn write_entries(toks: &[u16], r: usize, out: &mut [u16]) -> usize
@@ -84,15 +75,25 @@ fn write_rows(toks: &[u16], r: usize, out: &mut [u16]) -> usize
     requires { ⌜ Rowed (now toks) r (length (now out)) ⌝ }
     ensures { λ k. ⌜ ((j : Judged) → now (toks .entry) ≡ encode j → Wrote (rows r (tree j)) (now (out .entry)) (now (out .exit)) k) ⌝ }
 {
-    if toks.len() == 0 {
-        return 0;
+    let mut next = r;
+    let mut k = 0;
+    let mut i = 0;
+    while i < toks.len() {
+        let s = tokens::shape(&toks[i..]);
+        if s == 1 {
+            i += 1;
+            continue;
+        }
+        k += write_row(
+            (s - 1) as u16,
+            tokens::items(&toks[i..]),
+            next + 1,
+            &mut out[k..],
+        );
+        next += 1;
+        i += 1;
     }
-    let s = tokens::shape(toks);
-    if s == 1 {
-        return write_rows(opened(toks), r, out);
-    }
-    let k = write_row((s - 1) as u16, tokens::items(toks), r + 1, out);
-    k + write_rows(opened(toks), r + 1, &mut out[k..])
+    k
 }
 
 // Writes the table of a tree in form: its rows, and zeros up to 65,792 numbers. What stands after them stays.
@@ -142,7 +143,12 @@ fn rows_match(toks: &[u16], r: usize, table: &[u16]) -> bool
             continue;
         }
         let at = 257 * (next - r);
-        if !row_matches((s - 1) as u16, tokens::items(&toks[i..]), next + 1, &table[at..at + 257]) {
+        if !row_matches(
+            (s - 1) as u16,
+            tokens::items(&toks[i..]),
+            next + 1,
+            &table[at..at + 257],
+        ) {
             return false;
         }
         next += 1;
@@ -213,23 +219,25 @@ fn walk_items(table: &[u16], d: usize, places: &[u16], out: &mut [u16]) -> usize
         (PlacesStand (now (table .entry)) (now (places .entry)) d (length (now (out .entry))))
         (now (out .entry)) (now (out .exit)) k ⌝ }
 {
-    if places.len() == 0 {
-        return 0;
-    }
-    let v = places[0];
-    let after = &places[1..];
-    if v <= 256 {
-        if out.len() == 0 {
-            return out.len() + 1;
+    let mut k = 0;
+    let mut i = 0;
+    while i < places.len() {
+        let v = places[i];
+        i += 1;
+        if v > 256 {
+            k += walk_node(table, d, (v - 256) as usize, &mut out[k..]);
+            if k > out.len() {
+                return k;
+            }
+            continue;
         }
-        out[0] = 16 * v;
-        return 1 + walk_items(table, d, after, &mut out[1..]);
+        if k == out.len() {
+            return k + 1;
+        }
+        out[k] = 16 * v;
+        k += 1;
     }
-    let k = walk_node(table, d, (v - 256) as usize, out);
-    if k > out.len() {
-        return k;
-    }
-    k + walk_items(table, d, after, &mut out[k..])
+    k
 }
 
 // Writes the tokens that the records spell to the start of out, at most 512; or says that the table holds no tree of n leaves.

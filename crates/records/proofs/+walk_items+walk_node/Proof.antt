@@ -1,11 +1,11 @@
-use mathlib.Core.Path.{_∙_}
+use mathlib.Core.Path.{_≡_, refl, _∙_}
 use native.Mathlib.Omega.{arith}
 use lib.ListN.{length, take, drop, getD, set, length-set}
 use borrow.Author.Needs.{needs}
 use Rattle.calls.specs.NodeTable.{kind-of, spelled}
 use Rattle.records.specs.Walks.{PlacesStand}
-use Rattle.records.proofs.Standing.{leaf-head, node-head, node-tail, node-record, node-count, part-is, part-few, inner-places}
-use Rattle.records.proofs.Walking.{part-length, no-places, spelled-here, spelled-leaf, spelled-branch, walks-not, walks-gone, walks-nil, walks-leaf, walks-then, walks-node}
+use Rattle.records.proofs.Standing.{node-record, node-count, part-is, part-few, inner-places}
+use Rattle.records.proofs.Walking.{part-length, spelled-here, walks-not, walks-node, Walking, walking-start, walking-end, walking-leaf, walking-full, walking-node, walking-gone}
 use Prim.Native.Nat.{ℕ, _+_, _-_, _*_, _≤_, _<_}
 use borrow.Fn.Kinds.{In}
 use borrow.Fn.PlainCycle.{Measures, is, falls, and}
@@ -20,10 +20,10 @@ use Rattle.records.proofs.+walk_items+walk_node.{statement}
 use Rattle.records.proofs.+walk_items+walk_node.Tie.{close}
 
 abbrev μ-walk-items : Measures 3 walk-items-kinds.ps ℕ
-μ-walk-items κs a = 512 * a .1 .0 + 1 + length (a .1 .1 .0 .now)
+μ-walk-items κs a = 2 * a .1 .0 + 1
 
 abbrev μ-walk-node : Measures 2 walk-node-kinds.ps ℕ
-μ-walk-node κs a = 512 * a .1 .0
+μ-walk-node κs a = 2 * a .1 .0
 
 abbrev walk-items-at : ℕ → In 3 walk-items-kinds.ps
 walk-items-at t =
@@ -40,126 +40,95 @@ abbrev walk-node-below : ℕ → In 2 walk-node-kinds.ps
 walk-node-below t =
     and 2 walk-node-kinds.ps (falls 2 walk-node-kinds.ps _<_ μ-walk-node t) walk-node.Pre
 
+abbrev walk-items-Inv-loop : walk-items-lts.InvT-loop
+walk-items-Inv-loop table d places out₀ k₀ i₀ out k i = (i ≤ length places) × (k ≤ length out₀) × (length out ≡ length out₀) × Walking table d places out₀ out k i
+
+abbrev walk-items-μ-loop : walk-items-lts.MeasureT-loop
+walk-items-μ-loop table d places out₀ k₀ i₀ out k i = length places - i
+
 abbrev walk-items-calls : ℕ → walk-items-lts.Claims
-walk-items-calls t = (walk-items-below t, walk-items.Post, walk-node-below t, walk-node.Post)
+walk-items-calls t = (walk-node-below t, walk-node.Post)
 
-walk-items-returns : (t : ℕ) → walk-items-lts.Need-returns (walk-items-calls t) (walk-items-at t) walk-items.Post
-walk-items-returns t c = rw (no-places (c .before .before .before .before .args .places .now) (c .if1 .taken)) (walks-nil _)
+walk-items-loop-holds : (t : ℕ) → walk-items-lts.Need-loop-holds (walk-items-calls t) (walk-items-at t) walk-items.Post walk-items-Inv-loop walk-items-μ-loop
+walk-items-loop-holds t c = (omega arith, omega arith, refl, walking-start _ _ _ _)
 
-walk-items-shared-slice-read-v : (t : ℕ) → walk-items-lts.Need-shared-slice-read-v (walk-items-calls t) (walk-items-at t) walk-items.Post
+walk-items-mul-v : (t : ℕ) → walk-items-lts.Need-mul-v (walk-items-calls t) (walk-items-at t) walk-items.Post walk-items-Inv-loop walk-items-μ-loop
+walk-items-mul-v t c = omega arith
+
+walk-items-shared-slice-read-v : (t : ℕ) → walk-items-lts.Need-shared-slice-read-v (walk-items-calls t) (walk-items-at t) walk-items.Post walk-items-Inv-loop walk-items-μ-loop
 walk-items-shared-slice-read-v t c = omega arith
 
-walk-items-sub-after : (t : ℕ) → walk-items-lts.Need-sub-after (walk-items-calls t) (walk-items-at t) walk-items.Post
-walk-items-sub-after t c = omega arith
+walk-items-add-i : (t : ℕ) → walk-items-lts.Need-add-i (walk-items-calls t) (walk-items-at t) walk-items.Post walk-items-Inv-loop walk-items-μ-loop
+walk-items-add-i t c = omega arith
 
-walk-items-part-after-start : (t : ℕ) → walk-items-lts.Need-part-after-start (walk-items-calls t) (walk-items-at t) walk-items.Post
-walk-items-part-after-start t c = omega arith
-
-walk-items-part-after-end : (t : ℕ) → walk-items-lts.Need-part-after-end (walk-items-calls t) (walk-items-at t) walk-items.Post
-walk-items-part-after-end t c = search needs
-
-walk-items-add-result : (t : ℕ) → walk-items-lts.Need-add-result (walk-items-calls t) (walk-items-at t) walk-items.Post
-walk-items-add-result t c = omega arith
-
-walk-items-returns-2 : (t : ℕ) → walk-items-lts.Need-returns-2 (walk-items-calls t) (walk-items-at t) walk-items.Post
-walk-items-returns-2 t c = walks-not _ (c .before .before .before .before .before .before .before .before .args .out .now) (λ p. omega (arith, leaf-head (c .before .before .before .before .before .before .before .before .args .table .now) (c .before .before .before .before .before .before .before .before .args .places .now) (c .before .before .before .before .before .before .before .before .args .d) (length (c .before .before .before .before .before .before .before .before .args .out .now)) (omega arith) (c .before .if2 .taken) p .0))
-
-walk-items-mul-out : (t : ℕ) → walk-items-lts.Need-mul-out (walk-items-calls t) (walk-items-at t) walk-items.Post
-walk-items-mul-out t c = omega arith
-
-walk-items-slice-write-out : (t : ℕ) → walk-items-lts.Need-slice-write-out (walk-items-calls t) (walk-items-at t) walk-items.Post
-walk-items-slice-write-out t c = omega arith
-
-walk-items-sub-walk-items : (t : ℕ) → walk-items-lts.Need-sub-walk-items (walk-items-calls t) (walk-items-at t) walk-items.Post
-walk-items-sub-walk-items t c = simp length-set (omega arith)
-
-walk-items-part-walk-items-start : (t : ℕ) → walk-items-lts.Need-part-walk-items-start (walk-items-calls t) (walk-items-at t) walk-items.Post
-walk-items-part-walk-items-start t c = simp length-set (omega arith)
-
-walk-items-part-walk-items-end : (t : ℕ) → walk-items-lts.Need-part-walk-items-end (walk-items-calls t) (walk-items-at t) walk-items.Post
-walk-items-part-walk-items-end t c = search needs
-
-walk-items-walk-items-requires : (t : ℕ) → walk-items-lts.Need-walk-items-requires (walk-items-calls t) (walk-items-at t) walk-items.Post
-walk-items-walk-items-requires t c κs =
-    let l = part-length (c .before .before .before .before .before .before .before .before .before .args .places .now) 1 in
-    let old = c .before .before .before .before .before .before .before .before .before .args .out .now in
-    let v = getD (c .before .before .before .before .before .before .before .before .before .args .places .now) 0 0 in
-    (omega arith, (c .before .before .before .before .before .before .before .before .before .pre .1 .0, omega arith, omega (arith, length-set old 0 (16 * v), part-length (set old 0 (16 * v)) 1)))
-
-walk-items-add-result-2 : (t : ℕ) → walk-items-lts.Need-add-result-2 (walk-items-calls t) (walk-items-at t) walk-items.Post
-walk-items-add-result-2 t c =
-    let old = c .before .before .before .before .before .before .before .before .before .before .before .before .args .out .now in
-    let v = getD (c .before .before .before .before .before .before .before .before .before .before .before .before .args .places .now) 0 0 in
-    omega (arith, c .before .before .walk-items .ensures .most, length-set old 0 (16 * v), part-length (set old 0 (16 * v)) 1)
-
-walk-items-same-length : (t : ℕ) → walk-items-lts.Need-same-length (walk-items-calls t) (walk-items-at t) walk-items.Post
-walk-items-same-length t c = c .before .out .given .1 ∙ simp length-set
-
-walk-items-returns-3 : (t : ℕ) → walk-items-lts.Need-returns-3 (walk-items-calls t) (walk-items-at t) walk-items.Post
-walk-items-returns-3 t c =
-    let table = c .before .before .before .before .before .before .before .before .before .before .before .before .args .table .now in
-    let l = c .before .before .before .before .before .before .before .before .before .before .before .before .args .places .now in
-    let old = c .before .before .before .before .before .before .before .before .before .before .before .before .args .out .now in
-    let d = c .before .before .before .before .before .before .before .before .before .before .before .before .args .d in
-    rw (spelled-leaf (spelled d table) l (omega arith) (c .before .before .before .before .before .if2 .taken))
-    (walks-leaf (PlacesStand table (take (length l - 1) (drop 1 l)) d) (getD l 0 0) old (omega arith) (c .before .before .walk-items .ensures)
-    (λ p. leaf-head table l d (length old) (omega arith) (c .before .before .before .before .before .if2 .taken) p .1))
-
-walk-items-sub-walk-node : (t : ℕ) → walk-items-lts.Need-sub-walk-node (walk-items-calls t) (walk-items-at t) walk-items.Post
+walk-items-sub-walk-node : (t : ℕ) → walk-items-lts.Need-sub-walk-node (walk-items-calls t) (walk-items-at t) walk-items.Post walk-items-Inv-loop walk-items-μ-loop
 walk-items-sub-walk-node t c = omega arith
 
-walk-items-cast-walk-node : (t : ℕ) → walk-items-lts.Need-cast-walk-node (walk-items-calls t) (walk-items-at t) walk-items.Post
-walk-items-cast-walk-node t c = omega (arith, c .before .before .shared-slice-known3 .given 0)
+walk-items-cast-walk-node : (t : ℕ) → walk-items-lts.Need-cast-walk-node (walk-items-calls t) (walk-items-at t) walk-items.Post walk-items-Inv-loop walk-items-μ-loop
+walk-items-cast-walk-node t c = omega (arith, c .before .shared-slice-known3 .given (c .before .before .before .loop .i))
 
-walk-items-walk-node-requires : (t : ℕ) → walk-items-lts.Need-walk-node-requires (walk-items-calls t) (walk-items-at t) walk-items.Post
-walk-items-walk-node-requires t c κs = (omega arith, (c .before .before .before .before .before .before .before .before .pre .1 .0, omega arith))
+walk-items-mul-walk-node : (t : ℕ) → walk-items-lts.Need-mul-walk-node (walk-items-calls t) (walk-items-at t) walk-items.Post walk-items-Inv-loop walk-items-μ-loop
+walk-items-mul-walk-node t c = omega arith
 
-walk-items-same-length-2 : (t : ℕ) → walk-items-lts.Need-same-length-2 (walk-items-calls t) (walk-items-at t) walk-items.Post
-walk-items-same-length-2 t c = c .before .before .before .walk-node .kept .1 .1 .1 .0
+walk-items-sub-walk-node-2 : (t : ℕ) → walk-items-lts.Need-sub-walk-node-2 (walk-items-calls t) (walk-items-at t) walk-items.Post walk-items-Inv-loop walk-items-μ-loop
+walk-items-sub-walk-node-2 t c = omega arith
 
-walk-items-returns-4 : (t : ℕ) → walk-items-lts.Need-returns-4 (walk-items-calls t) (walk-items-at t) walk-items.Post
-walk-items-returns-4 t c =
-    let table = c .before .before .before .before .before .before .before .before .before .before .before .before .args .table .now in
-    let l = c .before .before .before .before .before .before .before .before .before .before .before .before .args .places .now in
-    let old = c .before .before .before .before .before .before .before .before .before .before .before .before .args .out .now in
-    walks-gone _ (omega (arith, c .before .before .before .walk-node .kept .1 .1 .1 .0)) (c .before .before .before .walk-node .ensures)
-    (λ p. node-head table l (c .before .before .before .before .before .before .before .before .before .before .before .before .args .d) (length old) (omega arith) (c .before .before .before .before .before .if2 .left) p)
+walk-items-part-walk-node-start : (t : ℕ) → walk-items-lts.Need-part-walk-node-start (walk-items-calls t) (walk-items-at t) walk-items.Post walk-items-Inv-loop walk-items-μ-loop
+walk-items-part-walk-node-start t c = omega arith
 
-walk-items-mul-walk-items : (t : ℕ) → walk-items-lts.Need-mul-walk-items (walk-items-calls t) (walk-items-at t) walk-items.Post
-walk-items-mul-walk-items t c = omega (arith, c .before .before .before .walk-node .kept .1 .1 .1 .0)
+walk-items-part-walk-node-end : (t : ℕ) → walk-items-lts.Need-part-walk-node-end (walk-items-calls t) (walk-items-at t) walk-items.Post walk-items-Inv-loop walk-items-μ-loop
+walk-items-part-walk-node-end t c = omega arith
 
-walk-items-sub-walk-items-2 : (t : ℕ) → walk-items-lts.Need-sub-walk-items-2 (walk-items-calls t) (walk-items-at t) walk-items.Post
-walk-items-sub-walk-items-2 t c = omega arith
+walk-items-walk-node-requires : (t : ℕ) → walk-items-lts.Need-walk-node-requires (walk-items-calls t) (walk-items-at t) walk-items.Post walk-items-Inv-loop walk-items-μ-loop
+walk-items-walk-node-requires t c κs = (omega arith, (c .before .before .before .before .before .before .before .before .pre .1 .0, omega (arith, c .before .before .before .before .before .before .before .before .pre .1 .2, c .walk-node-arg .given)))
 
-walk-items-part-walk-items-start-2 : (t : ℕ) → walk-items-lts.Need-part-walk-items-start-2 (walk-items-calls t) (walk-items-at t) walk-items.Post
-walk-items-part-walk-items-start-2 t c = omega arith
+walk-items-add-k : (t : ℕ) → walk-items-lts.Need-add-k (walk-items-calls t) (walk-items-at t) walk-items.Post walk-items-Inv-loop walk-items-μ-loop
+walk-items-add-k t c = omega (arith, c .before .before .walk-node .ensures .most, part-length (c .before .before .before .before .before .before .before .loop .out) (c .before .before .before .before .before .before .before .loop .k))
 
-walk-items-part-walk-items-end-2 : (t : ℕ) → walk-items-lts.Need-part-walk-items-end-2 (walk-items-calls t) (walk-items-at t) walk-items.Post
-walk-items-part-walk-items-end-2 t c = search needs
+walk-items-same-length : (t : ℕ) → walk-items-lts.Need-same-length (walk-items-calls t) (walk-items-at t) walk-items.Post walk-items-Inv-loop walk-items-μ-loop
+walk-items-same-length t c = c .before .before .out .given .1 ∙ c .before .before .before .before .before .before .before .before .loop .inv .2
 
-walk-items-walk-items-requires-2 : (t : ℕ) → walk-items-lts.Need-walk-items-requires-2 (walk-items-calls t) (walk-items-at t) walk-items.Post
-walk-items-walk-items-requires-2 t c κs =
-    let l = part-length (c .before .before .before .before .before .before .before .before .before .before .before .before .before .args .places .now) 1 in
-    (omega arith, (c .before .before .before .before .before .before .before .before .before .before .before .before .before .pre .1 .0, omega arith, omega (arith, c .before .before .before .before .walk-node .kept .1 .1 .1 .0, part-length (c .before .before .before .before .walk-node .last .1 .1 .1 .0) (c .before .before .before .before .walk-node .result))))
+walk-items-returns : (t : ℕ) → walk-items-lts.Need-returns (walk-items-calls t) (walk-items-at t) walk-items.Post walk-items-Inv-loop walk-items-μ-loop
+walk-items-returns t c = walking-gone (c .before .before .before .before .before .before .before .before .loop .inv .3) (c .before .before .before .walk-node .ensures) (c .before .before .before .before .before .before .before .loop-test .taken) (c .before .before .before .before .before .if1 .taken) (c .before .before .before .before .before .before .before .before .loop .inv .2) (c .before .before .before .before .before .before .before .before .loop .inv .1) (omega (arith, c .before .before .out .given .1))
 
-walk-items-add-result-3 : (t : ℕ) → walk-items-lts.Need-add-result-3 (walk-items-calls t) (walk-items-at t) walk-items.Post
-walk-items-add-result-3 t c = omega (arith, c .before .before .walk-items2 .ensures .most, c .before .before .before .before .before .before .before .walk-node .kept .1 .1 .1 .0, part-length (c .before .before .before .before .before .before .before .walk-node .last .1 .1 .1 .0) (c .before .before .before .before .before .before .before .walk-node .result))
+walk-items-loop-less : (t : ℕ) → walk-items-lts.Need-loop-less (walk-items-calls t) (walk-items-at t) walk-items.Post walk-items-Inv-loop walk-items-μ-loop
+walk-items-loop-less t c = omega arith
 
-walk-items-same-length-3 : (t : ℕ) → walk-items-lts.Need-same-length-3 (walk-items-calls t) (walk-items-at t) walk-items.Post
-walk-items-same-length-3 t c = c .before .out3 .given .1 ∙ c .before .before .before .before .before .before .before .walk-node .kept .1 .1 .1 .0
+walk-items-loop-again : (t : ℕ) → walk-items-lts.Need-loop-again (walk-items-calls t) (walk-items-at t) walk-items.Post walk-items-Inv-loop walk-items-μ-loop
+walk-items-loop-again t c = (omega arith, omega (arith, c .before .before .out .given .1), c .before .before .out .given .1 ∙ c .before .before .before .before .before .before .before .before .loop .inv .2, walking-node (c .before .before .before .before .before .before .before .before .loop .inv .3) (c .before .before .before .walk-node .ensures) (c .before .before .before .before .before .before .before .loop-test .taken) (c .before .before .before .before .before .if1 .taken) (c .before .before .before .before .before .before .before .before .loop .inv .2) (c .before .before .before .before .before .before .before .before .loop .inv .1) (omega (arith, c .before .before .out .given .1)))
 
-walk-items-returns-5 : (t : ℕ) → walk-items-lts.Need-returns-5 (walk-items-calls t) (walk-items-at t) walk-items.Post
-walk-items-returns-5 t c =
-    let table = c .before .before .before .before .before .before .before .before .before .before .before .before .before .before .before .before .args .table .now in
-    let l = c .before .before .before .before .before .before .before .before .before .before .before .before .before .before .before .before .args .places .now in
-    let old = c .before .before .before .before .before .before .before .before .before .before .before .before .before .before .before .before .args .out .now in
-    let d = c .before .before .before .before .before .before .before .before .before .before .before .before .before .before .before .before .args .d in
-    let w = c .before .before .before .before .before .before .before .walk-node .ensures in
-    let long = c .before .before .before .before .before .before .before .walk-node .kept .1 .1 .1 .0 in
-    let le : c .before .before .before .before .before .before .before .walk-node .result ≤ length old = omega (arith, c .before .before .before .before .if4 .left) in
-    rw (spelled-branch (spelled d table) l (omega arith) (c .before .before .before .before .before .before .before .before .before .if2 .left))
-    (walks-then (PlacesStand table (take (length l - 1) (drop 1 l)) d) w le long (c .before .before .walk-items2 .ensures)
-    (λ p. node-tail table l d (length old) (omega arith) (c .before .before .before .before .before .before .before .before .before .if2 .left) (w .wrote le .many) p))
+walk-items-add-result : (t : ℕ) → walk-items-lts.Need-add-result (walk-items-calls t) (walk-items-at t) walk-items.Post walk-items-Inv-loop walk-items-μ-loop
+walk-items-add-result t c = omega (arith, c .before .before .before .before .before .before .before .before .pre .1 .2)
+
+walk-items-same-length-2 : (t : ℕ) → walk-items-lts.Need-same-length-2 (walk-items-calls t) (walk-items-at t) walk-items.Post walk-items-Inv-loop walk-items-μ-loop
+walk-items-same-length-2 t c = c .before .before .before .before .loop .inv .2
+
+walk-items-returns-2 : (t : ℕ) → walk-items-lts.Need-returns-2 (walk-items-calls t) (walk-items-at t) walk-items.Post walk-items-Inv-loop walk-items-μ-loop
+walk-items-returns-2 t c = walking-full (c .before .before .before .before .loop .inv .3) (c .before .before .before .loop-test .taken) (c .before .if1 .left) (omega arith)
+
+walk-items-mul-out : (t : ℕ) → walk-items-lts.Need-mul-out (walk-items-calls t) (walk-items-at t) walk-items.Post walk-items-Inv-loop walk-items-μ-loop
+walk-items-mul-out t c = omega arith
+
+walk-items-mul-out-2 : (t : ℕ) → walk-items-lts.Need-mul-out-2 (walk-items-calls t) (walk-items-at t) walk-items.Post walk-items-Inv-loop walk-items-μ-loop
+walk-items-mul-out-2 t c = omega arith
+
+walk-items-slice-write-out : (t : ℕ) → walk-items-lts.Need-slice-write-out (walk-items-calls t) (walk-items-at t) walk-items.Post walk-items-Inv-loop walk-items-μ-loop
+walk-items-slice-write-out t c = omega arith
+
+walk-items-add-k-2 : (t : ℕ) → walk-items-lts.Need-add-k-2 (walk-items-calls t) (walk-items-at t) walk-items.Post walk-items-Inv-loop walk-items-μ-loop
+walk-items-add-k-2 t c = omega arith
+
+walk-items-loop-less-2 : (t : ℕ) → walk-items-lts.Need-loop-less-2 (walk-items-calls t) (walk-items-at t) walk-items.Post walk-items-Inv-loop walk-items-μ-loop
+walk-items-loop-less-2 t c = omega arith
+
+walk-items-loop-again-2 : (t : ℕ) → walk-items-lts.Need-loop-again-2 (walk-items-calls t) (walk-items-at t) walk-items.Post walk-items-Inv-loop walk-items-μ-loop
+walk-items-loop-again-2 t c = (omega arith, omega arith, simp length-set (c .before .before .before .before .loop .inv .2), walking-leaf (c .before .before .before .before .loop .inv .3) (c .before .before .before .loop-test .taken) (c .before .if1 .left) (omega arith))
+
+walk-items-same-length-3 : (t : ℕ) → walk-items-lts.Need-same-length-3 (walk-items-calls t) (walk-items-at t) walk-items.Post walk-items-Inv-loop walk-items-μ-loop
+walk-items-same-length-3 t c = c .before .loop .inv .2
+
+walk-items-returns-3 : (t : ℕ) → walk-items-lts.Need-returns-3 (walk-items-calls t) (walk-items-at t) walk-items.Post walk-items-Inv-loop walk-items-μ-loop
+walk-items-returns-3 t c = walking-end (c .before .loop .inv .3) (c .loop-test .left) (c .before .loop .inv .1)
 
 abbrev walk-node-calls : ℕ → walk-node-lts.Claims
 walk-node-calls t = (walk-items-below t, walk-items.Post, header-reads.Asked, header-reads.Learnt)
@@ -269,35 +238,35 @@ pub +walk-items+walk-node-spec : {M : Type 1} → statement M
 +walk-items+walk-node-spec = close μ-walk-items μ-walk-node (λ t. walk-items-lts.spec (walk-items-calls t)
     (walk-items-at t)
     walk-items.Post
-    (walk-items-returns t)
+    walk-items-Inv-loop
+    walk-items-μ-loop
+    (walk-items-loop-holds t)
+    (walk-items-mul-v t)
     (walk-items-shared-slice-read-v t)
-    (walk-items-sub-after t)
-    (walk-items-part-after-start t)
-    (walk-items-part-after-end t)
-    (walk-items-add-result t)
-    (walk-items-returns-2 t)
-    (walk-items-mul-out t)
-    (walk-items-slice-write-out t)
-    (walk-items-sub-walk-items t)
-    (walk-items-part-walk-items-start t)
-    (walk-items-part-walk-items-end t)
-    (walk-items-walk-items-requires t)
-    (walk-items-add-result-2 t)
-    (walk-items-same-length t)
-    (walk-items-returns-3 t)
+    (walk-items-add-i t)
     (walk-items-sub-walk-node t)
     (walk-items-cast-walk-node t)
+    (walk-items-mul-walk-node t)
+    (walk-items-sub-walk-node-2 t)
+    (walk-items-part-walk-node-start t)
+    (walk-items-part-walk-node-end t)
     (walk-items-walk-node-requires t)
+    (walk-items-add-k t)
+    (walk-items-same-length t)
+    (walk-items-returns t)
+    (walk-items-loop-less t)
+    (walk-items-loop-again t)
+    (walk-items-add-result t)
     (walk-items-same-length-2 t)
-    (walk-items-returns-4 t)
-    (walk-items-mul-walk-items t)
-    (walk-items-sub-walk-items-2 t)
-    (walk-items-part-walk-items-start-2 t)
-    (walk-items-part-walk-items-end-2 t)
-    (walk-items-walk-items-requires-2 t)
-    (walk-items-add-result-3 t)
+    (walk-items-returns-2 t)
+    (walk-items-mul-out t)
+    (walk-items-mul-out-2 t)
+    (walk-items-slice-write-out t)
+    (walk-items-add-k-2 t)
+    (walk-items-loop-less-2 t)
+    (walk-items-loop-again-2 t)
     (walk-items-same-length-3 t)
-    (walk-items-returns-5 t))
+    (walk-items-returns-3 t))
     λ t. walk-node-lts.spec (walk-node-calls t)
     (walk-node-at t)
     walk-node.Post

@@ -1,14 +1,12 @@
-use mathlib.Core.Path.{_≡_, sym, ap, _∙_}
-use Prim.Native.Nat.{suc, _+_, _-_, _*_, _≤_}
+use mathlib.Core.Path.{sym, _∙_}
+use Prim.Native.Nat.{_+_, _-_, _*_, _≤_}
 use native.Mathlib.Omega.{arith}
 use borrow.Author.Tests.{not-true, not-false}
 use lib.ListN.{length}
-use Rattle.orders.specs.Form.{nodes}
-use Rattle.tokens.specs.Tokens.{tree}
 use Rattle.tokens.specs.Views.{items-of}
-use Rattle.tokens.proofs.Steps.{Left, from-start, part-left, here, at-last, next-token, opened}
-use Rattle.records.proofs.Rows.{nodes-node, nodes-items, narrow-items, shape-some}
-use Rattle.records.proofs.Matching.{Matching, matching-start, matching-leaf, matching-node, matching-not, narrow-all}
+use Rattle.tokens.proofs.Steps.{Left, from-start, part-left, here, at-last, next-token}
+use Rattle.records.proofs.Rows.{shape-some, narrow-all, next-room, next-items}
+use Rattle.records.proofs.Matching.{Matching, matching-start, matching-leaf, matching-node, matching-not}
 use Rattle.records.proofs.rows_match.Statement.{statement}
 use Rattle.records.proofs.rows_match.Tie as tie
 use Rattle.records.proofs.rows_match.Reads as reads
@@ -53,14 +51,12 @@ loop-again c = (omega arith, c .before .before .before .before .loop .inv .1, ne
 sub-at : tie.Need-sub-at Inv-loop μ-loop
 sub-at c = omega arith
 
--- A node is next: there is a record for it and its row, and for those below it.
+-- A node is next: there is a record for it, and its row.
 room : (c : lts.Else1 (shape-reads.Asked, shape-reads.Learnt, items-reads.Asked, items-reads.Learnt, row-matches-reads.Asked, row-matches-reads.Learnt) reads.Pre reads.Post Inv-loop μ-loop)
-    → (257 * (c .before .before .before .before .loop .next - c .before .before .before .before .before .before .before .args .r) + 257 ≤ length (c .before .before .before .before .before .before .before .args .table .now))
-    × (c .before .before .before .before .loop .next + 1 + nodes (tree (opened (here (c .before .before .before .before .loop .inv .2) (c .before .before .before .loop-test .taken) (c .before .before .before .before .before .before .before .pre .seq) (c .before .before .before .before .before .before .before .pre .is) .0))) ≤ 256)
+    → (257 * (c .before .before .before .before .loop .next - c .before .before .before .before .before .before .before .args .r) + 257 ≤ length (c .before .before .before .before .before .before .before .args .table .now)) × (c .before .before .before .before .loop .next + 1 ≤ 256)
 room c =
     let q = here (c .before .before .before .before .loop .inv .2) (c .before .before .before .loop-test .taken) (c .before .before .before .before .before .before .before .pre .seq) (c .before .before .before .before .before .before .before .pre .is) in
-    let n = nodes-node (q .0) (q .1 .some) (λ h. c .if1 .left (c .before .shape .ensures (q .0) (q .1 .part) ∙ h)) in
-    (omega (arith, q .2 .count, c .before .before .before .before .before .before .before .pre .few, c .before .before .before .before .before .before .before .pre .last), omega (arith, q .2 .count, c .before .before .before .before .before .before .before .pre .last))
+    next-room (c .before .before .before .before .before .before .before .pre) (q .2 .onward) (c .before .before .before .before .loop .inv .1) (q .1 .some) (λ h. c .if1 .left (c .before .shape .ensures (q .0) (q .1 .part) ∙ h))
 
 mul-at : tie.Need-mul-at Inv-loop μ-loop
 mul-at c = omega (arith, room c)
@@ -105,14 +101,9 @@ part-row-matches-end : tie.Need-part-row-matches-end Inv-loop μ-loop
 part-row-matches-end c = omega (arith, room (c .before .before))
 
 row-matches-requires : tie.Need-row-matches-requires Inv-loop μ-loop
-row-matches-requires c κs = 
+row-matches-requires c κs =
     let q = here (c .before .before .before .before .before .before .before .loop .inv .2) (c .before .before .before .before .before .before .loop-test .taken) (c .before .before .before .before .before .before .before .before .before .before .pre .seq) (c .before .before .before .before .before .before .before .before .before .before .pre .is) in
-    record {
-      seq = items-of (q .0);
-      is = c .before .items .ensures .1 (q .0) (q .1 .part);
-      last = omega (arith, room (c .before .before .before), nodes-items (q .0));
-      few = narrow-items (q .0) (q .2 .narrow (c .before .before .before .before .before .before .before .before .before .before .pre .narrow));
-    }
+    next-items (c .before .before .before .before .before .before .before .before .before .before .pre) (q .2 .onward) (q .1 .some) (λ h. c .before .before .before .if1 .left (c .before .before .before .before .shape .ensures (q .0) (q .1 .part) ∙ h)) (c .before .items .ensures .1 (q .0) (q .1 .part))
 
 returns : tie.Need-returns Inv-loop μ-loop
 returns c = λ j e. let q = here (c .before .before .before .before .before .before .before .before .before .loop .inv .2) (omega arith) j e in sym (matching-not (c .before .before .before .before .before .before .shape .result) (q .1 .some) (c .before .before .before .before .before .before .shape .ensures (q .0) (q .1 .part)) (c .before .before .before .before .before .if1 .left) (c .before .row-matches .ensures (items-of (q .0)) (c .before .before .before .items .ensures .1 (q .0) (q .1 .part))) (not-true (c .before .row-matches .result) (c .if2 .taken)) (q .2) (narrow-all (c .before .before .before .before .before .before .before .before .before .before .before .before .pre) j e))

@@ -4,7 +4,8 @@ use native.Mathlib.Omega.{arith}
 use lib.ListN.{length, length-set}
 use Rattle.tokens.proofs.Steps.{Left, from-start, part-left, here, at-last, next-item, next-token}
 use Rattle.records.proofs.Rows.{first-some}
-use Rattle.records.proofs.Entering.{Entered, entered-start, entered-end, entered-leaf, entered-node, entered-room, entered-after}
+use Rattle.records.proofs.Writing.{written-end}
+use Rattle.records.proofs.Entering.{Entered, entered-start, entered-leaf, entered-node, entered-room, entered-after}
 use Rattle.records.proofs.write_entries.Statement.{statement}
 use Rattle.records.proofs.write_entries.Tie as tie
 use Rattle.records.proofs.write_entries.Reads as reads
@@ -94,7 +95,7 @@ same-length : tie.Need-same-length Inv-loop μ-loop
 same-length c = c .before .loop .inv .1
 
 returns : tie.Need-returns Inv-loop μ-loop
-returns c = λ j e. entered-end (at-last (c .before .loop .inv .2) (omega arith) j e)
+returns c = λ j e. written-end (at-last (c .before .loop .inv .2) (omega arith) j e .written)
 
 pub write-entries-spec : {M : Type 1} → statement M
 write-entries-spec =
