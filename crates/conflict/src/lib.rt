@@ -17,7 +17,7 @@ use calls::Answer;
 use calls::Refusal;
 use update::Updated;
 
-// A walk's end: how many numbers it did not reach, and how many tokens its tree has.
+// Where a walk ended: how many numbers are left, and how many tokens its tree has.
 pub struct Reached {
     pub left: usize,
     pub tokens: usize,
@@ -50,9 +50,9 @@ fn walk(toks: &[u16], book: &[u64], n: usize, numbers: &[u16], out: &mut [u16]) 
     Reached { left: 0, tokens: m }
 }
 
-// Writes those of the numbers that the leaving-out rule keeps, and says how many. toks is the tree of the groups that stay. The first half is
-// decided with the whole second half staying, then the second half with what is kept of the first. Where the second half alone cannot hang
-// together with the tree's groups, the number at which a walk down stops is the first one kept.
+// Writes those of the numbers that the leaving-out rule keeps, and says how many. toks is the tree of the groups that stay in any case. The
+// first half is decided with the whole second half staying, then the second half with what is kept of the first. Where the second half by
+// itself cannot hang together with the tree's groups, the number at which the walk stops is the first one kept.
 fn halves(toks: &[u16], book: &[u64], n: usize, numbers: &[u16], out: &mut [u16]) -> usize
     requires { ⌜ (Stands n (now toks)) × (384 ≤ length (now book)) × (InBook (now numbers)) × (length (now numbers) ≤ length (now out)) ⌝ }
     ensures { λ r. ⌜ (r ≤ length (now (numbers .entry)))
@@ -77,7 +77,8 @@ fn halves(toks: &[u16], book: &[u64], n: usize, numbers: &[u16], out: &mut [u16]
     go_on(toks, book, n, k, &numbers[mid..many], out)
 }
 
-// The first k numbers of out are kept: writes those that the rule then keeps of the other numbers behind them, and says how many there are in all.
+// The first k numbers of out are kept. Writes those that the rule then keeps of the other numbers behind them, and says how many there are in
+// all.
 fn go_on(toks: &[u16], book: &[u64], n: usize, k: usize, numbers: &[u16], out: &mut [u16]) -> usize
     requires { ⌜ (Stands n (now toks)) × (384 ≤ length (now book)) × (InBook (now numbers)) × (k + length (now numbers) ≤ length (now out))
         × (InBook (take k (now out))) ⌝ }
@@ -87,15 +88,16 @@ fn go_on(toks: &[u16], book: &[u64], n: usize, k: usize, numbers: &[u16], out: &
 {
     let mut tree = [0u16; 512];
     let kept = walk(toks, book, n, &out[0..k], &mut tree);
-    let left = kept.left;
+    let refused = kept.left;
     let size = kept.tokens;
-    if left > 0 {
+    if refused > 0 {
         return k;
     }
     k + halves(&tree[0..size], book, n, numbers, &mut out[k..])
 }
 
-// The same, but none is kept where all of them can hang together with the tree's groups.
+// Writes those of the numbers that the leaving-out rule keeps, and says how many: none where all of their groups can hang together with the
+// tree's.
 fn leave_out(toks: &[u16], book: &[u64], n: usize, numbers: &[u16], out: &mut [u16]) -> usize
     requires { ⌜ (Stands n (now toks)) × (384 ≤ length (now book)) × (InBook (now numbers)) × (length (now numbers) ≤ length (now out)) ⌝ }
     ensures { λ r. ⌜ ((t : Forest) (Gs : List Restriction) → now (toks .entry) ≡ flat t → Represents n Gs t
