@@ -135,7 +135,10 @@ pub whole-items : (ts : List Total) → length (items (whole-of ts)) ≡ length 
 whole-items [] = refl
 whole-items (t ∷ ts) = rw (items-put (t .item) (whole-of ts), whole-items ts)
 
--- The items of a state: the first item is one of them, or not.
+-- The items of a state: how many; the first item is one of them, or not.
+abbrev pub many : ℕ → Judged → ℕ
+many s j = length (with-state s (totals j))
+
 pub with-in : (s : ℕ) {j : Judged} (a : AtFirst j) → number (state-of j) ≡ s → with-state s (totals j) ≡ a .head ∷ with-state s (totals (rest-of j))
 with-in s {j} a e = rw (a .split, a .its-state, eq-eqb (number (state-of j)) s e)
 

@@ -2,6 +2,7 @@
 ghost use mathlib.Core.Path.{_≡_};
 ghost use mathlib.Core.List.{reverse};
 ghost use Prim.Native.Nat.{ℕ, _+_, _<_, _≤_};
+ghost use lib.Dec.{leb};
 ghost use lib.ListN.{length};
 ghost use Rattle.orders.specs.Tree.{P, Forest, nil, node};
 ghost use Rattle.orders.specs.Form.{first};
@@ -28,6 +29,26 @@ pub fn count(x: &[u16], s: u16) -> usize
         i += tokens::size(y);
     }
     n
+}
+
+// Whether two items or more have the state s.
+fn several(x: &[u16], s: u16) -> bool
+    requires { ⌜ Tokens (now x) ⌝ }
+    ensures { λ r. ⌜ ((j : Judged) → now (x .entry) ≡ encode j → r ≡ leb 2 (length (with-state s (totals j)))) ⌝ }
+{
+    let mut n: usize = 0;
+    let mut i = 0;
+    while i < x.len() {
+        let y = &x[i..];
+        if tokens::state(y) == s {
+            if n > 0 {
+                return true;
+            }
+            n = 1;
+        }
+        i += tokens::size(y);
+    }
+    false
 }
 
 // Writes the first item without its states.
@@ -71,7 +92,7 @@ pub fn pack_state(x: &[u16], s: u16, out: &mut [u16]) -> usize
     ensures { λ r. ⌜ ((j : Judged) → now (x .entry) ≡ encode j
         → Wrote (flat (pack (whole-of (with-state s (totals j))))) (now (out .entry)) (now (out .exit)) r) ⌝ }
 {
-    if count(x, s) < 2 {
+    if !several(x, s) {
         return only(x, s, out);
     }
     let k = only(x, s, &mut out[1..]);

@@ -1,9 +1,10 @@
 // The update of a tree in tokens by a restriction, and a group that joins. It writes the reduced form of the judged tree: one item whose full
 // leaves are consecutive.
 ghost use mathlib.Core.Path.{_≡_};
-ghost use Prim.Native.Nat.{ℕ, _≤_};
+ghost use Prim.Native.Nat.{ℕ, _<_, _≤_};
 ghost use lib.ListN.{length};
-ghost use Rattle.tokens.specs.Tokens.{Judged, encode};
+ghost use Rattle.tokens.specs.Tokens.{number, Judged, encode};
+ghost use Rattle.tokens.specs.Views.{state-of};
 ghost use Rattle.judge.specs.Total.{first-reduced, middle-of, totals};
 ghost use Rattle.parts.specs.Writers.{flat, FitsBoth, gathered};
 ghost use Rattle.orders.specs.Tree.{Forest};
@@ -50,13 +51,25 @@ fn middle(x: &[u16], out: &mut [u16], tmp: &mut [u16]) -> usize
     ensures { λ r. ⌜ ((j : Judged) → now (x .entry) ≡ encode j
         → Begins (flat (middle-of (totals j))) (now (out .exit)) r) ⌝ }
 {
-    if x.len() == 0 {
-        return 0;
+    let mut i = 0;
+    while i < x.len() {
+        let y = &x[i..];
+        if tokens::state(y) != 0 {
+            let k = tokens::strip(&x[0..i], out);
+            return k + peak(y, &mut out[k..], tmp);
+        }
+        i += tokens::size(y);
     }
-    if tokens::state(x) == 0 {
-        let k = tokens::strip(tokens::first(x), out);
-        return k + middle(tokens::rest(x), &mut out[k..], tmp);
-    }
+    tokens::strip(&x[0..i], out)
+}
+
+// The same, where the first item is not empty.
+fn peak(x: &[u16], out: &mut [u16], tmp: &mut [u16]) -> usize
+    requires { ⌜ (FitsBoth middle-of (now x) (now out) (now tmp)) × (length (now x) ≤ 512) × (length (now out) ≤ 512) × (length (now tmp) ≤ 512)
+        × (0 < length (now x)) × ((j : Judged) → now x ≡ encode j → number (state-of j) ≡ 0 → ⊥) ⌝ }
+    ensures { λ r. ⌜ ((j : Judged) → now (x .entry) ≡ encode j
+        → Begins (flat (middle-of (totals j))) (now (out .exit)) r) ⌝ }
+{
     if all_of_state(tokens::rest(x), 0) {
         let k = reduced(x, out, tmp);
         return k + tokens::strip(tokens::rest(x), &mut out[k..]);

@@ -7,7 +7,7 @@ use Rattle.tokens.specs.Tokens.{Judged, encode, number}
 use Rattle.tokens.specs.Views.{state-of, first-of, rest-of}
 use Rattle.judge.specs.Total.{totals}
 use Rattle.parts.specs.Writers.{with-state}
-use Rattle.parts.proofs.Laws.{at-first, totals-none, with-in, with-out}
+use Rattle.parts.proofs.Laws.{at-first, totals-none, many, with-in, with-out}
 use Rattle.parts.proofs.Walks.{Left, left-all, left-part, left-some, left-next, left-none}
 use Rattle.parts.proofs.count.Statement.{statement}
 use Rattle.parts.proofs.count.Tie as tie
@@ -15,10 +15,6 @@ use Rattle.parts.proofs.count.Reads as reads
 use Rattle.parts.proofs.count.Lts as lts
 use Rattle.tokens.proofs.size.Reads as size-reads
 use Rattle.tokens.proofs.state.Reads as state-reads
-
--- How many of the items have the state s.
-abbrev many : ℕ → Judged → ℕ
-many s j = length (with-state s (totals j))
 
 abbrev Inv-loop : tie.InvT-loop
 Inv-loop x s n₀ i₀ n i = (i ≤ length x) × (n ≤ i) × Left (many s) (λ a. n + a) x i

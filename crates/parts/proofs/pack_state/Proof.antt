@@ -1,5 +1,8 @@
-use mathlib.Core.Path.{refl, ap}
-use Prim.Native.Nat.{_+_, _≤_}
+use mathlib.Core.Path.{_≡_, refl, sym, ap, _∙_}
+use mathlib.Core.Bool.{Bool, true, false, not}
+use Prim.Native.Nat.{ℕ, _+_, _≤_, _<_}
+use lib.Dec.{leb}
+use borrow.Author.Tests.{leb-true, leb-false, not-true, not-false}
 use lib.ListN.{length}
 use native.Mathlib.Omega.{arith}
 use Rattle.judge.specs.Total.{whole-of, totals}
@@ -12,28 +15,34 @@ use Rattle.parts.proofs.pack_state.Statement.{statement}
 use Rattle.parts.proofs.pack_state.Tie as tie
 use Rattle.parts.proofs.pack_state.Reads as reads
 use Rattle.parts.proofs.pack_state.Lts as lts
-use Rattle.parts.proofs.count.Reads as count-reads
 use Rattle.parts.proofs.only.Reads as only-reads
 
-count-requires : tie.Need-count-requires
-count-requires c κs = (_, c .before .before .pre .0 .1)
+-- What the test of two or more says.
+leb-true-of : {r : Bool} {n : ℕ} → r ≡ leb 2 n → not r ≡ false → 2 ≤ n
+leb-true-of {r} {n} e h = leb-true 2 n (sym e ∙ not-false r h)
+
+leb-false-of : {r : Bool} {n : ℕ} → r ≡ leb 2 n → not r ≡ true → n < 2
+leb-false-of {r} {n} e h = leb-false 2 n (sym e ∙ not-true r h)
+
+several-requires : tie.Need-several-requires
+several-requires c κs = (_, c .before .before .pre .0 .1)
 
 only-requires : tie.Need-only-requires
 only-requires c κs =
     let p = c .before .before .before .before .before .pre .0 in
-    (_, p .1, omega (arith, p .2, ap (λ (f : Forest). length (flat f)) (packs-few (c .before .before .before .before .before .args .s) (p .0) (c .before .before .count .ensures .1 (p .0) (p .1)) (c .before .if1 .taken))))
+    (_, p .1, omega (arith, p .2, ap (λ (f : Forest). length (flat f)) (packs-few (c .before .before .before .before .before .args .s) (p .0) refl (leb-false-of (c .before .before .several .ensures (p .0) (p .1)) (c .before .if1 .taken)))))
 
 same-length : tie.Need-same-length
 same-length c = search needs
 
 returns : tie.Need-returns
-returns c = λ j e. rw (packs-few (c .before .before .before .before .before .before .before .before .args .s) j (c .before .before .before .before .before .count .ensures .1 j e) (c .before .before .before .before .if1 .taken)) (c .before .before .only .ensures j e)
+returns c = λ j e. rw (packs-few (c .before .before .before .before .before .before .before .before .args .s) j refl (leb-false-of (c .before .before .before .before .before .several .ensures j e) (c .before .before .before .before .if1 .taken))) (c .before .before .only .ensures j e)
 
 -- There is room for the header and the items.
 room : (c : tie.Else1) → 1 + length (flat (whole-of (with-state (c .before .before .before .before .args .s) (totals (c .before .before .before .before .pre .0 .0))))) ≤ length (c .before .before .before .before .args .out .now)
 room c =
     let p = c .before .before .before .before .pre .0 in
-    omega (arith, p .2, ap length (packs-many (c .before .before .before .before .args .s) (p .0) (c .before .count .ensures .1 (p .0) (p .1)) (c .if1 .left) refl))
+    omega (arith, p .2, ap length (packs-many (c .before .before .before .before .args .s) (p .0) refl (leb-true-of (c .before .several .ensures (p .0) (p .1)) (c .if1 .left)) refl))
 
 sub-only : tie.Need-sub-only
 sub-only c = omega (arith, room c)
@@ -73,13 +82,13 @@ same-length-2 c = search needs
 returns-2 : tie.Need-returns-2
 returns-2 c = λ j e.
     let w = c .before .before .only2 .ensures j e in
-    rw (packs-many (c .before .before .before .before .before .before .before .before .args .s) j (c .before .before .before .before .before .count .ensures .1 j e) (c .before .before .before .before .if1 .left) (w .many)) (wrote-head _ (c .before .before .before .before .before .before .before .before .args .out .now) (omega (arith, room (c .before .before .before .before))) w)
+    rw (packs-many (c .before .before .before .before .before .before .before .before .args .s) j refl (leb-true-of (c .before .before .before .before .before .several .ensures j e) (c .before .before .before .before .if1 .left)) (w .many)) (wrote-head _ (c .before .before .before .before .before .before .before .before .args .out .now) (omega (arith, room (c .before .before .before .before))) w)
 
 pub pack-state-spec : {M : Type 1} → statement M
 pack-state-spec =
     tie.close
     (tie.spec
-    count-requires
+    several-requires
     only-requires
     same-length
     returns

@@ -12,7 +12,7 @@ use Rattle.parts.specs.Writers.{flat, from-partial, first-in-line, gathered}
 use Rattle.update.proofs.Laws.{begins, read-part, fulls, second, between, beside, gather-none, gather-two, gather-one, gather-some, between-text, beside-text, between-sum, beside-sum, between-length, beside-length}
 use Prim.Native.Nat.{ℕ}
 use Rattle.update.proofs.gather.Reads as gather
-use Rattle.update.proofs.+gather+middle+reduced.Lts-gather as gather-lts
+use Rattle.update.proofs.+gather+middle+peak+reduced.Lts-gather as gather-lts
 use Rattle.update.proofs.reduced.Reads as reduced
 use Rattle.parts.proofs.c_node.Reads as c-node-reads
 use Rattle.parts.proofs.count.Reads as count-reads
@@ -20,7 +20,7 @@ use Rattle.parts.proofs.find_partial.Reads as find-partial-reads
 use Rattle.parts.proofs.pack_state.Reads as pack-state-reads
 use Rattle.tokens.proofs.rest.Reads as rest-reads
 use Rattle.lines.proofs.line.Reads as line-reads
-use Rattle.update.proofs.+gather+middle+reduced.Proof.Cycle.{gather-at, reduced-below}
+use Rattle.update.proofs.+gather+middle+peak+reduced.Proof.Cycle.{gather-at, reduced-below}
 
 abbrev pub gather-calls : ℕ → gather-lts.Claims
 gather-calls t = (find-partial-reads.Asked, find-partial-reads.Learnt, pack-state-reads.Asked, pack-state-reads.Learnt, rest-reads.Asked, rest-reads.Learnt, line-reads.Asked, line-reads.Learnt, c-node-reads.Asked, c-node-reads.Learnt, count-reads.Asked, count-reads.Learnt, reduced-below t, reduced.Post)

@@ -10,7 +10,7 @@ use Prim.Native.Nat.{ℕ}
 use Rattle.update.proofs.gather.Reads as gather
 use Rattle.update.proofs.middle.Reads as middle
 use Rattle.update.proofs.reduced.Reads as reduced
-use Rattle.update.proofs.+gather+middle+reduced.Lts-reduced as reduced-lts
+use Rattle.update.proofs.+gather+middle+peak+reduced.Lts-reduced as reduced-lts
 use Rattle.parts.proofs.among.Reads as among-reads
 use Rattle.parts.proofs.c_node.Reads as c-node-reads
 use Rattle.tokens.proofs.first.Reads as first-reads
@@ -18,7 +18,7 @@ use Rattle.tokens.proofs.items.Reads as items-reads
 use Rattle.tokens.proofs.shape.Reads as shape-reads
 use Rattle.tokens.proofs.state.Reads as state-reads
 use Rattle.tokens.proofs.strip.Reads as strip-reads
-use Rattle.update.proofs.+gather+middle+reduced.Proof.Cycle.{gather-below, middle-below, reduced-at}
+use Rattle.update.proofs.+gather+middle+peak+reduced.Proof.Cycle.{gather-below, middle-below, reduced-at}
 
 abbrev pub reduced-calls : ℕ → reduced-lts.Claims
 reduced-calls t = (shape-reads.Asked, shape-reads.Learnt, first-reads.Asked, first-reads.Learnt, strip-reads.Asked, strip-reads.Learnt, state-reads.Asked, state-reads.Learnt, items-reads.Asked, items-reads.Learnt, middle-below t, middle.Post, c-node-reads.Asked, c-node-reads.Learnt, gather-below t, gather.Post, among-reads.Asked, among-reads.Learnt)
