@@ -8,7 +8,8 @@ use native.Mathlib.Omega.{arith}
 use native.Mathlib.Numerals.{add-one}
 use borrow.Author.Tests.{eqb-true, eqb-false}
 use lib.Dec.{eqb}
-use lib.ListN.{length, take, drop, getD, length-take, take-append-drop}
+use lib.ListN.{length, take, drop, getD, length-take, length-drop, take-append-drop, drop-of-length-le}
+use lib.Seq.{drop-cons, drop-drop}
 use Rattle.orders.specs.Tree.{Kind, P, C, Forest, nil, leaf, node}
 use Rattle.tokens.specs.Tokens.{E, number, Judged, tree, plain, leaf-token, node-token, encode}
 use Rattle.tokens.specs.Views.{state-of, items-of, rest-of}
@@ -21,11 +22,6 @@ use Rattle.form.specs.Trees.{Plain, TreeFor}
 pub refuted : {Q : Type 0} → (Q → ⊥) → (false ≡ true) ↔ Q
 refuted h = ((λ e. absurd (true≢false (sym e))), (λ q. absurd (h q)))
 
-pub plain-end : (l : List ℕ) → length l ≡ 0 → (true ≡ true) ↔ Plain l
-unfolding encode
-plain-end [] h = ((λ e. (nil, refl)), (λ p. refl))
-plain-end (t ∷ l) h = absurd (omega arith)
-
 -- A state, or more tokens than there are: not plain.
 plain-state : (f : Forest) → number (state-of (plain f)) ≡ 0
 unfolding state-of
@@ -33,10 +29,10 @@ plain-state nil = refl
 plain-state (leaf b f) = refl
 plain-state (node k i f) = refl
 
-pub with-state : (l : List ℕ) → 0 < length l → (getD l 0 0 % 8 ≡ 0 → ⊥) → Plain l → ⊥
+with-state : (l : List ℕ) → 0 < length l → (getD l 0 0 % 8 ≡ 0 → ⊥) → Plain l → ⊥
 with-state l ne h p = h (first-state (plain (p .0)) (p .1) ne ∙ plain-state (p .0))
 
-pub too-long : (l : List ℕ) → 0 < length l → (getD l 0 0 / 8 % 2 ≡ 0 → ⊥) → length l < getD l 0 0 / 32 + 1 → Plain l → ⊥
+too-long : (l : List ℕ) → 0 < length l → (getD l 0 0 / 8 % 2 ≡ 0 → ⊥) → length l < getD l 0 0 / 32 + 1 → Plain l → ⊥
 too-long l ne h g p = omega (arith, size-node (plain (p .0)) (p .1) ne h, sizes (plain (p .0)) (p .1))
 
 -- The parts of a plain forest are plain.
@@ -78,10 +74,8 @@ unfolding encode
 leaf-then [] ne h g p = absurd (omega arith)
 leaf-then (t ∷ l) ne h g p = (leaf (t / 16) (p .0), ap₂ _∷_ (leaf-by t h g) (p .1))
 
-pub plain-leaf : (l : List ℕ) (r : Bool) → 0 < length l → getD l 0 0 % 8 ≡ 0 → getD l 0 0 / 8 % 2 ≡ 0
-    → ((r ≡ true) ↔ Plain (take (length l - 1) (drop 1 l))) → (r ≡ true) ↔ Plain l
-plain-leaf l r ne h g ih =
-    ((λ e. leaf-then l ne h g (subst Plain (whole l 1) (ih .0 e))), (λ p. ih .1 (subst Plain (sym (part-rest (plain (p .0)) (p .1) (size-leaf (plain (p .0)) (p .1) ne g))) (plain-rest (p .0)))))
+leaf-on : (l : List ℕ) → 0 < length l → getD l 0 0 / 8 % 2 ≡ 0 → Plain l → Plain (drop 1 l)
+leaf-on l ne g p = subst Plain (sym (part-rest (plain (p .0)) (p .1) (size-leaf (plain (p .0)) (p .1) ne g)) ∙ whole l 1) (plain-rest (p .0))
 
 -- A node's token, its items, then a forest.
 node-cons : (t : ℕ) (l : List ℕ) → t % 8 ≡ 0 → (t / 8 % 2 ≡ 0 → ⊥) → t / 32 ≤ length l → Plain (take (t / 32) l) → Plain (drop (t / 32) l) → Plain (t ∷ l)
@@ -104,18 +98,62 @@ node-then (t ∷ l) ne h g b p q =
 node-size-is : (l : List ℕ) → 0 < length l → (getD l 0 0 / 8 % 2 ≡ 0 → ⊥) → Plain l → getD l 0 0 / 32 + 1 ≡ getD l 0 0 / 8 / 4 + 1
 node-size-is l ne g p = omega arith
 
-pub plain-items-of : (l : List ℕ) → 0 < length l → (getD l 0 0 / 8 % 2 ≡ 0 → ⊥) → Plain l → Plain (take (getD l 0 0 / 32 + 1 - 1) (drop 1 l))
+plain-items-of : (l : List ℕ) → 0 < length l → (getD l 0 0 / 8 % 2 ≡ 0 → ⊥) → Plain l → Plain (take (getD l 0 0 / 32 + 1 - 1) (drop 1 l))
 plain-items-of l ne g p =
     subst Plain (sym (part-items (plain (p .0)) (p .1) (node-size-is l ne g p ∙ size-node (plain (p .0)) (p .1) ne g))) (plain-items (p .0))
 
-pub plain-node : (l : List ℕ) (r : Bool) → 0 < length l → getD l 0 0 % 8 ≡ 0 → (getD l 0 0 / 8 % 2 ≡ 0 → ⊥) → getD l 0 0 / 32 + 1 ≤ length l
-    → Plain (take (getD l 0 0 / 32 + 1 - 1) (drop 1 l))
-    → ((r ≡ true) ↔ Plain (take (length l - (getD l 0 0 / 32 + 1)) (drop (getD l 0 0 / 32 + 1) l)))
-    → (r ≡ true) ↔ Plain l
-plain-node l r ne h g b i ih = (
-  (λ e. node-then l ne h g b i (subst Plain (whole l (getD l 0 0 / 32 + 1)) (ih .0 e))),
-  (λ p. ih .1 (subst Plain (sym (part-rest (plain (p .0)) (p .1) (node-size-is l ne g p ∙ size-node (plain (p .0)) (p .1) ne g))) (plain-rest (p .0)))),
-)
+node-on : (l : List ℕ) → 0 < length l → (getD l 0 0 / 8 % 2 ≡ 0 → ⊥) → Plain l → Plain (drop (getD l 0 0 / 32 + 1) l)
+node-on l ne g p =
+    subst Plain (sym (part-rest (plain (p .0)) (p .1) (node-size-is l ne g p ∙ size-node (plain (p .0)) (p .1) ne g)) ∙ whole l (getD l 0 0 / 32 + 1)) (plain-rest (p .0))
+
+-- The numbers are plain just when those from index i on are.
+pub record PlainFrom (l : List ℕ) (i : ℕ) : Type 0 where
+  pub on : Plain l → Plain (drop i l)
+  pub back : Plain (drop i l) → Plain l
+
+pub plain-start : (l : List ℕ) → PlainFrom l 0
+plain-start l = record { on = λ p. p; back = λ p. p }
+
+pub plain-end : (l : List ℕ) (i : ℕ) → length l ≤ i → PlainFrom l i → (true ≡ true) ↔ Plain l
+unfolding encode
+plain-end l i n f = ((λ e. f .back (nil, drop-of-length-le l n)), (λ p. refl))
+
+-- What stands at index i.
+module _ (l : List ℕ) (i : ℕ) (n : i < length l) (f : PlainFrom l i) where
+  some : 0 < length (drop i l)
+  some = omega (arith, length-drop i l)
+
+  head : getD (drop i l) 0 0 ≡ getD l i 0
+  head = ap (λ (x : List ℕ). getD x 0 0) (drop-cons l i 0 n)
+
+  inner : take (i + (getD l i 0 / 32 + 1) - (i + 1)) (drop (i + 1) l) ≡ take (getD (drop i l) 0 0 / 32 + 1 - 1) (drop 1 (drop i l))
+  inner =
+      let e : i + (getD l i 0 / 32 + 1) - (i + 1) ≡ getD l i 0 / 32 + 1 - 1 = omega arith in
+      rw (head, e) (ap (take (getD l i 0 / 32 + 1 - 1)) (sym (drop-drop 1 i l)))
+
+  pub state-at : (getD l i 0 % 8 ≡ 0 → ⊥) → Plain l → ⊥
+  state-at h p = with-state (drop i l) some (rw head h) (f .on p)
+
+  pub leaf-at : getD l i 0 % 8 ≡ 0 → getD l i 0 / 8 % 2 ≡ 0 → PlainFrom l (i + 1)
+  leaf-at h g = record {
+    on = λ p. subst Plain (drop-drop 1 i l) (leaf-on (drop i l) some (rw head g) (f .on p));
+    back = λ p. f .back (leaf-then (drop i l) some (rw head h) (rw head g) (subst Plain (sym (drop-drop 1 i l)) p));
+  }
+
+  pub long-at : (getD l i 0 / 8 % 2 ≡ 0 → ⊥) → length l - i < getD l i 0 / 32 + 1 → Plain l → ⊥
+  long-at g b p = too-long (drop i l) some (rw head g) (rw head (omega (arith, length-drop i l))) (f .on p)
+
+  pub items-at : (getD l i 0 / 8 % 2 ≡ 0 → ⊥) → Plain l → Plain (take (i + (getD l i 0 / 32 + 1) - (i + 1)) (drop (i + 1) l))
+  items-at g p = subst Plain (sym inner) (plain-items-of (drop i l) some (rw head g) (f .on p))
+
+  pub node-at : getD l i 0 % 8 ≡ 0 → (getD l i 0 / 8 % 2 ≡ 0 → ⊥) → getD l i 0 / 32 + 1 ≤ length l - i
+      → Plain (take (i + (getD l i 0 / 32 + 1) - (i + 1)) (drop (i + 1) l)) → PlainFrom l (i + (getD l i 0 / 32 + 1))
+  node-at h g b q =
+      let e : drop (getD (drop i l) 0 0 / 32 + 1) (drop i l) ≡ drop (i + (getD l i 0 / 32 + 1)) l = rw head (drop-drop (getD l i 0 / 32 + 1) i l) in
+      record {
+        on = λ p. subst Plain e (node-on (drop i l) some (rw head g) (f .on p));
+        back = λ p. f .back (node-then (drop i l) some (rw head h) (rw head g) (rw head (omega (arith, length-drop i l))) (subst Plain inner q) (subst Plain (sym e) p));
+      }
 
 -- Plain tokens of a forest that the tests of the form accept.
 pub tree-is : (n : ℕ) (l : List ℕ) (r : Bool) → n ≤ 256 → Plain l → ((j : Judged) → l ≡ encode j → r ≡ in-form? n (tree j)) → (r ≡ true) ↔ ((n ≤ 256) × TreeFor n l)

@@ -134,24 +134,26 @@ pub fn in_form(toks: &[u16], n: usize) -> bool
 pub fn is_plain(toks: &[u16]) -> bool
     ensures { λ r. ⌜ (r ≡ true) ↔ Plain (now (toks .entry)) ⌝ }
 {
-    if toks.len() == 0 {
-        return true;
+    let mut i = 0;
+    while i < toks.len() {
+        let t = toks[i];
+        if t % 8 != 0 {
+            return false;
+        }
+        if t / 8 % 2 == 0 {
+            i += 1;
+            continue;
+        }
+        let m = (t / 32) as usize + 1;
+        if m > toks.len() - i {
+            return false;
+        }
+        if !is_plain(&toks[i + 1..i + m]) {
+            return false;
+        }
+        i += m;
     }
-    let t = toks[0];
-    if t % 8 != 0 {
-        return false;
-    }
-    if t / 8 % 2 == 0 {
-        return is_plain(&toks[1..]);
-    }
-    let m = (t / 32) as usize + 1;
-    if m > toks.len() {
-        return false;
-    }
-    if !is_plain(&toks[1..m]) {
-        return false;
-    }
-    is_plain(&toks[m..])
+    true
 }
 
 // Whether the numbers are the tokens of a tree in form for n leaves, n at most 256.

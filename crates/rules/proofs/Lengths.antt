@@ -1,15 +1,18 @@
 -- How long texts are, by the first item.
 use mathlib.Core.Path.{_≡_, refl, ap}
-use mathlib.Core.List.{[], _∷_, append-nil}
-use Prim.Native.Nat.{ℕ, suc, _+_, _/_, _%_, _≤_, _<_}
+use mathlib.Core.List.{List, [], _∷_, append-nil}
+use Prim.Native.Nat.{ℕ, suc, _+_, _-_, _/_, _%_, _≤_, _<_}
 use native.Mathlib.Omega.{arith}
-use lib.ListN.{length, length-append}
-use Rattle.orders.specs.Tree.{P, C, items}
+use native.Mathlib.Decide.{ℕ-discrete}
+use lib.ListN.{length, getD, length-append}
+use Rattle.orders.specs.Tree.{Forest, nil, leaf, node, append}
 use Rattle.orders.specs.TreeText.{digits, text, more}
 use Rattle.orders.proofs.Digits.{digits-one, digits-step}
 use Rattle.tokens.specs.Tokens.{Judged, j-nil, j-leaf, j-node, tree, encode}
-use Rattle.tokens.specs.Views.{shape-of, leaf-of, first-of, items-of, rest-of}
-use Rattle.scanner.proofs.Language.{more-text}
+use Rattle.tokens.specs.Views.{shape-of, first-of, items-of, rest-of}
+use Rattle.tokens.proofs.Laws.{leaf-even, leaf-number, node-odd, node-size}
+use Rattle.tokens.proofs.Sequences.{tree-append}
+use Rattle.tokens.proofs.Steps.{Here, opened}
 
 -- One digit, and one digit more.
 pub one-digit : (b : ℕ) → b < 10 → length (digits b) ≡ 1
@@ -18,46 +21,61 @@ one-digit b h = ap length (digits-one b h)
 pub more-digits : (b : ℕ) → 10 ≤ b → length (digits b) ≡ suc (length (digits (b / 10)))
 more-digits b h = omega (arith, ap length (digits-step b h), length-append (digits (b / 10)) ((48 + b % 10) ∷ []))
 
-pub leaf-length : (j : Judged) → shape-of j ≡ 1 → length (text (tree (first-of j))) ≡ length (digits (leaf-of j))
-unfolding shape-of leaf-of first-of
-leaf-length j-nil h = absurd (omega arith)
-leaf-length (j-leaf s b j) h = ap length (append-nil (digits b))
-leaf-length (j-node s P i j) h = absurd (omega arith)
-leaf-length (j-node s C i j) h = absurd (omega arith)
+-- The text with a space before each item, by the first token.
+more-append : (f g : Forest) → length (more (append f g)) ≡ length (more f) + length (more g)
+more-append nil g = omega arith
+more-append (leaf b f) g = omega (arith, more-append f g, length-append (digits b) (more (append f g)), length-append (digits b) (more f))
+more-append (node k i f) g = omega (arith, more-append f g, length-append (text i) (41 ∷ more (append f g)), length-append (text i) (41 ∷ more f))
 
-pub node-length : (j : Judged) → 0 < length (encode j) → (shape-of j ≡ 1 → ⊥) → length (text (tree (first-of j))) ≡ 3 + length (text (tree (items-of j)))
-unfolding encode shape-of items-of first-of
-node-length j-nil n h = absurd (omega arith)
-node-length (j-leaf s b j) n h = absurd (h refl)
-node-length (j-node s k i j) n h = omega (arith, length-append (text (tree i)) (41 ∷ []))
+leaf-bytes : (h : Judged) → 0 < length (encode h) → getD (encode h) 0 0 / 8 % 2 ≡ 0
+    → length (more (tree h)) ≡ length (digits (getD (encode h) 0 0 / 16)) + 1 + length (more (tree (opened h)))
+unfolding encode items-of rest-of
+leaf-bytes j-nil ne e = absurd (omega arith)
+leaf-bytes (j-leaf s b j) ne e = rw (leaf-number s b) (omega (arith, length-append (digits b) (more (tree j))))
+leaf-bytes (j-node s k i j) ne e = absurd (omega (arith, node-odd s k (length (encode i))))
 
-pub last-length : (j : Judged) → rest-of j ≡ j-nil → length (text (tree j)) ≡ length (text (tree (first-of j)))
-unfolding first-of rest-of
-last-length j-nil e = refl
-last-length (j-leaf s b j) e = rw e
-last-length (j-node s k i j) e = rw e
-
-some-tokens : (j : Judged) → 0 < length (encode j) → 1 ≤ length (items (tree j))
+inner-bytes : (i : Judged) → 1 + length (text (tree i)) ≡ (1 - length (encode i)) + length (more (tree i))
 unfolding encode
-some-tokens j-nil n = absurd (omega arith)
-some-tokens (j-leaf s b j) n = omega arith
-some-tokens (j-node s k i j) n = omega arith
+inner-bytes j-nil = refl
+inner-bytes (j-leaf s b i) = omega arith
+inner-bytes (j-node s k u i) = omega arith
 
-pub rest-length : (j : Judged) → 0 < length (encode (rest-of j)) → length (text (tree j)) ≡ length (text (tree (first-of j))) + (1 + length (text (tree (rest-of j))))
-unfolding encode first-of rest-of
-rest-length j-nil n = absurd (omega arith)
-rest-length (j-leaf s b j) n =
-    omega (arith, ap length (append-nil (digits b)), length-append (digits b) (more (tree j)), ap length (more-text (tree j) (some-tokens j n)))
-rest-length (j-node s k i j) n =
-    omega (arith, length-append (text (tree i)) (41 ∷ more (tree j)), length-append (text (tree i)) (41 ∷ []), ap length (more-text (tree j) (some-tokens j n)))
+node-bytes : (h : Judged) → 0 < length (encode h) → (getD (encode h) 0 0 / 8 % 2 ≡ 0 → ⊥)
+    → length (more (tree h)) ≡ 3 + (1 - getD (encode h) 0 0 / 32) + length (more (tree (opened h)))
+unfolding encode items-of rest-of
+node-bytes j-nil ne e = absurd (omega arith)
+node-bytes (j-leaf s b j) ne e = absurd (e (leaf-even s b))
+node-bytes (j-node s k i j) ne e =
+    rw (tree-append i j)
+    (omega (
+      arith,
+      node-size s k (length (encode i)),
+      inner-bytes i,
+      more-append (tree i) (tree j),
+      length-append (text (tree i)) (41 ∷ more (tree j)),
+    ))
+
+-- One token more; r is how many bytes stand for it.
+pub bytes-more : {l : List ℕ} {i r : ℕ} {h : Judged} (k : ℕ) (j : Judged) → Here l i h
+    → (getD l i 0 / 8 % 2 ≡ 0 → r ≡ length (digits (getD l i 0 / 16)) + 1) → ((getD l i 0 / 8 % 2 ≡ 0 → ⊥) → r ≡ 3 + (1 - getD l i 0 / 32))
+    → length (more (tree j)) ≡ k + length (more (tree h)) → length (more (tree j)) ≡ k + r + length (more (tree (opened h)))
+bytes-more {l} {i} {r} {h} k j p a b g = go (ℕ-discrete (getD l i 0 / 8 % 2) 0)
+  where
+    t : getD (encode h) 0 0 ≡ getD l i 0
+    t = p .head
+
+    go : Dec (getD l i 0 / 8 % 2 ≡ 0) → length (more (tree j)) ≡ k + r + length (more (tree (opened h)))
+    go (yes e) = omega (arith, g, a e, rw t at (leaf-bytes h (p .some) (rw t e)))
+    go (no e) = omega (arith, g, b e, rw t at (node-bytes h (p .some) (rw t e)))
+
+-- All tokens: the text without the first space.
+pub bytes-all : (j : Judged) {l : List ℕ} → l ≡ encode j → 0 < length l → length (more (tree j)) ≡ suc (length (text (tree j)))
+unfolding encode
+bytes-all j-nil e ne = absurd (omega (arith, ap length e))
+bytes-all (j-leaf s b j) e ne = refl
+bytes-all (j-node s k i j) e ne = refl
 
 -- How many tokens the first item has.
-pub first-some : (j : Judged) → 0 < length (encode j) → 1 ≤ length (encode (first-of j))
-unfolding encode first-of
-first-some j-nil n = absurd (omega arith)
-first-some (j-leaf s b j) n = omega arith
-first-some (j-node s k i j) n = omega arith
-
 pub node-some : (j : Judged) → 0 < length (encode j) → (shape-of j ≡ 1 → ⊥) → length (encode (first-of j)) ≡ suc (length (encode (items-of j)))
 unfolding encode shape-of items-of first-of
 node-some j-nil n h = absurd (omega arith)

@@ -1,13 +1,12 @@
 // The P and C rules of a tree text, on its tokens: the least byte at which one is broken.
 ghost use mathlib.Core.Path.{_≡_};
 ghost use mathlib.Core.Bool.{_&&_};
-ghost use Prim.Native.Nat.{_+_, _*_, _≤_, _<_};
+ghost use Prim.Native.Nat.{_+_, _-_, _*_, _/_, _%_, _≤_, _<_};
 ghost use lib.Dec.{ltb};
 ghost use lib.ListN.{length};
 ghost use Rattle.orders.specs.Tree.{Kind};
 ghost use Rattle.orders.specs.TreeText.{digits, text};
 ghost use Rattle.tokens.specs.Tokens.{Judged, tree, encode, Tokens};
-ghost use Rattle.tokens.specs.Views.{first-of};
 ghost use Rattle.scanner.specs.Rule.{is-p, broken-at};
 
 // How many digits b has.
@@ -29,32 +28,37 @@ fn digit_count(b: u16) -> usize
     5
 }
 
+// How many bytes stand for a token, with the space before its item: a leaf's digits, or a node's letter and brackets. A node's first item has no
+// space before it, so one is taken from a node that has items.
+fn token_length(t: u16) -> usize
+    ensures { λ r. ⌜ (0 < r) × (r ≤ 6) × (t / 8 % 2 ≡ 0 → r ≡ length (digits (t / 16)) + 1)
+        × ((t / 8 % 2 ≡ 0 → ⊥) → r ≡ 3 + (1 - t / 32)) ⌝ }
+{
+    if t / 8 % 2 == 0 {
+        return digit_count(t / 16) + 1;
+    }
+    if t / 32 == 0 {
+        return 4;
+    }
+    3
+}
+
 // How many bytes the text of the items has.
 fn text_length(toks: &[u16]) -> usize
     requires { ⌜ (Tokens (now toks)) × (length (now toks) ≤ 512) ⌝ }
     ensures { λ r. ⌜ (r ≤ 6 * length (now (toks .entry)))
         × ((j : Judged) → now (toks .entry) ≡ encode j → r ≡ length (text (tree j))) ⌝ }
 {
-    if toks.len() == 0 {
+    let mut k = 0;
+    let mut i = 0;
+    while i < toks.len() {
+        k += token_length(toks[i]);
+        i += 1;
+    }
+    if k == 0 {
         return 0;
     }
-    let after = tokens::rest(toks);
-    let k = item_length(toks);
-    if after.len() == 0 {
-        return k;
-    }
-    k + (1 + text_length(after))
-}
-
-// How many bytes the text of the first item has.
-fn item_length(toks: &[u16]) -> usize
-    requires { ⌜ (Tokens (now toks)) × (0 < length (now toks)) × (length (now toks) ≤ 512) ⌝ }
-    ensures { λ r. ⌜ ((j : Judged) → now (toks .entry) ≡ encode j → (r < 6 * length (encode (first-of j))) × (r ≡ length (text (tree (first-of j))))) ⌝ }
-{
-    if tokens::shape(toks) == 1 {
-        return digit_count(tokens::leaf(toks));
-    }
-    3 + text_length(tokens::items(toks))
+    k - 1
 }
 
 // Whether the rule asks that b is not below m, and it is.
