@@ -1,1 +1,1 @@
-pub mod Split
+pub mod Collecting

@@ -11,21 +11,25 @@ fn collect_p(toks: &[u16], order: &mut [u16]) -> usize
     requires { ⌜ Room frontier (now toks) (length (now order)) ⌝ }
     ensures { λ r. ⌜ ((j : Judged) → now (toks .entry) ≡ encode j → Wrote (frontier (tree j)) (now (order .entry)) (now (order .exit)) r) ⌝ }
 {
-    if toks.len() == 0 {
-        return 0;
-    }
-    let s = tokens::shape(toks);
-    if s == 1 {
-        order[0] = tokens::leaf(toks);
-        return 1 + collect_p(tokens::rest(toks), &mut order[1..]);
-    }
     let mut k = 0;
-    if s == 2 {
-        k = collect_p(tokens::items(toks), order);
-    } else {
-        k = collect_c(tokens::items(toks), order);
+    let mut i = 0;
+    while i < toks.len() {
+        let t = toks[i];
+        if t / 8 % 2 == 0 {
+            order[k] = t / 16;
+            k += 1;
+            i += 1;
+            continue;
+        }
+        let inner = tokens::items(&toks[i..]);
+        i += tokens::size(&toks[i..]);
+        if t / 8 % 4 == 3 {
+            k += collect_c(inner, &mut order[k..]);
+            continue;
+        }
+        k += collect_p(inner, &mut order[k..]);
     }
-    k + collect_p(tokens::rest(toks), &mut order[k..])
+    k
 }
 
 // Writes the leaves of a C-node's items, left to right, to the start of order, and says how many.
@@ -33,21 +37,25 @@ fn collect_c(toks: &[u16], order: &mut [u16]) -> usize
     requires { ⌜ Room frontier (now toks) (length (now order)) ⌝ }
     ensures { λ r. ⌜ ((j : Judged) → now (toks .entry) ≡ encode j → Wrote (frontier (tree j)) (now (order .entry)) (now (order .exit)) r) ⌝ }
 {
-    if toks.len() == 0 {
-        return 0;
-    }
-    let s = tokens::shape(toks);
-    if s == 1 {
-        order[0] = tokens::leaf(toks);
-        return 1 + collect_c(tokens::rest(toks), &mut order[1..]);
-    }
     let mut k = 0;
-    if s == 2 {
-        k = collect_p(tokens::items(toks), order);
-    } else {
-        k = collect_c(tokens::items(toks), order);
+    let mut i = 0;
+    while i < toks.len() {
+        let t = toks[i];
+        if t / 8 % 2 == 0 {
+            order[k] = t / 16;
+            k += 1;
+            i += 1;
+            continue;
+        }
+        let inner = tokens::items(&toks[i..]);
+        i += tokens::size(&toks[i..]);
+        if t / 8 % 4 == 1 {
+            k += collect_p(inner, &mut order[k..]);
+            continue;
+        }
+        k += collect_c(inner, &mut order[k..]);
     }
-    k + collect_c(tokens::rest(toks), &mut order[k..])
+    k
 }
 
 // Writes leaf 1 and then the leaves of the tree, left to right, to the start of order, and says how many.

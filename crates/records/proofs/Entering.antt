@@ -12,7 +12,7 @@ use Rattle.tokens.specs.Views.{first-of, rest-of}
 use Rattle.tokens.proofs.Counts.{items-more, nodes-split}
 use Rattle.tokens.proofs.Steps.{Left, Here, here, opened}
 use Rattle.records.specs.Rows.{Placed}
-use Rattle.records.proofs.Writing.{Written, written-start, written-one, written-length}
+use Rattle.tokens.proofs.Writes.{Written, written-start, written-one, written-length}
 use Rattle.records.proofs.Rows.{leaf-here, node-here, leaf-number-here, entries-leaf, entries-node, nodes-leaf}
 
 -- Of the places of j, k were written; those of h are left, their first record being next.

@@ -8,7 +8,7 @@ use Rattle.calls.specs.NodeTable.{rows}
 use Rattle.tokens.specs.Tokens.{Judged, tree, encode, Wrote}
 use Rattle.tokens.specs.Views.{shape-of}
 use Rattle.tokens.proofs.Steps.{opened}
-use Rattle.records.proofs.Writing.{Written, written-start, written-same, written-then}
+use Rattle.tokens.proofs.Writes.{Written, written-start, written-same, written-then}
 use Rattle.records.proofs.Rows.{rows-leaf, Onward, onward-start, onward-leaf, onward-node, here-row, rows-first}
 
 -- Of the rows of j, k numbers were written; those of h are left, their first record being next.

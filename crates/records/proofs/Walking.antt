@@ -13,9 +13,8 @@ use Rattle.calls.specs.NodeTable.{kind-of, spelled-items, spelled}
 use Rattle.tokens.specs.Tokens.{E, plain, leaf-token, node-token, encode}
 use Rattle.tokens.proofs.Laws.{whole, encode-node}
 use Rattle.tokens.proofs.Sequences.{encode-append, plain-append}
-use Rattle.tokens.proofs.Writes.{wrote-head}
 use Rattle.records.specs.Walks.{NodeStands, PlacesStand, Walks}
-use Rattle.records.proofs.Writing.{Written, written-start, written-end, written-same, written-one, written-then}
+use Rattle.tokens.proofs.Writes.{wrote-head, Written, written-start, written-end, written-same, written-one, written-then}
 use Rattle.records.proofs.Standing.{leaf-head, node-head, node-tail}
 
 -- A part that goes to the end.

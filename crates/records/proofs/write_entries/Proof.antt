@@ -4,7 +4,7 @@ use native.Mathlib.Omega.{arith}
 use lib.ListN.{length, length-set}
 use Rattle.tokens.proofs.Steps.{Left, from-start, part-left, here, at-last, next-item, next-token}
 use Rattle.records.proofs.Rows.{first-some}
-use Rattle.records.proofs.Writing.{written-end}
+use Rattle.tokens.proofs.Writes.{written-end}
 use Rattle.records.proofs.Entering.{Entered, entered-start, entered-leaf, entered-node, entered-room, entered-after}
 use Rattle.records.proofs.write_entries.Statement.{statement}
 use Rattle.records.proofs.write_entries.Tie as tie

@@ -3,7 +3,7 @@ use Prim.Native.Nat.{_+_, _-_, _*_, _≤_}
 use native.Mathlib.Omega.{arith}
 use lib.ListN.{length}
 use Rattle.tokens.proofs.Steps.{Left, from-start, part-left, here, at-last, next-token}
-use Rattle.records.proofs.Writing.{written-end}
+use Rattle.tokens.proofs.Writes.{written-end}
 use Rattle.records.proofs.Rows.{shape-some, here-long, next-room, next-items}
 use Rattle.records.proofs.Rowing.{Rowing, rowing-start, rowing-leaf, rowing-node}
 use Rattle.records.proofs.write_rows.Statement.{statement}
