@@ -1,6 +1,6 @@
 // The conflict call: which groups of the book are impossible together with a new one, none of them needlessly.
 ghost use mathlib.Core.Path.{_≡_};
-ghost use mathlib.Core.List.{List, [], _∷_};
+ghost use mathlib.Core.List.{List};
 ghost use Prim.Native.Nat.{ℕ, _+_, _≤_};
 ghost use lib.ListN.{length, take};
 ghost use Rattle.orders.specs.Lists.{range};

@@ -2,7 +2,7 @@
 -- else those it names are impossible with the new one, and without any one of them they are possible.
 use mathlib.Core.Path.{_∙_, _≡_, ap, ap₂, refl, subst, sym}
 use mathlib.Core.Bool.{Bool, cond, false, true, true≢false}
-use mathlib.Core.List.{List, [], _++_, _∷_, append-assoc, append-nil}
+use mathlib.Core.List.{List, [], _++_, _∷_, append-assoc}
 use Prim.Native.Nat.{_+_, _<_, _≤_, suc, ℕ}
 use native.Mathlib.Omega.{arith}
 use borrow.Author.Tests.{eq-eqb, ne-eqb}
@@ -13,7 +13,7 @@ use Rattle.orders.specs.Join.{side}
 use Rattle.orders.specs.Conflict.{possible?, leave-out, conflict-list, named, Numbers, Demand-3}
 use Rattle.orders.proofs.ListLaws.{all-append, all-left, all-right, all-map, cons-head, cons-tail}
 use Rattle.orders.proofs.Perm.{perm-insert, perm-skip, pick-middle}
-use Rattle.orders.proofs.Members.{NonEmpty, all-in, elem-in, false-if}
+use Rattle.orders.proofs.Members.{NonEmpty, all-in, elem-in}
 use Rattle.orders.proofs.Contiguous.{Early, sided-before, sided-last, early-con}
 use Rattle.orders.proofs.CircleAndLine.{consecutive-side}
 use Rattle.orders.proofs.Decide.{possible-decides}
@@ -146,41 +146,3 @@ conflict-demand-3 n book new = go (possible? n (new ∷ book)) refl
           smallest = s .smallest;
           numbers = subst (λ m. Numbers 1 m (leave-out n new [] 1 book)) (omega arith) (s .rise);
         }
-
--- How the rule goes on. The first restriction without which those after it are possible is kept, and all before it are left out.
-module _ (n : ℕ) (new : Restriction) (kept : List Restriction) where
-  choice : (k : ℕ) (G : Restriction) (rest : List Restriction) → Bool → List ℕ
-  choice k G rest b = elim b [ true ↦ k ∷ leave-out n new (kept ++ (G ∷ [])) (suc k) rest | false ↦ leave-out n new kept (suc k) rest ]
-
-  leave-out-keeps : (k : ℕ) (G : Restriction) (rest : List Restriction) → possible? n (new ∷ (kept ++ rest)) ≡ true
-      → leave-out n new kept k (G ∷ rest) ≡ k ∷ leave-out n new (kept ++ (G ∷ [])) (suc k) rest
-  unfolding leave-out choice
-  leave-out-keeps k G rest e = ap (choice k G rest) e
-
-  leave-out-leaves : (k : ℕ) (G : Restriction) (rest : List Restriction) → possible? n (new ∷ (kept ++ rest)) ≡ false
-      → leave-out n new kept k (G ∷ rest) ≡ leave-out n new kept (suc k) rest
-  unfolding leave-out choice
-  leave-out-leaves k G rest e = ap (choice k G rest) e
-
-  impossible-more : (Hs Gs : List Restriction) → ((ord : List ℕ) → AllConsecutive Hs ord → AllConsecutive Gs ord)
-      → (Possible n (new ∷ (kept ++ Gs)) → ⊥) → possible? n (new ∷ (kept ++ Hs)) ≡ false
-  impossible-more Hs Gs h u =
-      false-if (possible? n (new ∷ (kept ++ Hs))) (λ e. u (fewer n (new ∷ (kept ++ Hs)) (new ∷ (kept ++ Gs))
-      (λ ord w. (w .0, all-append _ kept Gs (all-left _ kept Hs (w .1)) (h ord (all-right _ kept Hs (w .1)))))
-      (possible-decides n (new ∷ (kept ++ Hs)) .0 e)))
-
-  pub leave-out-next : (k j : ℕ) (out : List Restriction) (G : Restriction) (rest : List Restriction) → j ≡ k + length out
-      → (Possible n (new ∷ (kept ++ (G ∷ rest))) → ⊥) → Possible n (new ∷ (kept ++ rest))
-      → leave-out n new kept k (out ++ (G ∷ rest)) ≡ j ∷ leave-out n new (kept ++ (G ∷ [])) (suc j) rest
-  leave-out-next k j [] G rest e u p = let q : j ≡ k = omega arith in rw q (leave-out-keeps k G rest (possible-decides n (new ∷ (kept ++ rest)) .1 p))
-  leave-out-next k j (H ∷ out) G rest e u p =
-      leave-out-leaves k H (out ++ (G ∷ rest)) (impossible-more (out ++ (G ∷ rest)) (G ∷ rest) (λ ord w. all-right _ out (G ∷ rest) w) u)
-      ∙ leave-out-next (suc k) j out G rest (omega arith) u p
-
-  -- Those kept are impossible already: no other is.
-  pub leave-out-none : (k : ℕ) (rest : List Restriction) → (Possible n (new ∷ kept) → ⊥) → leave-out n new kept k rest ≡ []
-  unfolding leave-out
-  leave-out-none k [] u = refl
-  leave-out-none k (G ∷ rest) u =
-      leave-out-leaves k G rest (impossible-more rest [] (λ ord w. tt) (λ p. u (subst (λ l. Possible n (new ∷ l)) (append-nil kept) p)))
-      ∙ leave-out-none (suc k) rest u

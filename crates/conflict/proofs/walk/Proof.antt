@@ -3,8 +3,7 @@ use mathlib.Core.List.{List}
 use Prim.Native.Nat.{_-_, _≤_}
 use native.Mathlib.Omega.{arith}
 use borrow.Author.Needs.{needs}
-use lib.ListN.{length, take, drop, getD}
-use lib.Seq.{length-take-le}
+use lib.ListN.{length, take, getD}
 use Rattle.orders.specs.CircularOrder.{Restriction}
 use Rattle.orders.specs.Tree.{Forest}
 use Rattle.tokens.proofs.Writes.{read-back, wrote-most}
