@@ -28,12 +28,6 @@ starts-not xs ys l e = starts-append xs ys l ∙ rw e
 pub starts-then : (xs ys l : List ℕ) → starts xs l ≡ true → starts (xs ++ ys) l ≡ starts ys (drop (length xs) l)
 starts-then xs ys l e = starts-append xs ys l ∙ rw e
 
--- The first part of a slice, compared with as many numbers.
-pub starts-part : (xs l : List ℕ) {m : ℕ} → length xs ≡ m → same (take (m - 0) (drop 0 l)) xs ≡ starts xs l
-starts-part xs l {m} e =
-    let n : m - 0 ≡ length xs = omega arith in
-    rw n
-
 -- A list of m numbers that begins with xs, and is zero after it.
 pub starts-padded : (m : ℕ) (xs l : List ℕ) → length xs ≤ m
     → same (take m l) (padded m xs) ≡ (starts xs l && starts (replicate (m - length xs) 0) (drop (length xs) l))

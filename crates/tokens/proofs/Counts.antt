@@ -1,15 +1,15 @@
 -- Leaves, nodes and items, counted and found by tokens and by views.
 use mathlib.Core.Path.{_≡_, refl}
-use mathlib.Core.List.{List, [], _∷_, _++_, append-nil}
+use mathlib.Core.List.{List, [], _∷_, _++_}
 use Prim.Native.Nat.{ℕ, _+_, _/_, _%_, _≤_, _<_}
 use native.Mathlib.Omega.{arith}
 use native.Mathlib.Numerals.{add-one}
 use lib.ListN.{length, drop, getD, length-append}
 use lib.Seq.{drop-cons}
-use Rattle.orders.specs.Tree.{Kind, P, C, Forest, nil, leaf, node, append, rev, items, frontier}
+use Rattle.orders.specs.Tree.{Kind, Forest, nil, leaf, node, append, rev, items, frontier}
 use Rattle.orders.specs.Form.{first, nodes}
 use Rattle.tokens.specs.Tokens.{Judged, j-nil, j-leaf, j-node, tree, encode}
-use Rattle.tokens.specs.Views.{shape-of, leaf-of, first-of, items-of, rest-of}
+use Rattle.tokens.specs.Views.{first-of, rest-of}
 use Rattle.tokens.proofs.Laws.{leaf-even, node-odd}
 
 -- How many tokens are those of nodes.
@@ -63,26 +63,7 @@ items-more j-nil h = absurd (omega arith)
 items-more (j-leaf s b j) h = omega arith
 items-more (j-node s k i j) h = omega arith
 
--- The leaves of the first item, then those of the others.
-pub frontier-split : (j : Judged) → frontier (tree j) ≡ frontier (tree (first-of j)) ++ frontier (tree (rest-of j))
-unfolding first-of rest-of
-frontier-split j-nil = refl
-frontier-split (j-leaf s b j) = refl
-frontier-split (j-node s k i j) = rw append-nil
-
-pub frontier-leaf : (j : Judged) → shape-of j ≡ 1 → frontier (tree (first-of j)) ≡ leaf-of j ∷ []
-unfolding first-of shape-of leaf-of
-frontier-leaf j-nil h = absurd (omega arith)
-frontier-leaf (j-leaf s b j) h = refl
-frontier-leaf (j-node s P i j) h = absurd (omega arith)
-frontier-leaf (j-node s C i j) h = absurd (omega arith)
-
-pub frontier-node : (j : Judged) → (shape-of j ≡ 1 → ⊥) → frontier (tree (first-of j)) ≡ frontier (tree (items-of j))
-unfolding first-of shape-of items-of
-frontier-node j-nil h = refl
-frontier-node (j-leaf s b j) h = absurd (h refl)
-frontier-node (j-node s k i j) h = append-nil (frontier (tree i))
-
+-- The nodes of the first item, and those of the others.
 pub nodes-split : (j : Judged) → nodes (tree j) ≡ nodes (tree (first-of j)) + nodes (tree (rest-of j))
 unfolding first-of rest-of
 nodes-split j-nil = refl
