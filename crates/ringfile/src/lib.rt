@@ -86,17 +86,30 @@ fn word_len(x: &[u8]) -> usize
 fn is_among(x: &[u8], w: &[u8]) -> bool
     ensures { λ r. ⌜ ((ns : List (List ℕ)) → All Word ns → now (x .entry) ≡ spaced ns → r ≡ among ns (now (w .entry))) ⌝ }
 {
-    if x.len() == 0 {
-        return false;
+    let m = w.len();
+    let mut j = 0;
+    let mut i = 0;
+    while i < x.len() {
+        let b = x[i];
+        i += 1;
+        if b == 32 {
+            if j == m {
+                return true;
+            }
+            j = 0;
+            continue;
+        }
+        if j >= m {
+            j = m + 1;
+            continue;
+        }
+        if w[j] == b {
+            j += 1;
+            continue;
+        }
+        j = m + 1;
     }
-    let k = word_len(x);
-    if k >= x.len() {
-        return false;
-    }
-    if equal(w, &x[0..k]) {
-        return true;
-    }
-    is_among(&x[k + 1..], w)
+    false
 }
 
 // How many of the words of x, a space after each, begin with t.
