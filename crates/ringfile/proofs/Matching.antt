@@ -2,13 +2,13 @@
 use mathlib.Core.Path.{_≡_, refl, sym, _∙_, ap}
 use mathlib.Core.Bool.{Bool, true, false, cond, _&&_}
 use mathlib.Core.List.{List, [], _∷_, _++_}
-use Prim.Native.Nat.{ℕ, suc, _+_, _≤_, _<_}
+use Prim.Native.Nat.{ℕ, zero, suc, _+_, _≤_, _<_}
 use native.Mathlib.Omega.{arith}
 use native.Mathlib.Numerals.{add-one}
 use native.Mathlib.Decide.{ℕ-discrete}
 use lib.Dec.{eqb, ltb}
 use lib.ListN.{length, take, drop, getD, drop-of-length-le}
-use lib.Seq.{drop-cons}
+use lib.Seq.{drop-cons, drop-length}
 use borrow.Author.Tests.{eq-eqb, ne-eqb, lt-ltb, le-ltb}
 use Rattle.orders.specs.Lists.{All, same, filter}
 use Rattle.ringfile.specs.Words.{Word, spaced, among, begins}
@@ -43,8 +43,9 @@ module _ (past : ℕ → ℕ) (w : List ℕ) where
     over-words test g (v ∷ ns) h = over-word v (spaced ns) 0 (h .0) ∙ rw (g v, over-words test g ns (h .1))
 
     -- One byte more.
-    pub at-space : (x : List ℕ) (i j : ℕ) → i < length x → getD x i 0 ≡ 32 → over j (drop i x) ≡ tell (eqb j (length w)) (over 0 (drop (i + 1) x))
-    at-space x i j h e = rw (add-one, drop-cons x i 0 h, e)
+    pub at-space : (x : List ℕ) (i j : ℕ) {c : Bool} → i < length x → getD x i 0 ≡ 32 → eqb j (length w) ≡ c
+        → over j (drop i x) ≡ tell c (over 0 (drop (i + 1) x))
+    at-space x i j h e t = rw (add-one, drop-cons x i 0 h, e, t)
 
     pub at-letter : (x : List ℕ) (i j : ℕ) {k : ℕ} → i < length x → (getD x i 0 ≡ 32 → ⊥) → matched j (getD x i 0) ≡ k
         → over j (drop i x) ≡ over k (drop (i + 1) x)
@@ -105,3 +106,41 @@ seek-words w x ns h e = ap (λ l. seek w 0 l) e ∙ over-words (all-of w) w or-e
     go : (ms : List (List ℕ)) → told (all-of w) w or-else false (same w) ms ≡ among ms w
     go [] = refl
     go (v ∷ ms) = rw (go ms)
+
+-- The word begins with t.
+abbrev pub at-least : ℕ → ℕ
+at-least j = j
+
+stays : (t v : List ℕ) → after at-least t (length t) v ≡ length t
+stays t [] = refl
+stays t (b ∷ v) = rw (matched-past at-least t (length t) b (omega arith)) (stays t v)
+
+is-begun : (t v : List ℕ) (j m : ℕ) → j + m ≡ length t → eqb (after at-least t j v) (length t) ≡ same (take m v) (drop j t)
+is-begun t v j zero h =
+    let e : j ≡ length t = omega (arith, h) in
+    rw (e, stays t v, drop-length t) (eq-eqb (length t) (length t) refl)
+is-begun t [] j (suc m) h = rw (drop-cons t j 0 (omega (arith, h))) (ne-eqb j (length t) (λ e. omega (arith, e, h)))
+is-begun t (b ∷ v) j (suc m) h = go (omega (arith, h)) (is-begun t v (j + 1) m (omega (arith, h))) (ℕ-discrete (getD t j 0) b)
+  where
+    go : j < length t → eqb (after at-least t (j + 1) v) (length t) ≡ same (take m v) (drop (j + 1) t)
+        → Dec (getD t j 0 ≡ b) → eqb (after at-least t j (b ∷ v)) (length t) ≡ same (take (suc m) (b ∷ v)) (drop j t)
+    go l ih (yes e) = rw (matched-on at-least t j b l e, drop-cons t j 0 l, eq-eqb b (getD t j 0) (sym e)) (ih ∙ ap (λ k. same (take m v) (drop k t)) (add-one j))
+    go l ih (no d) = rw (matched-not at-least t j b l d, drop-cons t j 0 l, ne-eqb b (getD t j 0) (λ e. d (sym e))) (lost-test at-least t refl v)
+
+-- How many words begin with t.
+abbrev pub one-more : Bool → ℕ → ℕ
+one-more c r = cond c (1 + r) r
+
+abbrev pub tally : List ℕ → ℕ → List ℕ → ℕ
+tally t j x = over at-least t one-more 0 j x
+
+pub tally-words : (t : List ℕ) (x : List ℕ) (ns : List (List ℕ)) → All Word ns → x ≡ spaced ns → tally t 0 x ≡ length (filter (begins t) ns)
+tally-words t x ns h e = ap (λ l. tally t 0 l) e ∙ over-words at-least t one-more 0 (begins t) (λ v. is-begun t v 0 (length t) (omega arith)) ns h ∙ go ns
+  where
+    more : (c : Bool) (v : List ℕ) (ms : List (List ℕ)) → cond c (1 + length ms) (length ms) ≡ length (cond c (v ∷ ms) ms)
+    more true v ms = omega arith
+    more false v ms = refl
+
+    go : (ms : List (List ℕ)) → told at-least t one-more 0 (begins t) ms ≡ length (filter (begins t) ms)
+    go [] = refl
+    go (v ∷ ms) = rw (go ms) (more (begins t v) v (filter (begins t) ms))

@@ -3,7 +3,7 @@ ghost use mathlib.Core.Path.{_≡_};
 ghost use mathlib.Core.List.{List, [], _++_};
 ghost use Prim.Native.Nat.{ℕ, _+_, _-_, _≤_, _<_};
 ghost use lib.ListN.{length, take, getD};
-ghost use Rattle.orders.specs.Lists.{All, Distinct, elem, same, filter};
+ghost use Rattle.orders.specs.Lists.{All, Distinct, elem, filter};
 ghost use Rattle.tokens.specs.Tokens.{Wrote};
 ghost use Rattle.ringfile.specs.RingFile.{alphabet, Name, Value, off, in-group, line, file-bytes, place-of, NameAt, leaves-on, Rules, Says};
 ghost use Rattle.ringfile.specs.Words.{word-length, word-end, Word, spaced, among, begins, leaves-after};
@@ -47,25 +47,6 @@ fn letter(b: u8) -> bool
         97..=122 => true,
         _ => false,
     }
-}
-
-// Whether a and b hold the same bytes.
-fn equal(a: &[u8], b: &[u8]) -> bool
-    ensures { λ r. ⌜ r ≡ same (now (a .entry)) (now (b .entry)) ⌝ }
-{
-    if a.len() == 0 {
-        if b.len() == 0 {
-            return true;
-        }
-        return false;
-    }
-    if b.len() == 0 {
-        return false;
-    }
-    if a[0] != b[0] {
-        return false;
-    }
-    equal(&a[1..], &b[1..])
 }
 
 // How many bytes stand before the first space.
@@ -117,21 +98,30 @@ fn begin_with(x: &[u8], t: &[u8]) -> usize
     ensures { λ r. ⌜ ((ns : List (List ℕ)) → All Word ns → now (x .entry) ≡ spaced ns → r ≡ length (filter (begins (now (t .entry))) ns)) ⌝ }
     ensures { λ r. ⌜ r ≤ length (now (x .entry)) ⌝ }
 {
-    if x.len() == 0 {
-        return 0;
-    }
-    let k = word_len(x);
-    if k >= x.len() {
-        return 0;
-    }
     let m = t.len();
-    if k < m {
-        return begin_with(&x[k + 1..], t);
+    let mut count = 0;
+    let mut j = 0;
+    let mut i = 0;
+    while i < x.len() {
+        let b = x[i];
+        i += 1;
+        if b == 32 {
+            if j == m {
+                count += 1;
+            }
+            j = 0;
+            continue;
+        }
+        if j >= m {
+            continue;
+        }
+        if t[j] == b {
+            j += 1;
+            continue;
+        }
+        j = m + 1;
     }
-    if equal(&x[0..m], t) {
-        return 1 + begin_with(&x[k + 1..], t);
-    }
-    begin_with(&x[k + 1..], t)
+    count
 }
 
 // Whether the begun name t can become a new name. x: the earlier names, a space after each.

@@ -26,13 +26,13 @@ add-i : tie.Need-add-i Inv-loop μ-loop
 add-i c = omega arith
 
 returns : tie.Need-returns Inv-loop μ-loop
-returns c = λ ns h e. let x = c .before .before .before .before .before .args .x .now in let w = c .before .before .before .before .before .args .w .now in sym (sym (seek-words w x ns h e) ∙ c .before .before .before .before .loop .inv .1 ∙ at-space (all-of w) w or-else false x (c .before .before .before .before .loop .i) (c .before .before .before .before .loop .j) (omega arith) (c .before .if1 .taken) ∙ rw (eq-eqb (c .before .before .before .before .loop .j) (length w) (c .if2 .taken)))
+returns c = λ ns h e. let x = c .before .before .before .before .before .args .x .now in let w = c .before .before .before .before .before .args .w .now in sym (sym (seek-words w x ns h e) ∙ c .before .before .before .before .loop .inv .1 ∙ at-space (all-of w) w or-else false x (c .before .before .before .before .loop .i) (c .before .before .before .before .loop .j) (omega arith) (c .before .if1 .taken) (eq-eqb (c .before .before .before .before .loop .j) (length w) (c .if2 .taken)))
 
 loop-less : tie.Need-loop-less Inv-loop μ-loop
 loop-less c = omega arith
 
 loop-again : tie.Need-loop-again Inv-loop μ-loop
-loop-again c = (omega arith, let x = c .before .before .before .before .before .args .x .now in let w = c .before .before .before .before .before .args .w .now in c .before .before .before .before .loop .inv .1 ∙ at-space (all-of w) w or-else false x (c .before .before .before .before .loop .i) (c .before .before .before .before .loop .j) (omega arith) (c .before .if1 .taken) ∙ rw (ne-eqb (c .before .before .before .before .loop .j) (length w) (c .if2 .left)))
+loop-again c = (omega arith, let x = c .before .before .before .before .before .args .x .now in let w = c .before .before .before .before .before .args .w .now in c .before .before .before .before .loop .inv .1 ∙ at-space (all-of w) w or-else false x (c .before .before .before .before .loop .i) (c .before .before .before .before .loop .j) (omega arith) (c .before .if1 .taken) (ne-eqb (c .before .before .before .before .loop .j) (length w) (c .if2 .left)))
 
 add-j : tie.Need-add-j Inv-loop μ-loop
 add-j c = omega arith
