@@ -6,7 +6,7 @@ ghost use lib.ListN.{length, take, getD};
 ghost use Rattle.orders.specs.Lists.{All, Distinct, elem, filter};
 ghost use Rattle.tokens.specs.Tokens.{Wrote};
 ghost use Rattle.ringfile.specs.RingFile.{alphabet, Name, Value, off, in-group, line, file-bytes, place-of, NameAt, leaves-on, Rules, Says};
-ghost use Rattle.ringfile.specs.Words.{word-length, word-end, Word, spaced, among, begins, leaves-after};
+ghost use Rattle.ringfile.specs.Words.{word-length, word-end, Word, spaced, among, begins};
 ghost use Rattle.ringfile.specs.Scanner.{room, is-new, naming, due, got, step, Naming};
 ghost use Rattle.ringfile.specs.Cursors.{Stands, Stepped, Advances, Within};
 use calls::Refusal;
@@ -386,24 +386,6 @@ pub fn value_of(file: &[u8], names: usize, head: usize, l: usize, i: usize) -> b
     false
 }
 
-// Writes the leaves from number i + 1 on that have the value `1` in value line l, rising, to the start of the list, and says how many.
-fn group_from(file: &[u8], names: usize, head: usize, l: usize, i: usize, list: &mut [u16]) -> usize
-    requires { ⌜ (names ≤ 256) × (names ≤ i + length (now list)) ⌝ }
-    ensures { λ r. ⌜ ((ns : List (List ℕ)) (vss : List (List Value)) → Rules ns vss → now (file .entry) ≡ file-bytes ns vss
-        → length (now (file .entry)) ≤ 65536 → names ≡ length ns → head ≡ length (line ns) → l < length vss
-        → Wrote (leaves-after i (getD vss l [])) (now (list .entry)) (now (list .exit)) r) ⌝ }
-    ensures { λ r. ⌜ r ≤ 256 - i ⌝ }
-{
-    if i >= names {
-        return 0;
-    }
-    if !value_of(file, names, head, l, i) {
-        return group_from(file, names, head, l, i + 1, list);
-    }
-    list[0] = (i + 1) as u16;
-    1 + group_from(file, names, head, l, i + 1, &mut list[1..])
-}
-
 // Writes the group of value line l, from 0, of an accepted file to the start of the list: its leaves, rising. Returns how many. The list has
 // a place for each leaf of the ring; with fewer places, nothing is written. Of other numbers the answer means nothing.
 pub fn group_of(file: &[u8], names: usize, head: usize, l: usize, list: &mut [u16]) -> usize
@@ -419,5 +401,25 @@ pub fn group_of(file: &[u8], names: usize, head: usize, l: usize, list: &mut [u1
     if list.len() < names {
         return 0;
     }
-    group_from(file, names, head, l, 0, list)
+    if 65536 < head {
+        return 0;
+    }
+    if 65536 < l {
+        return 0;
+    }
+    let at = head + l * (2 * names);
+    if file.len() + 1 < at + 2 * names {
+        return 0;
+    }
+    let mut k = 0;
+    let mut leaf = 0;
+    while leaf < names {
+        let value = file[at + 2 * leaf];
+        leaf += 1;
+        if value == 49 {
+            list[k] = leaf as u16;
+            k += 1;
+        }
+    }
+    k
 }
