@@ -85,6 +85,9 @@ module _ (x : List ℕ) (ns : List (List ℕ)) (vss : List (List Value)) (l i n 
   pub value-there : eqb (getD x (h + (l * (2 * n) + 2 * i)) 0) 49 ≡ in-group (getD (getD vss l []) i off)
   value-there = ap (λ k. eqb k 49) byte-there ∙ mark-is (getD (getD vss l []) i off)
 
+  pub value-next : eqb (getD x (h + l * (2 * n) + 2 * i) 0) 49 ≡ in-group (getD (getD vss l []) i off)
+  value-next = let e : h + l * (2 * n) + 2 * i ≡ h + (l * (2 * n) + 2 * i) = omega arith in ap (λ k. eqb (getD x k 0) 49) e ∙ value-there
+
   pub is-inside : {A : Type 0} → length x ≤ h + (l * (2 * n) + 2 * i) → A
   is-inside g = go (getD (getD vss l []) i off) (sym (List·getD-eq-default x 0 g) ∙ byte-there)
     where

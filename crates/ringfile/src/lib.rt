@@ -3,10 +3,10 @@ ghost use mathlib.Core.Path.{_≡_};
 ghost use mathlib.Core.List.{List, [], _++_};
 ghost use Prim.Native.Nat.{ℕ, _+_, _-_, _≤_, _<_};
 ghost use lib.ListN.{length, take, getD};
-ghost use Rattle.orders.specs.Lists.{All, Distinct, elem, same, filter};
+ghost use Rattle.orders.specs.Lists.{All, Distinct, elem, filter};
 ghost use Rattle.tokens.specs.Tokens.{Wrote};
 ghost use Rattle.ringfile.specs.RingFile.{alphabet, Name, Value, off, in-group, line, file-bytes, place-of, NameAt, leaves-on, Rules, Says};
-ghost use Rattle.ringfile.specs.Words.{word-length, word-end, Word, spaced, among, begins, leaves-after};
+ghost use Rattle.ringfile.specs.Words.{word-length, word-end, Word, spaced, among, begins};
 ghost use Rattle.ringfile.specs.Scanner.{room, is-new, naming, due, got, step, Naming};
 ghost use Rattle.ringfile.specs.Cursors.{Stands, Stepped, Advances, Within};
 use calls::Refusal;
@@ -49,25 +49,6 @@ fn letter(b: u8) -> bool
     }
 }
 
-// Whether a and b hold the same bytes.
-fn equal(a: &[u8], b: &[u8]) -> bool
-    ensures { λ r. ⌜ r ≡ same (now (a .entry)) (now (b .entry)) ⌝ }
-{
-    if a.len() == 0 {
-        if b.len() == 0 {
-            return true;
-        }
-        return false;
-    }
-    if b.len() == 0 {
-        return false;
-    }
-    if a[0] != b[0] {
-        return false;
-    }
-    equal(&a[1..], &b[1..])
-}
-
 // How many bytes stand before the first space.
 fn word_len(x: &[u8]) -> usize
     ensures { λ r. ⌜ r ≡ word-length (now (x .entry)) ⌝ }
@@ -86,17 +67,30 @@ fn word_len(x: &[u8]) -> usize
 fn is_among(x: &[u8], w: &[u8]) -> bool
     ensures { λ r. ⌜ ((ns : List (List ℕ)) → All Word ns → now (x .entry) ≡ spaced ns → r ≡ among ns (now (w .entry))) ⌝ }
 {
-    if x.len() == 0 {
-        return false;
+    let m = w.len();
+    let mut j = 0;
+    let mut i = 0;
+    while i < x.len() {
+        let b = x[i];
+        i += 1;
+        if b == 32 {
+            if j == m {
+                return true;
+            }
+            j = 0;
+            continue;
+        }
+        if j >= m {
+            j = m + 1;
+            continue;
+        }
+        if w[j] == b {
+            j += 1;
+            continue;
+        }
+        j = m + 1;
     }
-    let k = word_len(x);
-    if k >= x.len() {
-        return false;
-    }
-    if equal(w, &x[0..k]) {
-        return true;
-    }
-    is_among(&x[k + 1..], w)
+    false
 }
 
 // How many of the words of x, a space after each, begin with t.
@@ -104,21 +98,30 @@ fn begin_with(x: &[u8], t: &[u8]) -> usize
     ensures { λ r. ⌜ ((ns : List (List ℕ)) → All Word ns → now (x .entry) ≡ spaced ns → r ≡ length (filter (begins (now (t .entry))) ns)) ⌝ }
     ensures { λ r. ⌜ r ≤ length (now (x .entry)) ⌝ }
 {
-    if x.len() == 0 {
-        return 0;
-    }
-    let k = word_len(x);
-    if k >= x.len() {
-        return 0;
-    }
     let m = t.len();
-    if k < m {
-        return begin_with(&x[k + 1..], t);
+    let mut count = 0;
+    let mut j = 0;
+    let mut i = 0;
+    while i < x.len() {
+        let b = x[i];
+        i += 1;
+        if b == 32 {
+            if j == m {
+                count += 1;
+            }
+            j = 0;
+            continue;
+        }
+        if j >= m {
+            continue;
+        }
+        if t[j] == b {
+            j += 1;
+            continue;
+        }
+        j = m + 1;
     }
-    if equal(&x[0..m], t) {
-        return 1 + begin_with(&x[k + 1..], t);
-    }
-    begin_with(&x[k + 1..], t)
+    count
 }
 
 // Whether the begun name t can become a new name. x: the earlier names, a space after each.
@@ -383,24 +386,6 @@ pub fn value_of(file: &[u8], names: usize, head: usize, l: usize, i: usize) -> b
     false
 }
 
-// Writes the leaves from number i + 1 on that have the value `1` in value line l, rising, to the start of the list, and says how many.
-fn group_from(file: &[u8], names: usize, head: usize, l: usize, i: usize, list: &mut [u16]) -> usize
-    requires { ⌜ (names ≤ 256) × (names ≤ i + length (now list)) ⌝ }
-    ensures { λ r. ⌜ ((ns : List (List ℕ)) (vss : List (List Value)) → Rules ns vss → now (file .entry) ≡ file-bytes ns vss
-        → length (now (file .entry)) ≤ 65536 → names ≡ length ns → head ≡ length (line ns) → l < length vss
-        → Wrote (leaves-after i (getD vss l [])) (now (list .entry)) (now (list .exit)) r) ⌝ }
-    ensures { λ r. ⌜ r ≤ 256 - i ⌝ }
-{
-    if i >= names {
-        return 0;
-    }
-    if !value_of(file, names, head, l, i) {
-        return group_from(file, names, head, l, i + 1, list);
-    }
-    list[0] = (i + 1) as u16;
-    1 + group_from(file, names, head, l, i + 1, &mut list[1..])
-}
-
 // Writes the group of value line l, from 0, of an accepted file to the start of the list: its leaves, rising. Returns how many. The list has
 // a place for each leaf of the ring; with fewer places, nothing is written. Of other numbers the answer means nothing.
 pub fn group_of(file: &[u8], names: usize, head: usize, l: usize, list: &mut [u16]) -> usize
@@ -416,5 +401,25 @@ pub fn group_of(file: &[u8], names: usize, head: usize, l: usize, list: &mut [u1
     if list.len() < names {
         return 0;
     }
-    group_from(file, names, head, l, 0, list)
+    if 65536 < head {
+        return 0;
+    }
+    if 65536 < l {
+        return 0;
+    }
+    let at = head + l * (2 * names);
+    if file.len() + 1 < at + 2 * names {
+        return 0;
+    }
+    let mut k = 0;
+    let mut leaf = 0;
+    while leaf < names {
+        let value = file[at + 2 * leaf];
+        leaf += 1;
+        if value == 49 {
+            list[k] = leaf as u16;
+            k += 1;
+        }
+    }
+    k
 }
