@@ -16,12 +16,7 @@ use lent::Node;
 
 // Opens a ring of n leaves: `ring::open`. The value is the count of groups, 0.
 #[no_mangle]
-pub extern "C" fn ring_open(
-    n: usize,
-    nodes: &mut [Node],
-    book: &mut [u64],
-    value: &mut usize,
-) -> u8
+pub extern "C" fn ring_open(n: usize, nodes: &mut [Node], book: &mut [u64], value: &mut usize) -> u8
     ensures { λ r. ⌜ ((ring (answer-of r (now (value .exit))) (node-rows (now (nodes .exit))) (now (book .exit))
         ≡ open-call n (length (now (nodes .entry))) (node-rows (now (nodes .entry))) (now (book .entry)))
         × Left (answer-of r (now (value .exit))) (now (nodes .entry)) (now (nodes .exit)))
@@ -74,12 +69,7 @@ pub extern "C" fn ring_trial(
 
 // Writes the standard order to the first n places of order: `ring::order`. The value is n.
 #[no_mangle]
-pub extern "C" fn ring_order(
-    n: usize,
-    nodes: &[Node],
-    order: &mut [u16],
-    value: &mut usize,
-) -> u8
+pub extern "C" fn ring_order(n: usize, nodes: &[Node], order: &mut [u16], value: &mut usize) -> u8
     ensures { λ r. ⌜ ((filled-as (answer-of r (now (value .exit))) (now (order .exit))
         ≡ order-call n (length (now (nodes .entry))) (node-rows (now (nodes .entry))) (now (order .entry)))
         × ((t : Forest) → LentTree n (length (now (nodes .entry))) (node-rows (now (nodes .entry))) t → n ≤ length (now (order .entry))
@@ -110,12 +100,7 @@ pub extern "C" fn ring_aim(
 
 // Writes the tree text to the first 2,048 bytes, zeros after it: `ring::write`. The value is its length.
 #[no_mangle]
-pub extern "C" fn ring_write(
-    n: usize,
-    nodes: &[Node],
-    bytes: &mut [u8],
-    value: &mut usize,
-) -> u8
+pub extern "C" fn ring_write(n: usize, nodes: &[Node], bytes: &mut [u8], value: &mut usize) -> u8
     ensures { λ r. ⌜ (filled-as (answer-of r (now (value .exit))) (now (bytes .exit))
         ≡ write-call n (length (now (nodes .entry))) (node-rows (now (nodes .entry))) (now (bytes .entry)))
         × Coded r (now (value .exit)) ⌝ }

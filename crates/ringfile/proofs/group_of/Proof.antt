@@ -102,7 +102,7 @@ loop-again-2 c = (
   omega arith,
   c .before .before .before .loop .inv .2,
   λ ns vss r e z n h l.
-      upto-off (getD vss (c .before .before .before .before .before .before .before .before .before .args .l) []) (c .before .before .before .before .before .before .before .before .before .args .list .now) (omega (arith, line-length ns vss (c .before .before .before .before .before .before .before .before .before .args .l) r l)) 
+      upto-off (getD vss (c .before .before .before .before .before .before .before .before .before .args .l) []) (c .before .before .before .before .before .before .before .before .before .args .list .now) (omega (arith, line-length ns vss (c .before .before .before .before .before .before .before .before .before .args .l) r l))
       (sym (value-next (c .before .before .before .before .before .before .before .before .before .args .file .now) ns vss (c .before .before .before .before .before .before .before .before .before .args .l) (c .before .before .before .loop .leaf) (c .before .before .before .before .before .before .before .before .before .args .names) (c .before .before .before .before .before .before .before .before .before .args .head) r e z n h l (omega arith)) ∙ ne-eqb (getD (c .before .before .before .before .before .before .before .before .before .args .file .now) (c .before .before .before .before .before .before .before .before .before .args .head + c .before .before .before .before .before .before .before .before .before .args .l * (2 * c .before .before .before .before .before .before .before .before .before .args .names) + 2 * c .before .before .before .loop .leaf) 0) 49 (c .if6 .left)) (c .before .before .before .loop .inv .3 ns vss r e z n h l),
 )
 
