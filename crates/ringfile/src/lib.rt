@@ -49,7 +49,7 @@ fn letter(b: u8) -> bool
     }
 }
 
-// Whether w is one of the words of x, a space after each.
+// Whether w is one of the words of x, a space after each. j: how many bytes of the word are those of w; m + 1 where it differs.
 fn is_among(x: &[u8], w: &[u8]) -> bool
     ensures { λ r. ⌜ ((ns : List (List ℕ)) → All Word ns → now (x .entry) ≡ spaced ns → r ≡ among ns (now (w .entry))) ⌝ }
 {
@@ -79,7 +79,7 @@ fn is_among(x: &[u8], w: &[u8]) -> bool
     false
 }
 
-// How many of the words of x, a space after each, begin with t.
+// How many of the words of x, a space after each, begin with t. j: as in is_among, but m where more bytes follow t.
 fn begin_with(x: &[u8], t: &[u8]) -> usize
     ensures { λ r. ⌜ ((ns : List (List ℕ)) → All Word ns → now (x .entry) ≡ spaced ns → r ≡ length (filter (begins (now (t .entry))) ns)) ⌝ }
     ensures { λ r. ⌜ r ≤ length (now (x .entry)) ⌝ }
@@ -303,7 +303,7 @@ fn word_end(x: &[u8]) -> usize
     i
 }
 
-// Where name number k, from 0, of the names line that x begins with starts.
+// Where name number k, from 0, of the names line that x begins with starts: after so many spaces.
 fn place(x: &[u8], k: usize) -> usize
     ensures { λ r. ⌜ ((ns : List (List ℕ)) (t : List ℕ) → All Word ns → now (x .entry) ≡ line ns ++ t → k < length ns → r ≡ place-of ns k) ⌝ }
     ensures { λ r. ⌜ r ≤ length (now (x .entry)) ⌝ }
