@@ -9,12 +9,12 @@ use native.Mathlib.Numerals.{add-one}
 use lib.Dec.{eqb}
 use lib.ListN.{length, length-append, length-take, take, drop, getD, drop-of-length-le}
 use lib.Seq.{drop-cons, take-append-seam, drop-append-add}
-use borrow.Author.Tests.{ne-eqb}
+use borrow.Author.Tests.{eq-eqb, ne-eqb}
 use Rattle.orders.specs.Lists.{All}
 use Rattle.ringfile.specs.RingFile.{NameByte, Name, Value, further, line, value-lines, file-bytes, place-of, NameAt, Rules}
-use Rattle.ringfile.specs.Words.{word-length, word-end, Word}
+use Rattle.ringfile.specs.Words.{word-end, Word}
 use Rattle.ringfile.proofs.Words.{no-space, no-end}
-use Rattle.ringfile.proofs.Slices.{word-at, rest-is, after-space, part-len}
+use Rattle.ringfile.proofs.Slices.{rest-is, part-len}
 
 end-cons : (b : ℕ) (x : List ℕ) → (b ≡ 32 → ⊥) → (b ≡ 10 → ⊥) → word-end (b ∷ x) ≡ 1 + word-end x
 end-cons b x n m = ap (λ c. cond c 0 (cond (eqb b 10) 0 (1 + word-end x))) (ne-eqb b 32 n) ∙ ap (λ c. cond c 0 (1 + word-end x)) (ne-eqb b 10 m)
@@ -59,42 +59,47 @@ at-place (w ∷ []) (suc k) t h l = absurd (omega arith)
 at-place (w ∷ (v ∷ ws)) (suc k) t h l =
     subst (λ x. Named x (getD (v ∷ ws) k [])) (sym (past w (place-of (v ∷ ws) k) (line (v ∷ ws)) t)) (at-place (v ∷ ws) k t (h .1) (omega arith))
 
--- The place, range the front.
-pub place-zero : (ws : List (List ℕ)) (k : ℕ) → k ≡ 0 → 0 ≡ place-of ws k
-place-zero [] k e = refl
-place-zero (w ∷ ws) zero e = refl
-place-zero (w ∷ ws) (suc k) e = absurd (omega arith)
+-- The bytes up to the space number k, that space among them; all bytes where there are fewer spaces.
+abbrev pub past-spaces : ℕ → List ℕ → ℕ
+past-spaces k [] = 0
+past-spaces k (b ∷ x) = cond (eqb k 0) 0 (1 + past-spaces (cond (eqb b 32) (k - 1) k) x)
 
-module _ (x t : List ℕ) (n k : ℕ) (q : n ≡ word-length x) (k1 : 1 ≤ k) where
-  pub place-next : (ws : List (List ℕ)) (r : ℕ) → All Word ws → x ≡ line ws ++ t → k < length ws
-      → ((vs : List (List ℕ)) → All Word vs → after-space n x ≡ line vs ++ t → k - 1 < length vs → r ≡ place-of vs (k - 1)) → n + 1 + r ≡ place-of ws k
-  place-next [] r h e l g = absurd (omega arith)
-  place-next (w ∷ []) r h e l g = absurd (omega arith)
-  place-next (w ∷ (v ∷ ws)) r h e l g = go k k1 l g
-    where
-      size : n ≡ length w
-      size = q ∙ ap word-length (e ∙ append-assoc w (further (v ∷ ws)) t) ∙ word-at w (line (v ∷ ws) ++ t) (h .0)
+pub past-none : (k : ℕ) (x : List ℕ) → k ≡ 0 → past-spaces k x ≡ 0
+past-none k [] e = refl
+past-none k (b ∷ x) e = rw e
 
-      tail : after-space n x ≡ line (v ∷ ws) ++ t
-      tail =
-          let m : n + 1 ≡ length w + 1 + 0 = omega (arith, size) in
-          rest-is (n + 1) x ∙ ap₂ (λ j l. drop j l) m e ∙ past w 0 (line (v ∷ ws)) t
+some-left : (k : ℕ) → 1 ≤ k → eqb k 0 ≡ false
+some-left k l = ne-eqb k 0 (λ e. omega (arith, e))
 
-      go : (j : ℕ) → 1 ≤ j → j < length (w ∷ (v ∷ ws))
-          → ((vs : List (List ℕ)) → All Word vs → after-space n x ≡ line vs ++ t → j - 1 < length vs → r ≡ place-of vs (j - 1))
-          → n + 1 + r ≡ place-of (w ∷ (v ∷ ws)) j
-      go zero j1 m f = absurd (omega arith)
-      go (suc j) j1 m f =
-          let p : suc j - 1 ≡ j = omega arith in
-          let s : r ≡ place-of (v ∷ ws) j = f (v ∷ ws) (h .1) tail (omega arith) ∙ ap (λ i. place-of (v ∷ ws) i) p in
-          omega (arith, size, s)
+past-word : (w y : List ℕ) (k : ℕ) → 1 ≤ k → Word w → past-spaces k (w ++ (32 ∷ y)) ≡ length w + 1 + past-spaces (k - 1) y
+past-word [] y k l h = rw (some-left k l) (omega arith)
+past-word (b ∷ w) y k l h = rw (some-left k l, ne-eqb b 32 (h .0)) (omega (arith, past-word w y k l (h .1)))
 
-  pub place-odd : {A : Type 0} (ws : List (List ℕ)) → All Word ws → x ≡ line ws ++ t → k < length ws → length x ≤ n → A
-  place-odd [] h e l g = absurd (omega arith)
-  place-odd (w ∷ []) h e l g = absurd (omega arith)
-  place-odd (w ∷ (v ∷ ws)) h e l g =
-      let u : x ≡ w ++ (32 ∷ (line (v ∷ ws) ++ t)) = e ∙ append-assoc w (further (v ∷ ws)) t in
-      absurd (omega (arith, q, ap word-length u, word-at w (line (v ∷ ws) ++ t) (h .0), ap length u, length-append w (32 ∷ (line (v ∷ ws) ++ t))))
+past-place : (ws : List (List ℕ)) (k : ℕ) (t : List ℕ) → All Word ws → k < length ws → past-spaces k (line ws ++ t) ≡ place-of ws k
+past-place [] k t h l = absurd (omega arith)
+past-place (w ∷ ws) zero t h l = past-none zero (line (w ∷ ws) ++ t) refl
+past-place (w ∷ []) (suc k) t h l = absurd (omega arith)
+past-place (w ∷ (v ∷ ws)) (suc k) t h l =
+    let e : suc k - 1 ≡ k = omega arith in
+    ap (λ y. past-spaces (suc k) y) (append-assoc w (further (v ∷ ws)) t) ∙ past-word w (line (v ∷ ws) ++ t) (suc k) (omega arith) (h .0)
+    ∙ ap (λ p. length w + 1 + p) (ap (λ j. past-spaces j (line (v ∷ ws) ++ t)) e ∙ past-place (v ∷ ws) k t (h .1) (omega arith))
+
+pub place-is : (x : List ℕ) (ws : List (List ℕ)) (k : ℕ) (t : List ℕ) → All Word ws → x ≡ line ws ++ t → k < length ws → past-spaces k x ≡ place-of ws k
+place-is x ws k t h e l = ap (λ y. past-spaces k y) e ∙ past-place ws k t h l
+
+-- past-spaces, by a loop.
+pub past-end : (k : ℕ) (x : List ℕ) (i : ℕ) → length x ≤ i → past-spaces k (drop i x) ≡ 0
+past-end k x i h = rw (drop-of-length-le x h)
+
+past-one : (k : ℕ) (x : List ℕ) (i : ℕ) → i < length x → 1 ≤ k
+    → past-spaces k (drop i x) ≡ 1 + past-spaces (cond (eqb (getD x i 0) 32) (k - 1) k) (drop (i + 1) x)
+past-one k x i h l = rw (add-one, drop-cons x i 0 h, some-left k l)
+
+pub past-space : (k : ℕ) (x : List ℕ) (i : ℕ) → i < length x → 1 ≤ k → getD x i 0 ≡ 32 → past-spaces k (drop i x) ≡ 1 + past-spaces (k - 1) (drop (i + 1) x)
+past-space k x i h l e = past-one k x i h l ∙ rw (eq-eqb (getD x i 0) 32 e)
+
+pub past-letter : (k : ℕ) (x : List ℕ) (i : ℕ) → i < length x → 1 ≤ k → (getD x i 0 ≡ 32 → ⊥) → past-spaces k (drop i x) ≡ 1 + past-spaces k (drop (i + 1) x)
+past-letter k x i h l n = past-one k x i h l ∙ rw (ne-eqb (getD x i 0) 32 n)
 
 -- The part of the file in which the code finds the name, and the bytes that it cuts out.
 pub found-at : (x : List ℕ) (ns : List (List ℕ)) (vss : List (List Value)) (k s n : ℕ) → Rules ns vss → x ≡ file-bytes ns vss → k < length ns

@@ -6,7 +6,7 @@ ghost use lib.ListN.{length, take, getD};
 ghost use Rattle.orders.specs.Lists.{All, Distinct, elem, filter};
 ghost use Rattle.tokens.specs.Tokens.{Wrote};
 ghost use Rattle.ringfile.specs.RingFile.{alphabet, Name, Value, off, in-group, line, file-bytes, place-of, NameAt, leaves-on, Rules, Says};
-ghost use Rattle.ringfile.specs.Words.{word-length, word-end, Word, spaced, among, begins};
+ghost use Rattle.ringfile.specs.Words.{word-end, Word, spaced, among, begins};
 ghost use Rattle.ringfile.specs.Scanner.{room, is-new, naming, due, got, step, Naming};
 ghost use Rattle.ringfile.specs.Cursors.{Stands, Stepped, Advances, Within};
 use calls::Refusal;
@@ -49,21 +49,7 @@ fn letter(b: u8) -> bool
     }
 }
 
-// How many bytes stand before the first space.
-fn word_len(x: &[u8]) -> usize
-    ensures { λ r. ⌜ r ≡ word-length (now (x .entry)) ⌝ }
-{
-    let mut i = 0;
-    while i < x.len() {
-        if x[i] == 32 {
-            return i;
-        }
-        i += 1;
-    }
-    i
-}
-
-// Whether w is one of the words of x, a space after each.
+// Whether w is one of the words of x, a space after each. j: how many bytes of the word are those of w; m + 1 where it differs.
 fn is_among(x: &[u8], w: &[u8]) -> bool
     ensures { λ r. ⌜ ((ns : List (List ℕ)) → All Word ns → now (x .entry) ≡ spaced ns → r ≡ among ns (now (w .entry))) ⌝ }
 {
@@ -93,7 +79,7 @@ fn is_among(x: &[u8], w: &[u8]) -> bool
     false
 }
 
-// How many of the words of x, a space after each, begin with t.
+// How many of the words of x, a space after each, begin with t. j: as in is_among, but m where more bytes follow t.
 fn begin_with(x: &[u8], t: &[u8]) -> usize
     ensures { λ r. ⌜ ((ns : List (List ℕ)) → All Word ns → now (x .entry) ≡ spaced ns → r ≡ length (filter (begins (now (t .entry))) ns)) ⌝ }
     ensures { λ r. ⌜ r ≤ length (now (x .entry)) ⌝ }
@@ -317,19 +303,24 @@ fn word_end(x: &[u8]) -> usize
     i
 }
 
-// Where name number k, from 0, of the names line that x begins with starts.
+// Where name number k, from 0, of the names line that x begins with starts: after so many spaces.
 fn place(x: &[u8], k: usize) -> usize
     ensures { λ r. ⌜ ((ns : List (List ℕ)) (t : List ℕ) → All Word ns → now (x .entry) ≡ line ns ++ t → k < length ns → r ≡ place-of ns k) ⌝ }
     ensures { λ r. ⌜ r ≤ length (now (x .entry)) ⌝ }
 {
-    if k == 0 {
-        return 0;
+    let mut left = k;
+    let mut i = 0;
+    while i < x.len() {
+        if left == 0 {
+            return i;
+        }
+        let b = x[i];
+        i += 1;
+        if b == 32 {
+            left -= 1;
+        }
     }
-    let n = word_len(x);
-    if n >= x.len() {
-        return x.len();
-    }
-    n + 1 + place(&x[n + 1..], k - 1)
+    i
 }
 
 // Where name number k, from 0, of an accepted file stands. Of another file or number it is some part of the file.

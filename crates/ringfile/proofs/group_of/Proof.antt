@@ -88,9 +88,11 @@ loop-again c = (
   omega arith,
   omega arith,
   simp length-set (c .before .before .before .loop .inv .2),
-  λ ns vss r e z n h l.
-      upto-on (getD vss (c .before .before .before .before .before .before .before .before .before .args .l) []) (c .before .before .before .before .before .before .before .before .before .args .list .now) (omega (arith, line-length ns vss (c .before .before .before .before .before .before .before .before .before .args .l) r l)) (omega arith)
-      (sym (value-next (c .before .before .before .before .before .before .before .before .before .args .file .now) ns vss (c .before .before .before .before .before .before .before .before .before .args .l) (c .before .before .before .loop .leaf) (c .before .before .before .before .before .before .before .before .before .args .names) (c .before .before .before .before .before .before .before .before .before .args .head) r e z n h l (omega arith)) ∙ eq-eqb (getD (c .before .before .before .before .before .before .before .before .before .args .file .now) (c .before .before .before .before .before .before .before .before .before .args .head + c .before .before .before .before .before .before .before .before .before .args .l * (2 * c .before .before .before .before .before .before .before .before .before .args .names) + 2 * c .before .before .before .loop .leaf) 0) 49 (c .if6 .taken)) (c .before .before .before .loop .inv .3 ns vss r e z n h l),
+  let a = c .before .before .before .before .before .before .before .before .before .args in
+      let i = c .before .before .before .loop .leaf in
+      λ ns vss r e z n h l.
+      upto-on (getD vss (a .l) []) (a .list .now) (omega (arith, line-length ns vss (a .l) r l)) (omega arith)
+      (sym (value-next (a .file .now) ns vss (a .l) i (a .names) (a .head) r e z n h l (omega arith)) ∙ eq-eqb (getD (a .file .now) (a .head + a .l * (2 * a .names) + 2 * i) 0) 49 (c .if6 .taken)) (c .before .before .before .loop .inv .3 ns vss r e z n h l),
 )
 
 loop-less-2 : tie.Need-loop-less-2 Inv-loop μ-loop
@@ -101,9 +103,11 @@ loop-again-2 c = (
   omega arith,
   omega arith,
   c .before .before .before .loop .inv .2,
-  λ ns vss r e z n h l.
-      upto-off (getD vss (c .before .before .before .before .before .before .before .before .before .args .l) []) (c .before .before .before .before .before .before .before .before .before .args .list .now) (omega (arith, line-length ns vss (c .before .before .before .before .before .before .before .before .before .args .l) r l))
-      (sym (value-next (c .before .before .before .before .before .before .before .before .before .args .file .now) ns vss (c .before .before .before .before .before .before .before .before .before .args .l) (c .before .before .before .loop .leaf) (c .before .before .before .before .before .before .before .before .before .args .names) (c .before .before .before .before .before .before .before .before .before .args .head) r e z n h l (omega arith)) ∙ ne-eqb (getD (c .before .before .before .before .before .before .before .before .before .args .file .now) (c .before .before .before .before .before .before .before .before .before .args .head + c .before .before .before .before .before .before .before .before .before .args .l * (2 * c .before .before .before .before .before .before .before .before .before .args .names) + 2 * c .before .before .before .loop .leaf) 0) 49 (c .if6 .left)) (c .before .before .before .loop .inv .3 ns vss r e z n h l),
+  let a = c .before .before .before .before .before .before .before .before .before .args in
+      let i = c .before .before .before .loop .leaf in
+      λ ns vss r e z n h l.
+      upto-off (getD vss (a .l) []) (a .list .now) (omega (arith, line-length ns vss (a .l) r l))
+      (sym (value-next (a .file .now) ns vss (a .l) i (a .names) (a .head) r e z n h l (omega arith)) ∙ ne-eqb (getD (a .file .now) (a .head + a .l * (2 * a .names) + 2 * i) 0) 49 (c .if6 .left)) (c .before .before .before .loop .inv .3 ns vss r e z n h l),
 )
 
 same-length : tie.Need-same-length Inv-loop μ-loop
