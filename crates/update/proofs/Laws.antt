@@ -150,15 +150,6 @@ middle-more {j} a h e =
     (rw (a .split, a .its-state, ne-eqb (number (state-of j)) 0 h, ← all-empty-is (totals (rest-of j)), e)
     (flat-append (a .head .linear) (mirrored-lines (totals (rest-of j)))))
 
-pub empty-length : {j : Judged} (a : AtFirst j) → number (state-of j) ≡ 0
-    → length (flat (middle-of (totals j))) ≡ length (encode (first-of j)) + length (flat (middle-of (totals (rest-of j))))
-empty-length {j} a h =
-    omega (
-      arith,
-      ap length (middle-empty a h) ∙ length-append (encode (plain (tree (first-of j)))) (flat (middle-of (totals (rest-of j)))),
-      plain-length (first-of j),
-    )
-
 pub last-length : {j : Judged} (a : AtFirst j) → (number (state-of j) ≡ 0 → ⊥) → all-with-state 0 (totals (rest-of j)) ≡ true
     → length (flat (middle-of (totals j))) ≡ length (flat (first-reduced (totals j))) + length (encode (rest-of j))
 last-length {j} a h e =
