@@ -8,11 +8,7 @@ use lib.ListN.{length, take, getD}
 use Rattle.orders.specs.Lists.{All, some-of, filter, same, range}
 use Rattle.ringfile.specs.RingFile.{Value, off, in-group}
 
--- The bytes before the first space; before the first space or line end.
-abbrev pub word-length : List ℕ → ℕ
-word-length [] = 0
-word-length (b ∷ x) = cond (eqb b 32) 0 (1 + word-length x)
-
+-- The bytes before the first space or line end.
 abbrev pub word-end : List ℕ → ℕ
 word-end [] = 0
 word-end (b ∷ x) = cond (eqb b 32) 0 (cond (eqb b 10) 0 (1 + word-end x))
