@@ -34,7 +34,8 @@ const MOVES: [[u8; 5]; 17] = [
     [16, 16, 16, 16, 16],
 ];
 
-// Where the automaton goes on the items, by its moves.
+// Where the automaton goes on the items, by its moves. Of empty items one after another it reads only the first, and so of full ones: another
+// takes it nowhere.
 fn run_on(x: &[u16], moves: &[[u8; 5]; 17], run: u8) -> u8
     requires { ⌜ (Tokens (now x)) × (run < 17) × ((i k : ℕ) → getD (getD (now moves) i []) k 0 < 17)
         × ((q : Run) (z : State) → getD (getD (now moves) (code q) []) (number z) 0 ≡ code (step q z)) ⌝ }
@@ -45,8 +46,13 @@ fn run_on(x: &[u16], moves: &[[u8; 5]; 17], run: u8) -> u8
     while i < x.len() {
         let y = &x[i..];
         let q = at as usize;
-        let z = tokens::state(y) as usize;
+        let s = tokens::state(y);
+        let z = s as usize;
         at = moves[q][z];
+        if s < 2 {
+            i += spans::span(y, s);
+            continue;
+        }
         i += tokens::size(y);
     }
     at
