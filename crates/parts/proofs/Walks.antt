@@ -1,16 +1,19 @@
 -- Going through the items of a sequence by an index, one item at a time.
 use mathlib.Core.Path.{_≡_, refl, sym, ap, _∙_}
+use mathlib.Core.Bool.{Bool, true, false}
 use mathlib.Core.List.{List, [], _∷_, _++_, append-assoc, append-nil}
 use Prim.Native.Nat.{ℕ, _+_, _-_, _≤_, _<_}
 use native.Mathlib.Omega.{arith}
-use lib.ListN.{length, take, drop, length-append, length-drop}
-use lib.Seq.{length-take-le, take-add, take-append-seam}
+use lib.ListN.{length, take, drop, getD, length-append, length-drop}
+use lib.Seq.{length-take-le, drop-cons, drop-drop}
 use borrow.Rule.Slice.PartMut.{putMid}
-use Rattle.tokens.specs.Tokens.{Judged, j-nil, tree, plain, j-append, encode, Tokens, Wrote}
-use Rattle.tokens.specs.Views.{first-of, rest-of}
-use Rattle.tokens.proofs.Laws.{at-end, encode-split}
+use Rattle.tokens.specs.Tokens.{number, Judged, j-nil, j-leaf, j-node, tree, plain, j-append, encode, Tokens, Wrote}
+use Rattle.tokens.specs.Views.{state-of, first-of, rest-of}
+use Rattle.tokens.proofs.Laws.{at-end, whole}
 use Rattle.tokens.proofs.Sequences.{encode-append, tree-append, plain-append, plain-length, encode-injective}
 use Rattle.tokens.proofs.Writes.{wrote-none, wrote-then}
+use Rattle.spans.specs.Spans.{passing, beyond, Parted}
+use Rattle.spans.proofs.Laws.{passing-first, beyond-first, passing-none, beyond-all}
 use Rattle.judge.proofs.Items.{from-items, some-items, next-items}
 
 -- The items from index i on are left: what g says of all items is f of what it says of them.
@@ -31,13 +34,20 @@ module _ {A : Type 0} (g : Judged → A) where
     pub left-some : i < length x → 0 < length (encode (l .left))
     left-some h = some-items (l .left) x i (l .from) h
 
-    -- The first of them is passed.
+    -- Their first token stands at index i.
+    pub left-token : i < length x → getD (encode (l .left)) 0 0 ≡ getD x i 0
+    left-token h = ap (λ (y : List ℕ). getD y 0 0) (sym (l .from) ∙ drop-cons x i 0 h)
+
+    -- Some of them are passed, and others are left; the first of them is passed.
+    abbrev pub left-on : (k : A → A) (m : ℕ) (next : Judged) → drop (i + m) x ≡ encode next → f (g (l .left)) ≡ k (g next) → Left g k x (i + m)
+    left-on k m next d h = record { left = next; from = d; same = λ j e. l .same j e ∙ h }
+
     pub left-next : (k : A → A) {m : ℕ} → m ≡ length (encode (first-of (l .left))) → f (g (l .left)) ≡ k (g (rest-of (l .left))) → Left g k x (i + m)
-    left-next k em h = record {
-      left = rest-of (l .left);
-      from = next-items (l .left) x i (l .from) em;
-      same = λ j e. l .same j e ∙ h;
-    }
+    left-next k {m} em h = left-on k m (rest-of (l .left)) (next-items (l .left) x i (l .from) em) h
+
+    -- They begin with r tokens of items that pass a test.
+    pub left-parted : {p : ℕ → Bool} {r : ℕ} → Parted p (take (length x - i) (drop i x)) (l .left) r → drop (i + r) x ≡ encode (beyond p (l .left))
+    left-parted {r = r} w = sym (drop-drop r i x) ∙ ap (drop r) (sym (whole x i)) ∙ w .back
 
     -- None is left.
     pub left-none : length x ≤ i → (j : Judged) → x ≡ encode j → g j ≡ f (g j-nil)
@@ -54,22 +64,30 @@ module _ (g : Judged → List ℕ) where
   writing-none old t = record { text = []; wrote = wrote-none old; rest = left-all g (λ l. [] ++ l) t (λ l. refl) }
 
   module _ {x old out : List ℕ} {i k : ℕ} (w : Writing g x old out i k) where
-    -- The first item writes nothing; it writes ys.
-    pub writing-skip : {m : ℕ} → m ≡ length (encode (first-of (w .rest .left))) → g (w .rest .left) ≡ g (rest-of (w .rest .left)) → Writing g x old out (i + m) k
-    writing-skip em h = record {
+    -- Some items write nothing; they write ys.
+    abbrev pub writing-past : (m : ℕ) (next : Judged) → drop (i + m) x ≡ encode next → g (w .rest .left) ≡ g next → Writing g x old out (i + m) k
+    writing-past m next d h = record {
       text = w .text;
       wrote = w .wrote;
-      rest = left-next g (w .rest) (λ l. w .text ++ l) em (ap (λ (l : List ℕ). w .text ++ l) h);
+      rest = left-on g (w .rest) (λ l. w .text ++ l) m next d (ap (λ (l : List ℕ). w .text ++ l) h);
     }
+
+    pub writing-on : {ys part : List ℕ} (m : ℕ) {r : ℕ} (next : Judged) → drop (i + m) x ≡ encode next → g (w .rest .left) ≡ ys ++ g next
+        → Wrote ys (take (length out - k) (drop k out)) part r → Writing g x old (putMid k (length out - k) out part) (i + m) (k + r)
+    writing-on {ys} m next d h v = record {
+      text = w .text ++ ys;
+      wrote = wrote-then (w .wrote) v;
+      rest = left-on g (w .rest) (λ l. (w .text ++ ys) ++ l) m next d
+          (ap (λ (l : List ℕ). w .text ++ l) h ∙ sym (append-assoc (w .text) ys (g next)));
+    }
+
+    -- The first item writes nothing; it writes ys.
+    pub writing-skip : {m : ℕ} → m ≡ length (encode (first-of (w .rest .left))) → g (w .rest .left) ≡ g (rest-of (w .rest .left)) → Writing g x old out (i + m) k
+    writing-skip {m} em h = writing-past m (rest-of (w .rest .left)) (next-items (w .rest .left) x i (w .rest .from) em) h
 
     pub writing-more : {ys part : List ℕ} {m r : ℕ} → m ≡ length (encode (first-of (w .rest .left))) → g (w .rest .left) ≡ ys ++ g (rest-of (w .rest .left))
         → Wrote ys (take (length out - k) (drop k out)) part r → Writing g x old (putMid k (length out - k) out part) (i + m) (k + r)
-    writing-more {ys} em h v = record {
-      text = w .text ++ ys;
-      wrote = wrote-then (w .wrote) v;
-      rest = left-next g (w .rest) (λ l. (w .text ++ ys) ++ l) em
-          (ap (λ (l : List ℕ). w .text ++ l) h ∙ sym (append-assoc (w .text) ys (g (rest-of (w .rest .left)))));
-    }
+    writing-more {m = m} em h v = writing-on m (rest-of (w .rest .left)) (next-items (w .rest .left) x i (w .rest .from) em) h v
 
     -- All items that are left write ys.
     pub writing-last : {ys part : List ℕ} {r : ℕ} → g (w .rest .left) ≡ ys → Wrote ys (take (length out - k) (drop k out)) part r
@@ -84,56 +102,33 @@ module _ (g : Judged → List ℕ) where
     pub writing-room : (j : Judged) → x ≡ encode j → length (g j) ≤ length old → k + length (g (w .rest .left)) ≤ length old
     writing-room j e h = omega (arith, w .wrote .many, ap length (w .rest .same j e), length-append (w .text) (g (w .rest .left)))
 
--- The items before index i are a sequence, and each of them writes its own tokens.
-pub record Passed (g : Judged → List ℕ) (x : List ℕ) (i : ℕ) : Type 0 where
-  pub front : Judged
-  pub its : take i x ≡ encode front
-  pub rest : Left g (λ l. encode (plain (tree front)) ++ l) x i
-
+-- Items at the start that pass a test, each of which writes its own tokens, and what is written for the items behind them.
 plain-join : (a b : Judged) → encode (plain (tree (j-append a b))) ≡ encode (plain (tree a)) ++ encode (plain (tree b))
 plain-join a b = rw (tree-append a b, plain-append (tree a) (tree b)) (encode-append (plain (tree a)) (plain (tree b)))
 
-module _ (g : Judged → List ℕ) where
-  pub passed-none : {x : List ℕ} → Tokens x → Passed g x 0
+module _ (p : ℕ → Bool) (g : Judged → List ℕ) where
+  step-text : (k : Judged) → 0 < length (encode k)
+      → (p (number (state-of k)) ≡ true → g k ≡ encode (plain (tree (first-of k))) ++ g (rest-of k))
+      → g (rest-of k) ≡ encode (plain (tree (passing p (rest-of k)))) ++ g (beyond p (rest-of k))
+      → g k ≡ encode (plain (tree (passing p k))) ++ g (beyond p k)
   unfolding encode
-  passed-none t = record { front = j-nil; its = refl; rest = left-all g (λ l. [] ++ l) t (λ l. refl) }
+  step-text k ne h rec = go (p (number (state-of k))) refl
+    where
+      go : (b : Bool) → p (number (state-of k)) ≡ b → g k ≡ encode (plain (tree (passing p k))) ++ g (beyond p k)
+      go true t =
+          let a = encode (plain (tree (first-of k))) in
+          let b = encode (plain (tree (passing p (rest-of k)))) in
+          h t ∙ ap (λ (l : List ℕ). a ++ l) rec ∙ sym (append-assoc a b (g (beyond p (rest-of k))))
+          ∙ rw (passing-first p k ne t, beyond-first p k t, plain-join (first-of k) (passing p (rest-of k)))
+      go false f = rw (passing-none p k f, beyond-all p k f)
 
-  module _ {x : List ℕ} {i : ℕ} (p : Passed g x i) where
-    pub passed-more : {m : ℕ} → m ≡ length (encode (first-of (p .rest .left)))
-        → g (p .rest .left) ≡ encode (plain (tree (first-of (p .rest .left)))) ++ g (rest-of (p .rest .left)) → Passed g x (i + m)
-    passed-more {m} em h =
-        let k = p .rest .left in
-        let a = encode (plain (tree (p .front))) in
-        let b = encode (plain (tree (first-of k))) in record {
-          front = j-append (p .front) (first-of k);
-          its = take-add i m x ∙ rw (p .its, p .rest .from, em, encode-split k, take-append-seam (encode (first-of k)) (encode (rest-of k))) (sym (encode-append (p .front) (first-of k)));
-          rest = left-next g (p .rest) (λ l. encode (plain (tree (j-append (p .front) (first-of k)))) ++ l) em
-              (ap (λ (l : List ℕ). a ++ l) h ∙ sym (append-assoc a b (g (rest-of k))) ∙ ap (λ (l : List ℕ). l ++ g (rest-of k)) (sym (plain-join (p .front) (first-of k))));
-        }
+  pub passing-text : ((k : Judged) → 0 < length (encode k) → p (number (state-of k)) ≡ true → g k ≡ encode (plain (tree (first-of k))) ++ g (rest-of k))
+      → (j : Judged) → g j ≡ encode (plain (tree (passing p j))) ++ g (beyond p j)
+  unfolding encode passing beyond rest-of
+  passing-text h j-nil = refl
+  passing-text h (j-leaf s b j) = step-text (j-leaf s b j) (omega arith) (h (j-leaf s b j) (omega arith)) (passing-text h j)
+  passing-text h (j-node s k i j) = step-text (j-node s k i j) (omega arith) (h (j-node s k i j) (omega arith)) (passing-text h j)
 
-    pub passed-part : take (i - 0) (drop 0 x) ≡ encode (p .front)
-    passed-part = let n : i - 0 ≡ i = omega arith in rw n (p .its)
-
-    -- They are written, and then the others, which write ys and zs; there are no others.
-    pub passed-two : {ys zs old mid part new : List ℕ} {k m n : ℕ} → Wrote (encode (plain (tree (p .front)))) old mid k → g (p .rest .left) ≡ ys ++ zs
-        → Wrote ys (take (length mid - k) (drop k mid)) part m
-        → Wrote zs (take (length (putMid k (length mid - k) mid part) - (k + m)) (drop (k + m) (putMid k (length mid - k) mid part))) new n
-        → (j : Judged) → x ≡ encode j
-        → Wrote (g j) old (putMid (k + m) (length (putMid k (length mid - k) mid part) - (k + m)) (putMid k (length mid - k) mid part) new) ((k + m) + n)
-    passed-two {ys} {zs} w h u v j e =
-        let a = encode (plain (tree (p .front))) in
-        rw (p .rest .same j e ∙ ap (λ (l : List ℕ). a ++ l) h ∙ sym (append-assoc a ys zs)) (wrote-then (wrote-then w u) v)
-
-    pub passed-end : {old out : List ℕ} {k : ℕ} → Wrote (encode (plain (tree (p .front)))) old out k → length x ≤ i → g j-nil ≡ []
-        → (j : Judged) → x ≡ encode j → Wrote (g j) old out k
-    passed-end w h n j e = rw (left-none g (p .rest) h j e, n, append-nil) w
-
-    pub passed-room : (n : ℕ) (j : Judged) → x ≡ encode j → length (g j) ≤ n → i ≤ length x → i + length (g (p .rest .left)) ≤ n
-    passed-room n j e h hi =
-        omega (
-          arith,
-          ap length (p .rest .same j e) ∙ length-append (encode (plain (tree (p .front)))) (g (p .rest .left)),
-          plain-length (p .front),
-          ap length (p .its),
-          length-take-le i x hi,
-        )
+-- The first r tokens are as many as those without their states.
+pub passing-length : {p : ℕ → Bool} {x : List ℕ} (j : Judged) {r : ℕ} → Parted p x j r → r ≤ length x → length (encode (plain (tree (passing p j)))) ≡ r
+passing-length {p} {x} j {r} w h = plain-length (passing p j) ∙ sym (ap length (w .front)) ∙ length-take-le r x h

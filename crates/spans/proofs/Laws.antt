@@ -6,6 +6,7 @@ use Prim.Native.Nat.{ℕ, zero, suc, _+_, _-_, _%_, _≤_, _<_}
 use native.Mathlib.Omega.{arith}
 use lib.ListN.{length, take, drop, getD, length-append, length-drop}
 use lib.Seq.{drop-cons, drop-drop, drop-append-seam, take-add, take-append-seam}
+use Rattle.orders.proofs.ListLaws.{cond-cases}
 use Rattle.tokens.specs.Tokens.{number, Judged, j-nil, j-leaf, j-node, j-append, leaf-token, node-token, encode, Tokens}
 use Rattle.tokens.specs.Views.{state-of, first-of, rest-of}
 use Rattle.tokens.proofs.Laws.{number-small, at-end, encode-split, whole, leaf-even, leaf-state, node-odd}
@@ -125,8 +126,36 @@ some-passing p (j-node s k i j) h t = rw t (omega arith)
 pub parted-some : {p : ℕ → Bool} {x : List ℕ} (j : Judged) {r : ℕ} → Parted p x j r → x ≡ encode j → 0 < length x → p (number (state-of j)) ≡ true → 0 < r
 parted-some {p} {x} j {r} w e h t = some-taken r x (w .front) (some-passing p j (omega (arith, ap length e)) t)
 
--- A token below 8 behind its last 16 is that of a leaf, of this state.
-leaf-first : (k : Judged) {s : ℕ} → 0 < length (encode k) → getD (encode k) 0 0 % 16 ≡ s → s ≤ 4
+-- Where no token passes, the first item does not.
+pub parted-first : {p : ℕ → Bool} {x : List ℕ} (j : Judged) {r : ℕ} → Parted p x j r → x ≡ encode j → 0 < length x → r ≡ 0 → p (number (state-of j)) ≡ false
+parted-first {p} j w e h z = go (p (number (state-of j))) refl
+  where
+    go : (b : Bool) → p (number (state-of j)) ≡ b → b ≡ false
+    go true t = absurd (omega (arith, parted-some j w e h t))
+    go false t = refl
+
+module _ (p : ℕ → Bool) where
+  -- What an item that passes does not change, all those that pass do not.
+  pub beyond-same : {A : Type 0} (g : Judged → A) → ((k : Judged) → 0 < length (encode k) → p (number (state-of k)) ≡ true → g k ≡ g (rest-of k))
+      → (j : Judged) → g j ≡ g (beyond p j)
+  unfolding encode beyond rest-of state-of
+  beyond-same g h j-nil = refl
+  beyond-same g h (j-leaf s b j) =
+      cond-cases (p (number s)) (beyond p j) (j-leaf s b j) (λ k. g (j-leaf s b j) ≡ g k) (λ t. h (j-leaf s b j) (omega arith) t ∙ beyond-same g h j) (λ f. refl)
+  beyond-same g h (j-node s k i j) =
+      cond-cases (p (number s)) (beyond p j) (j-node s k i j) (λ m. g (j-node s k i j) ≡ g m) (λ t. h (j-node s k i j) (omega arith) t ∙ beyond-same g h j) (λ f. refl)
+
+  -- The first of the items beyond does not pass.
+  pub beyond-stops : (j : Judged) → 0 < length (encode (beyond p j)) → p (number (state-of (beyond p j))) ≡ false
+  unfolding encode beyond state-of
+  beyond-stops j-nil = λ h. absurd (omega (arith, h))
+  beyond-stops (j-leaf s b j) =
+      cond-cases (p (number s)) (beyond p j) (j-leaf s b j) (λ k. 0 < length (encode k) → p (number (state-of k)) ≡ false) (λ t. beyond-stops j) (λ f h. f)
+  beyond-stops (j-node s k i j) =
+      cond-cases (p (number s)) (beyond p j) (j-node s k i j) (λ m. 0 < length (encode m) → p (number (state-of m)) ≡ false) (λ t. beyond-stops j) (λ f h. f)
+
+-- A first token that is s above a multiple of 16 is that of a leaf of state s.
+pub leaf-first : (k : Judged) {s : ℕ} → 0 < length (encode k) → getD (encode k) 0 0 % 16 ≡ s → s ≤ 4
     → (number (state-of k) ≡ s) × (1 ≡ length (encode (first-of k)))
 unfolding encode state-of first-of
 leaf-first j-nil ne e h = absurd (omega arith)

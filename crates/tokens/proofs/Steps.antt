@@ -9,7 +9,7 @@ use Rattle.orders.specs.Tree.{Forest, nil, leaf, node, append, frontier}
 use Rattle.orders.specs.Form.{first}
 use Rattle.tokens.specs.Tokens.{Judged, j-nil, j-leaf, j-node, tree, j-append, encode, Tokens}
 use Rattle.tokens.specs.Views.{first-of, items-of, rest-of}
-use Rattle.tokens.proofs.Laws.{at-end, leaf-even, leaf-number, node-odd, node-size, encode-split, sizes, whole}
+use Rattle.tokens.proofs.Laws.{at-end, leaf-even, leaf-number, node-odd, node-size, encode-split, sizes, size-leaf, whole}
 use Rattle.tokens.proofs.Sequences.{encode-append, tree-append}
 
 -- At index i of the tokens of any sequence j stand those of a sequence k, and the two are as Q says.
@@ -53,6 +53,12 @@ next-item {l} {i} {m} h n size go = record {
       let w : m ≡ length (encode (first-of (r .0))) = size (r .0) (whole l i ∙ r .1) in
       (rest-of (r .0), sym (drop-drop m i l) ∙ rw (r .1, w, encode-split (r .0)) (drop-append-seam (encode (first-of (r .0))) (encode (rest-of (r .0)))), go j (r .0) (here-at l i (r .0) n (r .1)) (r .2));
 }
+
+-- One leaf on.
+pub next-leaf : {l : List ℕ} {i : ℕ} {Q R : Judged → Judged → Type 0} → Left l i Q → i < length l → getD l i 0 / 8 % 2 ≡ 0
+    → ((j k : Judged) → Here l i k → Q j k → R j (rest-of k)) → Left l (i + 1) R
+next-leaf {l} {i} h n z =
+    next-item h n (λ k e. let p = here-at l i k n (sym (whole l i) ∙ e) in size-leaf k {l = encode k} refl (p .some) (rw (p .head) z))
 
 -- What follows the first token: the first item's own items, then the items after it.
 abbrev pub opened : Judged → Judged

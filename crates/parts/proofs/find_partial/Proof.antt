@@ -1,13 +1,14 @@
 use mathlib.Core.Path.{_≡_, refl, sym, ap, _∙_}
-use Prim.Native.Nat.{ℕ, _-_, _≤_, _<_}
+use Prim.Native.Nat.{ℕ, _-_, _%_, _≤_, _<_}
 use native.Mathlib.Omega.{arith}
 use borrow.Author.Needs.{needs}
-use lib.ListN.{length, drop, length-drop}
-use Rattle.tokens.specs.Tokens.{Judged, encode, number}
-use Rattle.tokens.specs.Views.{state-of, rest-of}
-use Rattle.parts.proofs.Walks.{Left, left-all, left-part, left-some, left-next, left-none}
+use lib.ListN.{length, drop, getD, length-drop}
+use Rattle.tokens.specs.Tokens.{number, encode}
+use Rattle.tokens.specs.Views.{state-of, first-of}
 use Rattle.tokens.proofs.Laws.{at-end}
+use Rattle.spans.proofs.Laws.{leaf-first}
 use Rattle.parts.specs.Writers.{from-partial}
+use Rattle.parts.proofs.Walks.{Left, left-all, left-part, left-some, left-token, left-next, left-none}
 use Rattle.parts.proofs.Laws.{from-none, from-here, from-on}
 use Rattle.parts.proofs.find_partial.Statement.{statement}
 use Rattle.parts.proofs.find_partial.Tie as tie
@@ -25,6 +26,24 @@ abbrev μ-loop : tie.MeasureT-loop
 loop-holds : tie.Need-loop-holds Inv-loop μ-loop
 loop-holds c = (omega arith, left-all from-partial (λ a. a) (c .before .pre) (λ a. refl))
 
+mul-if1 : tie.Need-mul-if1 Inv-loop μ-loop
+mul-if1 c = omega arith
+
+shared-slice-read-if1 : tie.Need-shared-slice-read-if1 Inv-loop μ-loop
+shared-slice-read-if1 c = omega arith
+
+add-i : tie.Need-add-i Inv-loop μ-loop
+add-i c = omega arith
+
+loop-less : tie.Need-loop-less Inv-loop μ-loop
+loop-less c = omega arith
+
+loop-again : tie.Need-loop-again Inv-loop μ-loop
+loop-again c =
+    let l = c .before .before .before .loop .inv .1 in
+    let f = leaf-first (l .left) (left-some from-partial l (c .before .before .loop-test .taken)) (ap (λ (t : ℕ). t % 16) (left-token from-partial l (c .before .before .loop-test .taken))) (omega (arith, c .if1 .taken)) in
+    (omega arith, left-next from-partial l (λ a. a) (f .1) (from-on (l .left) (λ h. omega (arith, f .0, c .if1 .taken, h))))
+
 mul-y : tie.Need-mul-y Inv-loop μ-loop
 mul-y c = omega arith
 
@@ -38,31 +57,31 @@ part-y-end : tie.Need-part-y-end Inv-loop μ-loop
 part-y-end c = omega arith
 
 state-requires : tie.Need-state-requires Inv-loop μ-loop
-state-requires c κs = ((_, left-part from-partial (c .before .before .loop .inv .1)), omega (arith, length-drop (c .before .before .loop .i) (c .before .before .before .before .args .x .now)))
+state-requires c κs = ((_, left-part from-partial (c .before .before .before .before .loop .inv .1)), omega (arith, length-drop (c .before .before .before .before .loop .i) (c .before .before .before .before .before .before .args .x .now)))
 
 returns : tie.Need-returns Inv-loop μ-loop
 returns c =
-    let l = c .before .before .before .before .loop .inv .1 in
+    let l = c .before .before .before .before .before .before .loop .inv .1 in
     let e = left-part from-partial l in (
-      omega (arith, length-drop (c .before .before .before .before .loop .i) (c .before .before .before .before .before .before .args .x .now)),
-      λ j ej. e ∙ ap encode (sym (l .same j ej ∙ from-here (l .left) (omega (arith, c .before .state .ensures _ e, c .if1 .taken)))),
+      omega (arith, length-drop (c .before .before .before .before .before .before .loop .i) (c .before .before .before .before .before .before .before .before .args .x .now)),
+      λ j ej. e ∙ ap encode (sym (l .same j ej ∙ from-here (l .left) (omega (arith, c .before .state .ensures _ e, c .if2 .taken)))),
     )
 
 size-requires : tie.Need-size-requires Inv-loop μ-loop
-size-requires c κs = ((_, left-part from-partial (c .before .before .before .before .loop .inv .1)), omega (arith, length-drop (c .before .before .before .before .loop .i) (c .before .before .before .before .before .before .args .x .now)))
+size-requires c κs = ((_, left-part from-partial (c .before .before .before .before .before .before .loop .inv .1)), omega (arith, length-drop (c .before .before .before .before .before .before .loop .i) (c .before .before .before .before .before .before .before .before .args .x .now)))
 
-add-i : tie.Need-add-i Inv-loop μ-loop
-add-i c = omega arith
+add-i-2 : tie.Need-add-i-2 Inv-loop μ-loop
+add-i-2 c = omega arith
 
-loop-less : tie.Need-loop-less Inv-loop μ-loop
-loop-less c = omega arith
+loop-less-2 : tie.Need-loop-less-2 Inv-loop μ-loop
+loop-less-2 c = omega arith
 
-loop-again : tie.Need-loop-again Inv-loop μ-loop
-loop-again c =
-    let l = c .before .before .before .before .before .loop .inv .1 in
+loop-again-2 : tie.Need-loop-again-2 Inv-loop μ-loop
+loop-again-2 c =
+    let l = c .before .before .before .before .before .before .before .loop .inv .1 in
     let e = left-part from-partial l in (
-      omega (arith, length-drop (c .before .before .before .before .before .loop .i) (c .before .before .before .before .before .before .before .args .x .now)),
-      left-next from-partial l (λ a. a) (c .size .ensures .2 _ e) (from-on (l .left) (λ h. omega (arith, c .before .before .state .ensures _ e))),
+      omega (arith, length-drop (c .before .before .before .before .before .before .before .loop .i) (c .before .before .before .before .before .before .before .before .before .args .x .now)),
+      left-next from-partial l (λ a. a) (c .size .ensures .2 _ e) (from-on (l .left) (λ h. omega (arith, c .before .before .state .ensures _ e, c .before .if2 .left, h))),
     )
 
 mul-result : tie.Need-mul-result Inv-loop μ-loop
@@ -92,6 +111,11 @@ find-partial-spec =
     Inv-loop
     μ-loop
     loop-holds
+    mul-if1
+    shared-slice-read-if1
+    add-i
+    loop-less
+    loop-again
     mul-y
     sub-y
     part-y-start
@@ -99,9 +123,9 @@ find-partial-spec =
     state-requires
     returns
     size-requires
-    add-i
-    loop-less
-    loop-again
+    add-i-2
+    loop-less-2
+    loop-again-2
     mul-result
     sub-result
     part-result-start

@@ -156,7 +156,7 @@ part-only-end : tie.Need-part-only-end Inv-loop μ-loop
 part-only-end c = search needs
 
 only-requires : tie.Need-only-requires Inv-loop μ-loop
-only-requires c κs = (_, left-part (text (c .before .before .before .before .before .before .before .before .before .before .before .before .before .before .before .before .pre .1)) (walk (c .before .before .before .before .before .before .before .before .before .before .before .before) .rest), omega (arith, before-room (c .before .before .before .before .before), c .before .before .before .copy .ensures .many, c .before .before .out .given .1, c .only-arg .given))
+only-requires c κs = ((_, left-part (text (c .before .before .before .before .before .before .before .before .before .before .before .before .before .before .before .before .pre .1)) (walk (c .before .before .before .before .before .before .before .before .before .before .before .before) .rest), omega (arith, before-room (c .before .before .before .before .before), c .before .before .before .copy .ensures .many, c .before .before .out .given .1, c .only-arg .given)), omega arith)
 
 add-result : tie.Need-add-result Inv-loop μ-loop
 add-result c = omega (arith, before-room (c .before .before .before .before .before .before .before .before), c .before .before .before .before .before .before .copy .ensures .many, c .before .before .only .ensures _ (left-part (text (c .before .before .before .before .before .before .before .before .before .before .before .before .before .before .before .before .before .before .before .pre .1)) (walk (c .before .before .before .before .before .before .before .before .before .before .before .before .before .before .before) .rest)) .many)

@@ -3,20 +3,24 @@ use mathlib.Core.List.{List, _++_}
 use Prim.Native.Nat.{ℕ, _+_, _-_, _≤_, _<_}
 use native.Mathlib.Omega.{arith}
 use borrow.Author.Needs.{needs}
-use lib.ListN.{length, drop, length-append, length-drop}
+use lib.ListN.{length, take, drop, length-append, length-drop}
 use Rattle.tokens.specs.Tokens.{Judged, tree, plain, encode, number}
-use Rattle.tokens.specs.Views.{state-of, first-of, rest-of}
-use Rattle.tokens.proofs.Sequences.{plain-length}
+use Rattle.tokens.specs.Views.{state-of}
+use Rattle.tokens.proofs.Laws.{whole}
+use Rattle.spans.specs.Spans.{is, is-not, passing, beyond, Parted}
+use Rattle.spans.proofs.Laws.{parted-some, parted-first}
 use Rattle.judge.specs.Total.{whole-of, totals}
 use Rattle.parts.specs.Writers.{flat, with-state}
-use Rattle.parts.proofs.Laws.{AtFirst, at-first, totals-none, flat-nil, with-out, flat-in}
-use Rattle.parts.proofs.Walks.{Writing, left-part, left-some, writing-none, writing-skip, writing-more, writing-end, writing-room}
+use Rattle.parts.proofs.Laws.{totals-none, flat-nil}
+use Rattle.parts.proofs.Walks.{Writing, left-part, left-some, left-parted, writing-none, writing-past, writing-on, writing-end, writing-room, passing-length}
+use Rattle.parts.proofs.States.{with-until, with-span, until-span}
 use Rattle.parts.proofs.only.Statement.{statement}
 use Rattle.parts.proofs.only.Tie as tie
 use Rattle.parts.proofs.only.Reads as reads
 use Rattle.parts.proofs.only.Lts as lts
-use Rattle.tokens.proofs.size.Reads as size-reads
-use Rattle.tokens.proofs.state.Reads as state-reads
+use Rattle.spans.proofs.span.Reads as span-reads
+use Rattle.spans.proofs.until.Reads as until-reads
+use Rattle.tokens.proofs.strip.Reads as strip-reads
 
 -- The tokens of the items of state s.
 abbrev text : ℕ → Judged → List ℕ
@@ -28,92 +32,119 @@ Inv-loop x s out₀ k₀ i₀ out k i = (i ≤ length x) × (length out ≡ leng
 abbrev μ-loop : tie.MeasureT-loop
 μ-loop x s out₀ k₀ i₀ out k i = length x - i
 
--- The first item that is left, its tokens, and the room for them.
-head : (c : tie.After-y Inv-loop μ-loop) → AtFirst (c .before .before .loop .inv .2 .rest .left)
-head c = at-first _ (left-some (text (c .before .before .before .before .before .args .s)) (c .before .before .loop .inv .2 .rest) (c .before .loop-test .taken))
+-- The items up to the first one of state s are passed.
+abbrev here : (c : tie.After-until Inv-loop μ-loop) → Writing (text (c .before .before .before .before .before .before .args .s)) (c .before .before .before .before .before .before .args .x .now) (c .before .before .before .before .before .before .args .out .now) (c .before .before .before .loop .out) (c .before .before .before .loop .i + c .until .result) (c .before .before .before .loop .k)
+here c =
+    let s = c .before .before .before .before .before .before .args .s in
+    let w = c .before .before .before .loop .inv .2 in
+    writing-past (text s) w (c .until .result) (beyond (is-not s) (w .rest .left)) (left-parted (text s) (w .rest) (c .until .ensures .1 _ (left-part (text s) (w .rest)))) (ap (λ ts. flat (whole-of ts)) (with-until s (w .rest .left)))
 
-tokens-of : (c : tie.Else1 Inv-loop μ-loop) → text (c .before .before .before .before .before .before .before .before .args .s) (c .before .before .before .before .before .loop .inv .2 .rest .left) ≡ encode (plain (tree (first-of (c .before .before .before .before .before .loop .inv .2 .rest .left)))) ++ text (c .before .before .before .before .before .before .before .before .args .s) (rest-of (c .before .before .before .before .before .loop .inv .2 .rest .left))
-tokens-of c = flat-in (c .before .before .before .before .before .before .before .before .args .s) (head (c .before .before .before)) (sym (c .before .state .ensures _ (left-part (text (c .before .before .before .before .before .before .before .before .args .s)) (c .before .before .before .before .before .loop .inv .2 .rest))) ∙ c .if1 .left)
+-- Then come those of state s: their tokens, and the room for them.
+parted : (c : tie.After-span Inv-loop μ-loop) → Parted (is (c .before .before .before .before .before .before .before .before .args .s)) (take (length (c .before .before .before .before .before .before .before .before .args .x .now) - (c .before .before .before .before .before .loop .i + c .before .before .until .result)) (drop (c .before .before .before .before .before .loop .i + c .before .before .until .result) (c .before .before .before .before .before .before .before .before .args .x .now))) (here (c .before .before) .rest .left) (c .span .result)
+parted c = c .span .ensures .1 _ (left-part (text (c .before .before .before .before .before .before .before .before .args .s)) (here (c .before .before) .rest))
 
-room : (c : tie.Else1 Inv-loop μ-loop) → c .before .before .before .before .before .loop .k + length (encode (first-of (c .before .before .before .before .before .loop .inv .2 .rest .left))) ≤ length (c .before .before .before .before .before .loop .out)
+its : (c : tie.After-span Inv-loop μ-loop) → take (c .before .before .before .before .before .loop .i + c .before .before .until .result + c .span .result - (c .before .before .before .before .before .loop .i + c .before .before .until .result)) (drop (c .before .before .before .before .before .loop .i + c .before .before .until .result) (c .before .before .before .before .before .before .before .before .args .x .now)) ≡ encode (passing (is (c .before .before .before .before .before .before .before .before .args .s)) (here (c .before .before) .rest .left))
+its c =
+    let n : c .before .before .before .before .before .loop .i + c .before .before .until .result + c .span .result - (c .before .before .before .before .before .loop .i + c .before .before .until .result) ≡ c .span .result = omega arith in
+    rw (n, ← whole (c .before .before .before .before .before .before .before .before .args .x .now) (c .before .before .before .before .before .loop .i + c .before .before .until .result)) (parted c .front)
+
+room : (c : tie.After-span Inv-loop μ-loop) → c .before .before .before .before .before .loop .k + c .span .result ≤ length (c .before .before .before .before .before .loop .out)
 room c =
-    let l = c .before .before .before .before .before .loop .inv .2 .rest .left in
+    let s = c .before .before .before .before .before .before .before .before .args .s in
+    let l = here (c .before .before) .rest .left in
     omega (
       arith,
-      writing-room (text (c .before .before .before .before .before .before .before .before .args .s)) (c .before .before .before .before .before .loop .inv .2) (c .before .before .before .before .before .before .before .before .pre .0) (c .before .before .before .before .before .before .before .before .pre .1) (c .before .before .before .before .before .before .before .before .pre .2),
-      ap length (tokens-of c) ∙ length-append (encode (plain (tree (first-of l)))) (text (c .before .before .before .before .before .before .before .before .args .s) (rest-of l)),
-      plain-length (first-of l),
+      writing-room (text s) (here (c .before .before)) (c .before .before .before .before .before .before .before .before .pre .0 .0) (c .before .before .before .before .before .before .before .before .pre .0 .1) (c .before .before .before .before .before .before .before .before .pre .0 .2),
+      ap length (with-span s l) ∙ length-append (encode (plain (tree (passing (is s) l)))) (text s (beyond (is s) l)),
+      passing-length l (parted c) (c .span .ensures .0),
+      c .before .before .before .before .before .loop .inv .1,
     )
 
+some : (c : tie.After-span Inv-loop μ-loop) → 0 < c .before .before .until .result + c .span .result
+some c =
+    let s = c .before .before .before .before .before .before .before .before .args .s in
+    let w = c .before .before .before .before .before .loop .inv .2 .rest in
+    until-span s (w .left) (c .before .before .until .ensures .1 _ (left-part (text s) w)) (c .before .before .until .ensures .0) (omega (arith, ap length (left-part (text s) w), left-some (text s) w (c .before .before .before .before .loop-test .taken))) (left-part (text s) (here (c .before .before) .rest)) (parted c)
+
 loop-holds : tie.Need-loop-holds Inv-loop μ-loop
-loop-holds c = (omega arith, refl, writing-none (text (c .before .before .args .s)) (c .before .before .args .out .now) (c .before .before .pre .0, c .before .before .pre .1))
+loop-holds c = (omega arith, refl, writing-none (text (c .before .before .args .s)) (c .before .before .args .out .now) (c .before .before .pre .0 .0, c .before .before .pre .0 .1))
 
-mul-y : tie.Need-mul-y Inv-loop μ-loop
-mul-y c = omega arith
+mul-until : tie.Need-mul-until Inv-loop μ-loop
+mul-until c = omega arith
 
-sub-y : tie.Need-sub-y Inv-loop μ-loop
-sub-y c = omega arith
+sub-until : tie.Need-sub-until Inv-loop μ-loop
+sub-until c = omega arith
 
-part-y-start : tie.Need-part-y-start Inv-loop μ-loop
-part-y-start c = omega arith
+part-until-start : tie.Need-part-until-start Inv-loop μ-loop
+part-until-start c = omega arith
 
-part-y-end : tie.Need-part-y-end Inv-loop μ-loop
-part-y-end c = omega arith
+part-until-end : tie.Need-part-until-end Inv-loop μ-loop
+part-until-end c = omega arith
 
-size-requires : tie.Need-size-requires Inv-loop μ-loop
-size-requires c κs = ((_, left-part (text (c .before .before .before .before .before .args .s)) (c .before .before .loop .inv .2 .rest)), omega (arith, length-drop (c .before .before .loop .i) (c .before .before .before .before .before .args .x .now)))
+until-requires : tie.Need-until-requires Inv-loop μ-loop
+until-requires c κs = ((_, left-part (text (c .before .before .before .before .before .args .s)) (c .before .before .loop .inv .2 .rest)), c .before .before .before .before .before .pre .1)
 
-state-requires : tie.Need-state-requires Inv-loop μ-loop
-state-requires c κs = ((_, left-part (text (c .before .before .before .before .before .before .args .s)) (c .before .before .before .loop .inv .2 .rest)), omega (arith, length-drop (c .before .before .before .loop .i) (c .before .before .before .before .before .before .args .x .now)))
+add-a : tie.Need-add-a Inv-loop μ-loop
+add-a c = omega (arith, c .until .ensures .0, length-drop (c .before .before .before .loop .i) (c .before .before .before .before .before .before .args .x .now))
 
-add-i : tie.Need-add-i Inv-loop μ-loop
-add-i c = omega arith
+mul-span : tie.Need-mul-span Inv-loop μ-loop
+mul-span c = omega (arith, c .until .ensures .0, length-drop (c .before .before .before .loop .i) (c .before .before .before .before .before .before .args .x .now))
+
+sub-span : tie.Need-sub-span Inv-loop μ-loop
+sub-span c = omega (arith, c .until .ensures .0, length-drop (c .before .before .before .loop .i) (c .before .before .before .before .before .before .args .x .now))
+
+part-span-start : tie.Need-part-span-start Inv-loop μ-loop
+part-span-start c = omega (arith, c .until .ensures .0, length-drop (c .before .before .before .loop .i) (c .before .before .before .before .before .before .args .x .now))
+
+part-span-end : tie.Need-part-span-end Inv-loop μ-loop
+part-span-end c = omega (arith, c .until .ensures .0, length-drop (c .before .before .before .loop .i) (c .before .before .before .before .before .before .args .x .now))
+
+span-requires : tie.Need-span-requires Inv-loop μ-loop
+span-requires c κs = ((_, left-part (text (c .before .before .before .before .before .before .before .args .s)) (here (c .before) .rest)), c .before .before .before .before .before .before .before .pre .1)
+
+add-e : tie.Need-add-e Inv-loop μ-loop
+add-e c = omega (arith, c .span .ensures .0, c .before .before .until .ensures .0, length-drop (c .before .before .before .before .before .loop .i) (c .before .before .before .before .before .before .before .before .args .x .now), length-drop (c .before .before .before .before .before .loop .i + c .before .before .until .result) (c .before .before .before .before .before .before .before .before .args .x .now))
+
+mul-strip : tie.Need-mul-strip Inv-loop μ-loop
+mul-strip c = omega (arith, c .span .ensures .0, c .before .before .until .ensures .0, length-drop (c .before .before .before .before .before .loop .i) (c .before .before .before .before .before .before .before .before .args .x .now), length-drop (c .before .before .before .before .before .loop .i + c .before .before .until .result) (c .before .before .before .before .before .before .before .before .args .x .now))
+
+sub-strip : tie.Need-sub-strip Inv-loop μ-loop
+sub-strip c = omega (arith, c .span .ensures .0, c .before .before .until .ensures .0, length-drop (c .before .before .before .before .before .loop .i) (c .before .before .before .before .before .before .before .before .args .x .now), length-drop (c .before .before .before .before .before .loop .i + c .before .before .until .result) (c .before .before .before .before .before .before .before .before .args .x .now))
+
+part-strip-start : tie.Need-part-strip-start Inv-loop μ-loop
+part-strip-start c = omega (arith, c .span .ensures .0, c .before .before .until .ensures .0, length-drop (c .before .before .before .before .before .loop .i) (c .before .before .before .before .before .before .before .before .args .x .now), length-drop (c .before .before .before .before .before .loop .i + c .before .before .until .result) (c .before .before .before .before .before .before .before .before .args .x .now))
+
+part-strip-end : tie.Need-part-strip-end Inv-loop μ-loop
+part-strip-end c = omega (arith, c .span .ensures .0, c .before .before .until .ensures .0, length-drop (c .before .before .before .before .before .loop .i) (c .before .before .before .before .before .before .before .before .args .x .now), length-drop (c .before .before .before .before .before .loop .i + c .before .before .until .result) (c .before .before .before .before .before .before .before .before .args .x .now))
+
+mul-strip-2 : tie.Need-mul-strip-2 Inv-loop μ-loop
+mul-strip-2 c = omega (arith, room (c .before))
+
+sub-strip-2 : tie.Need-sub-strip-2 Inv-loop μ-loop
+sub-strip-2 c = omega (arith, room (c .before))
+
+part-strip-start-2 : tie.Need-part-strip-start-2 Inv-loop μ-loop
+part-strip-start-2 c = omega (arith, room (c .before))
+
+part-strip-end-2 : tie.Need-part-strip-end-2 Inv-loop μ-loop
+part-strip-end-2 c = search needs
+
+strip-requires : tie.Need-strip-requires Inv-loop μ-loop
+strip-requires c κs = ((_, its (c .before .before)), omega (arith, room (c .before .before), c .before .strip-arg .given, c .strip-arg2 .given))
+
+add-k : tie.Need-add-k Inv-loop μ-loop
+add-k c = omega (arith, room (c .before .before .before .before .before), c .before .before .strip .ensures .0, c .before .before .before .before .strip-arg .given)
 
 loop-less : tie.Need-loop-less Inv-loop μ-loop
-loop-less c = omega arith
+loop-less c = omega (arith, some (c .before .before .before .before .before), c .before .before .before .before .before .span .ensures .0, c .before .before .before .before .before .before .before .until .ensures .0, length-drop (c .before .before .before .before .before .before .before .before .before .before .loop .i) (c .before .before .before .before .before .before .before .before .before .before .before .before .before .args .x .now), length-drop (c .before .before .before .before .before .before .before .before .before .before .loop .i + c .before .before .before .before .before .before .before .until .result) (c .before .before .before .before .before .before .before .before .before .before .before .before .before .args .x .now))
 
 loop-again : tie.Need-loop-again Inv-loop μ-loop
 loop-again c =
-    let s = c .before .before .before .before .before .before .before .before .args .s in
-    let w = c .before .before .before .before .before .loop .inv .2 in
-    let e = left-part (text s) (w .rest) in (
-      omega (arith, length-drop (c .before .before .before .before .before .loop .i) (c .before .before .before .before .before .before .before .before .args .x .now)),
-      c .before .before .before .before .before .loop .inv .1,
-      writing-skip (text s) w (c .before .before .size .ensures .2 _ e) (ap (λ ts. flat (whole-of ts)) (with-out s (head (c .before .before .before)) (λ h. c .if1 .taken (c .before .state .ensures _ e ∙ h)))),
-    )
-
-mul-put-first : tie.Need-mul-put-first Inv-loop μ-loop
-mul-put-first c = omega (arith, room c)
-
-sub-put-first : tie.Need-sub-put-first Inv-loop μ-loop
-sub-put-first c = omega (arith, room c)
-
-part-put-first-start : tie.Need-part-put-first-start Inv-loop μ-loop
-part-put-first-start c = omega (arith, room c)
-
-part-put-first-end : tie.Need-part-put-first-end Inv-loop μ-loop
-part-put-first-end c = search needs
-
-put-first-requires : tie.Need-put-first-requires Inv-loop μ-loop
-put-first-requires c κs = (_, left-part (text (c .before .before .before .before .before .before .before .before .before .args .s)) (c .before .before .before .before .before .before .loop .inv .2 .rest), omega (arith, length-drop (c .before .before .before .before .before .before .loop .i) (c .before .before .before .before .before .before .before .before .before .args .x .now)), omega (arith, room (c .before), c .put-first-arg .given))
-
-add-k : tie.Need-add-k Inv-loop μ-loop
-add-k c = omega (arith, room (c .before .before .before .before), c .before .before .put-first .ensures _ (left-part (text (c .before .before .before .before .before .before .before .before .before .before .before .before .args .s)) (c .before .before .before .before .before .before .before .before .before .loop .inv .2 .rest)) .many, plain-length (first-of (c .before .before .before .before .before .before .before .before .before .loop .inv .2 .rest .left)))
-
-add-i-2 : tie.Need-add-i-2 Inv-loop μ-loop
-add-i-2 c = omega arith
-
-loop-less-2 : tie.Need-loop-less-2 Inv-loop μ-loop
-loop-less-2 c = omega arith
-
-loop-again-2 : tie.Need-loop-again-2 Inv-loop μ-loop
-loop-again-2 c =
-    let s = c .before .before .before .before .before .before .before .before .before .before .before .before .args .s in
-    let w = c .before .before .before .before .before .before .before .before .before .loop .inv .2 in
-    let e = left-part (text s) (w .rest) in (
-      omega (arith, length-drop (c .before .before .before .before .before .before .before .before .before .loop .i) (c .before .before .before .before .before .before .before .before .before .before .before .before .args .x .now)),
-      c .before .out .given .1 ∙ c .before .before .before .before .before .before .before .before .before .loop .inv .1,
-      writing-more (text s) w (c .before .before .before .before .before .before .size .ensures .2 _ e) (tokens-of (c .before .before .before .before)) (c .before .before .put-first .ensures _ e),
+    let s = c .before .before .before .before .before .before .before .before .before .before .before .before .before .args .s in
+    let w = here (c .before .before .before .before .before .before .before) in (
+      omega (arith, c .before .before .before .before .before .span .ensures .0, c .before .before .before .before .before .before .before .until .ensures .0, length-drop (c .before .before .before .before .before .before .before .before .before .before .loop .i) (c .before .before .before .before .before .before .before .before .before .before .before .before .before .args .x .now), length-drop (c .before .before .before .before .before .before .before .before .before .before .loop .i + c .before .before .before .before .before .before .before .until .result) (c .before .before .before .before .before .before .before .before .before .before .before .before .before .args .x .now)),
+      c .before .out .given .1 ∙ c .before .before .before .before .before .before .before .before .before .before .loop .inv .1,
+      writing-on (text s) w (c .before .before .before .before .before .span .result) (beyond (is s) (w .rest .left)) (left-parted (text s) (w .rest) (parted (c .before .before .before .before .before))) (with-span s (w .rest .left)) (c .before .before .strip .ensures .1 _ (its (c .before .before .before .before .before))),
     )
 
 same-length : tie.Need-same-length Inv-loop μ-loop
@@ -129,23 +160,29 @@ only-spec =
     Inv-loop
     μ-loop
     loop-holds
-    mul-y
-    sub-y
-    part-y-start
-    part-y-end
-    size-requires
-    state-requires
-    add-i
+    mul-until
+    sub-until
+    part-until-start
+    part-until-end
+    until-requires
+    add-a
+    mul-span
+    sub-span
+    part-span-start
+    part-span-end
+    span-requires
+    add-e
+    mul-strip
+    sub-strip
+    part-strip-start
+    part-strip-end
+    mul-strip-2
+    sub-strip-2
+    part-strip-start-2
+    part-strip-end-2
+    strip-requires
+    add-k
     loop-less
     loop-again
-    mul-put-first
-    sub-put-first
-    part-put-first-start
-    part-put-first-end
-    put-first-requires
-    add-k
-    add-i-2
-    loop-less-2
-    loop-again-2
     same-length
     returns)

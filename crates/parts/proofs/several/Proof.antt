@@ -1,91 +1,65 @@
-use mathlib.Core.Path.{_≡_, refl, sym, ap, _∙_}
-use mathlib.Core.Logic.{⊎-elim}
-use Prim.Native.Nat.{ℕ, _+_, _-_, _≤_, _<_}
 use native.Mathlib.Omega.{arith}
-use lib.ListN.{length, drop, length-drop}
-use borrow.Author.Tests.{le-leb, lt-leb}
-use Rattle.tokens.specs.Tokens.{Judged, encode, number}
-use Rattle.tokens.specs.Views.{state-of, first-of, rest-of}
-use Rattle.parts.specs.Writers.{with-state}
-use Rattle.parts.proofs.Laws.{at-first, totals-none, many, with-in, with-out}
-use Rattle.parts.proofs.Walks.{Left, left-all, left-part, left-some, left-next, left-none}
+use mathlib.Core.Path.{_≡_, _∙_, sym, ap}
+use Prim.Native.Nat.{_-_}
+use borrow.Author.Tests.{lt-leb}
+use lib.ListN.{length, take, drop, length-drop}
+use Rattle.tokens.specs.Tokens.{Judged, encode}
+use Rattle.tokens.proofs.Laws.{whole}
+use Rattle.spans.specs.Spans.{is-not, beyond}
+use Rattle.parts.proofs.Laws.{many}
+use Rattle.parts.proofs.States.{until-none, until-any, until-two}
+use borrow.Author.Needs.{needs}
+use borrow.Author.Needs.{needs}
 use Rattle.parts.proofs.several.Statement.{statement}
 use Rattle.parts.proofs.several.Tie as tie
 use Rattle.parts.proofs.several.Reads as reads
 use Rattle.parts.proofs.several.Lts as lts
-use Rattle.tokens.proofs.size.Reads as size-reads
-use Rattle.tokens.proofs.state.Reads as state-reads
+use Rattle.spans.proofs.until.Reads as until-reads
+use Rattle.tokens.proofs.rest.Reads as rest-reads
 
-abbrev Inv-loop : tie.InvT-loop
-Inv-loop x s n₀ i₀ n i = (i ≤ length x) × (n ≤ 1) × Left (many s) (λ a. n + a) x i
+-- The items from the first one of state s.
+its : (c : tie.Else1) (j : Judged) → c .before .before .before .args .x .now ≡ encode j → take (length (c .before .before .before .args .x .now) - c .before .until .result) (drop (c .before .until .result) (c .before .before .before .args .x .now)) ≡ encode (beyond (is-not (c .before .before .before .args .s)) j)
+its c j e = whole (c .before .before .before .args .x .now) (c .before .until .result) ∙ c .before .until .ensures .1 j e .back
 
-abbrev μ-loop : tie.MeasureT-loop
-μ-loop x s n₀ i₀ n i = length x - i
+until-requires : tie.Need-until-requires
+until-requires c κs = search needs
 
-loop-holds : tie.Need-loop-holds Inv-loop μ-loop
-loop-holds c = (omega arith, omega arith, left-all (many (c .before .args .s)) (λ a. 0 + a) (c .before .pre) (λ a. omega arith))
+returns : tie.Need-returns
+returns c = λ j e. sym (lt-leb 2 (many (c .before .before .before .args .s) j) (omega (arith, ap length (until-none (c .before .before .before .args .s) j (c .before .until .ensures .1 j e) (c .before .until .ensures .0) (c .if1 .taken)))))
 
-mul-y : tie.Need-mul-y Inv-loop μ-loop
-mul-y c = omega arith
+mul-rest : tie.Need-mul-rest
+mul-rest c = search needs
 
-sub-y : tie.Need-sub-y Inv-loop μ-loop
-sub-y c = omega arith
+sub-rest : tie.Need-sub-rest
+sub-rest c = search needs
 
-part-y-start : tie.Need-part-y-start Inv-loop μ-loop
-part-y-start c = omega arith
+part-rest-start : tie.Need-part-rest-start
+part-rest-start c = search needs
 
-part-y-end : tie.Need-part-y-end Inv-loop μ-loop
-part-y-end c = omega arith
+part-rest-end : tie.Need-part-rest-end
+part-rest-end c = search needs
 
-state-requires : tie.Need-state-requires Inv-loop μ-loop
-state-requires c κs = ((_, left-part (many (c .before .before .before .before .args .s)) (c .before .before .loop .inv .2)), omega (arith, length-drop (c .before .before .loop .i) (c .before .before .before .before .args .x .now)))
+rest-requires : tie.Need-rest-requires
+rest-requires c κs = ((_, its (c .before) (c .before .before .before .before .pre .0 .0) (c .before .before .before .before .pre .0 .1)), omega (arith, length-drop (c .before .before .until .result) (c .before .before .before .before .args .x .now), c .before .before .until .ensures .0, c .before .if1 .left))
 
-returns : tie.Need-returns Inv-loop μ-loop
-returns c =
-    λ j e.
-    let s = c .before .before .before .before .before .before .before .args .s in
-    let l = c .before .before .before .before .before .loop .inv .2 in
-    let a = at-first (l .left) (left-some (many s) l (c .before .before .before .before .loop-test .taken)) in
-    let es = c .before .before .state .ensures _ (left-part (many s) l) in
-    sym (le-leb 2 (many s j) (omega (arith, l .same j e, ap length (with-in s a (sym es ∙ c .before .if1 .taken)), c .if2 .taken)))
+until-requires-2 : tie.Need-until-requires-2
+until-requires-2 c κs = ((_, c .rest .ensures .1 _ (its (c .before .before) (c .before .before .before .before .before .pre .0 .0) (c .before .before .before .before .before .pre .0 .1))), c .before .before .before .before .before .pre .1)
 
-size-requires : tie.Need-size-requires Inv-loop μ-loop
-size-requires c κs = ((_, left-part (many (c .before .before .before .before .before .before .args .s)) (c .before .before .before .before .loop .inv .2)), omega (arith, length-drop (c .before .before .before .before .loop .i) (c .before .before .before .before .before .before .args .x .now)))
-
-add-i : tie.Need-add-i Inv-loop μ-loop
-add-i c = omega arith
-
-loop-less : tie.Need-loop-less Inv-loop μ-loop
-loop-less c = omega arith
-
-loop-again : tie.Need-loop-again Inv-loop μ-loop
-loop-again c =
-    let s = c .before .before .before .before .before .before .before .args .s in
-    let l = c .before .before .before .before .before .loop .inv .2 in
-    let a = at-first (l .left) (left-some (many s) l (c .before .before .before .before .loop-test .taken)) in
-    let es = c .before .before .state .ensures _ (left-part (many s) l) in
-    let one : c .before .before .before .before .before .loop .n + many s (l .left) ≡ c .before .if1 .n + many s (rest-of (l .left)) =
-    ⊎-elim (λ w. omega (arith, w .1 .left, w .2, ap length (with-in s a (sym es ∙ w .0 .taken)))) (λ w. omega (arith, w .1, ap length (with-out s a (λ h. w .0 .left (es ∙ h))))) (c .before .if1 .came) in
-    (omega (arith, length-drop (c .before .before .before .before .before .loop .i) (c .before .before .before .before .before .before .before .args .x .now)), ⊎-elim (λ w. omega arith) (λ w. omega arith) (c .before .if1 .came), left-next (many s) l (λ a. c .before .if1 .n + a) (c .size .ensures .2 _ (left-part (many s) l)) one)
-
-returns-2 : tie.Need-returns-2 Inv-loop μ-loop
-returns-2 c = λ j e. sym (lt-leb 2 (many (c .before .before .before .args .s) j) (omega (arith, left-none (many (c .before .before .before .args .s)) (c .before .loop .inv .2) (omega arith) j e, ap (λ ts. length (with-state (c .before .before .before .args .s) ts)) totals-none)))
+returns-2 : tie.Need-returns-2
+returns-2 c = λ j e.
+    let y = c .before .rest .ensures .1 _ (its (c .before .before .before) j e) in
+    until-two (c .before .before .before .before .before .before .args .s) j (c .before .before .before .before .until .ensures .1 j e) (c .before .before .before .before .until .ensures .0) (c .before .before .before .if1 .left) (until-any (c .before .before .before .before .before .before .args .s) _ (c .until2 .ensures .1 _ y) (c .until2 .ensures .0))
 
 pub several-spec : {M : Type 1} → statement M
 several-spec =
     tie.close
     (tie.spec
-    Inv-loop
-    μ-loop
-    loop-holds
-    mul-y
-    sub-y
-    part-y-start
-    part-y-end
-    state-requires
+    until-requires
     returns
-    size-requires
-    add-i
-    loop-less
-    loop-again
+    mul-rest
+    sub-rest
+    part-rest-start
+    part-rest-end
+    rest-requires
+    until-requires-2
     returns-2)
