@@ -11,11 +11,23 @@ use Rattle.orders.specs.Reduce.{pack}
 use Rattle.orders.proofs.Laws.{forest-assoc, forest-nil}
 use Rattle.tokens.specs.Tokens.{State, E, F, L, R, X, number, Judged, j-nil, j-leaf, j-node, tree, plain, encode}
 use Rattle.tokens.specs.Views.{shape-of, state-of, first-of, items-of, rest-of}
+use Rattle.spans.specs.Spans.{is-not, passing, beyond}
 use Rattle.judge.specs.Judge.{rises}
 use Rattle.judge.specs.Total.{Total, states-of, whole-of, partial-of, linear-of, mirrored-of, total-by, totals}
 use Rattle.parts.specs.Writers.{flat, with-state, from-partial, in-line, first-in-line, all-in-line, near, far, p-in-line, c-in-line}
 use Rattle.parts.proofs.Laws.{AtFirst, at-first, totals-none, flat-append}
+use Rattle.parts.proofs.Walks.{passing-text}
+use Rattle.parts.proofs.States.{not-state}
 use Rattle.parts.proofs.Totals.{partial-from, partial-more, from-is, lines-is, mirrored-lines-is, p-linear-is, p-mirrored-is}
+
+-- The states at the ends of a line are E and F.
+pub near-small : (back : Bool) → near back ≤ 4
+near-small false = omega arith
+near-small true = omega arith
+
+pub far-small : (back : Bool) → far back ≤ 4
+far-small false = omega arith
+far-small true = omega arith
 
 -- An item that stays as it is: a leaf; a node whose state is not 2.
 node-kept : (back : Bool) (s : State) (k : Kind) (i : Forest) (ts : List Total) → (number s ≡ 2 → ⊥) → in-line back (total-by s k i ts) ≡ node k i nil
@@ -106,6 +118,12 @@ pub lines-length : (back : Bool) {j : Judged} → AtFirst j → length (flat (al
     ≡ length (flat (first-in-line back (totals j))) + length (flat (all-in-line back (totals (rest-of j))))
 lines-length back {j} a =
     ap length (lines-split back a) ∙ length-append (flat (first-in-line back (totals j))) (flat (all-in-line back (totals (rest-of j))))
+
+-- Items in other states than L stand as they are.
+pub lines-until : (back : Bool) (j : Judged)
+    → flat (all-in-line back (totals j)) ≡ encode (plain (tree (passing (is-not 2) j))) ++ flat (all-in-line back (totals (beyond (is-not 2) j)))
+lines-until back = passing-text (is-not 2) (λ j. flat (all-in-line back (totals j)))
+    (λ k h t. lines-split back (at-first k h) ∙ ap (λ (l : List ℕ). l ++ flat (all-in-line back (totals (rest-of k)))) (line-kept back k (not-state t)))
 
 pub lines-back-length : (back : Bool) {j : Judged} → AtFirst j → length (flat (all-in-line back (reverse (totals j))))
     ≡ length (flat (all-in-line back (reverse (totals (rest-of j))))) + length (flat (first-in-line back (totals j)))

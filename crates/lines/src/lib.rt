@@ -81,17 +81,14 @@ pub fn lines(x: &[u16], back: bool, out: &mut [u16]) -> usize
     ensures { λ r. ⌜ ((j : Judged) → now (x .entry) ≡ encode j
         → Wrote (flat (all-in-line back (totals j))) (now (out .entry)) (now (out .exit)) r) ⌝ }
 {
-    let mut i = 0;
-    while i < x.len() {
-        let y = &x[i..];
-        if tokens::state(y) == 2 {
-            let k = tokens::strip(&x[0..i], out);
-            let m = k + line(y, back, &mut out[k..]);
-            return m + lines(tokens::rest(y), back, &mut out[m..]);
-        }
-        i += tokens::size(y);
+    let i = spans::until(x, 2);
+    let k = tokens::strip(&x[0..i], out);
+    if i == x.len() {
+        return k;
     }
-    tokens::strip(&x[0..i], out)
+    let y = &x[i..];
+    let m = k + line(y, back, &mut out[k..]);
+    m + lines(tokens::rest(y), back, &mut out[m..])
 }
 
 // Writes the lines of all items, from the last to the first.

@@ -26,10 +26,10 @@ module _ {p : ℕ → Bool} {x : List ℕ} (j : Judged) {r : ℕ} (w : Parted p 
   pub some-beyond : r ≤ length x → (r ≡ length x → ⊥) → 0 < length (encode (beyond p j))
   some-beyond h n = omega (arith, ap length (w .back), length-drop r x)
 
-is-state : {n s : ℕ} → is s n ≡ true → n ≡ s
+pub is-state : {n s : ℕ} → is s n ≡ true → n ≡ s
 is-state {n} {s} = eqb-true n s
 
-not-state : {n s : ℕ} → is-not s n ≡ true → n ≡ s → ⊥
+pub not-state : {n s : ℕ} → is-not s n ≡ true → n ≡ s → ⊥
 not-state {n} {s} t = eqb-false n s (not-true (eqb n s) t)
 
 -- The items of state s are those beyond the others.

@@ -18,7 +18,7 @@ use Rattle.lines.proofs.+line+line_c+line_p+lines+lines_back.Proof.Cycl
 use Rattle.lines.proofs.+line+line_c+line_p+lines+lines_back.Proof.Line.{line-calls, line-returns, line-shape-requires, line-first-requires, line-strip-requires, line-same-length, line-returns-2, line-state-requires, line-first-requires-2, line-strip-requires-2, line-same-length-2, line-returns-3, line-items-requires, line-line-c-requires, line-same-length-3, line-returns-4, line-items-requires-2, line-line-p-requires, line-same-length-4, line-returns-5}
 use Rattle.lines.proofs.+line+line_c+line_p+lines+lines_back.Proof.LineC.{line-c-calls, line-c-rises-requires, line-c-lines-back-requires, line-c-same-length, line-c-returns, line-c-lines-requires, line-c-same-length-2, line-c-returns-2}
 use Rattle.lines.proofs.+line+line_c+line_p+lines+lines_back.Proof.LineP.{line-p-calls, line-p-near-requires, line-p-pack-state-requires, line-p-find-partial-requires, line-p-mul-line, line-p-sub-line, line-p-part-line-start, line-p-part-line-end, line-p-line-requires, line-p-add-j, line-p-far-requires, line-p-mul-pack-state, line-p-sub-pack-state, line-p-part-pack-state-start, line-p-part-pack-state-end, line-p-pack-state-requires-2, line-p-same-length, line-p-returns, line-p-add-result}
-use Rattle.lines.proofs.+line+line_c+line_p+lines+lines_back.Proof.Lines.{lines-Inv-loop, lines-μ-loop, lines-calls, lines-loop-holds, lines-mul-y, lines-sub-y, lines-part-y-start, lines-part-y-end, lines-state-requires, lines-sub-strip, lines-part-strip-start, lines-part-strip-end, lines-strip-requires, lines-mul-line, lines-sub-line, lines-part-line-start, lines-part-line-end, lines-line-requires, lines-add-m, lines-rest-requires, lines-mul-lines, lines-sub-lines, lines-part-lines-start, lines-part-lines-end, lines-lines-requires, lines-add-result, lines-same-length, lines-returns, lines-size-requires, lines-add-i, lines-loop-less, lines-loop-again, lines-sub-strip-2, lines-part-strip-start-2, lines-part-strip-end-2, lines-strip-requires-2, lines-same-length-2, lines-returns-2}
+use Rattle.lines.proofs.+line+line_c+line_p+lines+lines_back.Proof.Lines.{lines-calls, lines-until-requires, lines-sub-strip, lines-part-strip-start, lines-part-strip-end, lines-strip-requires, lines-same-length, lines-returns, lines-mul-y, lines-sub-y, lines-part-y-start, lines-part-y-end, lines-mul-line, lines-sub-line, lines-part-line-start, lines-part-line-end, lines-line-requires, lines-add-m, lines-rest-requires, lines-mul-lines, lines-sub-lines, lines-part-lines-start, lines-part-lines-end, lines-lines-requires, lines-add-result, lines-same-length-2, lines-returns-2}
 use Rattle.lines.proofs.+line+line_c+line_p+lines+lines_back.Proof.LinesBack.{lines-back-calls, lines-back-returns, lines-back-rest-requires, lines-back-lines-back-requires, lines-back-mul-line, lines-back-sub-line, lines-back-part-line-start, lines-back-part-line-end, lines-back-line-requires, lines-back-same-length, lines-back-returns-2, lines-back-add-result}
 use Rattle.lines.proofs.+line+line_c+line_p+lines+lines_back.{statement}
 use Rattle.lines.proofs.+line+line_c+line_p+lines+lines_back.Tie.{close}
@@ -81,18 +81,17 @@ pub +line+line-c+line-p+lines+lines-back-spec : {M : Type 1} → statement M
     (λ t. lines-lts.spec (lines-calls t)
     (lines-at t)
     lines.Post
-    lines-Inv-loop
-    lines-μ-loop
-    (lines-loop-holds t)
-    (lines-mul-y t)
-    (lines-sub-y t)
-    (lines-part-y-start t)
-    (lines-part-y-end t)
-    (lines-state-requires t)
+    (lines-until-requires t)
     (lines-sub-strip t)
     (lines-part-strip-start t)
     (lines-part-strip-end t)
     (lines-strip-requires t)
+    (lines-same-length t)
+    (lines-returns t)
+    (lines-mul-y t)
+    (lines-sub-y t)
+    (lines-part-y-start t)
+    (lines-part-y-end t)
     (lines-mul-line t)
     (lines-sub-line t)
     (lines-part-line-start t)
@@ -106,16 +105,6 @@ pub +line+line-c+line-p+lines+lines-back-spec : {M : Type 1} → statement M
     (lines-part-lines-end t)
     (lines-lines-requires t)
     (lines-add-result t)
-    (lines-same-length t)
-    (lines-returns t)
-    (lines-size-requires t)
-    (lines-add-i t)
-    (lines-loop-less t)
-    (lines-loop-again t)
-    (lines-sub-strip-2 t)
-    (lines-part-strip-start-2 t)
-    (lines-part-strip-end-2 t)
-    (lines-strip-requires-2 t)
     (lines-same-length-2 t)
     (lines-returns-2 t))
     λ t. lines-back-lts.spec (lines-back-calls t)

@@ -8,7 +8,7 @@ use Rattle.orders.specs.Reduce.{pack}
 use Rattle.tokens.proofs.Writes.{wrote-then}
 use Rattle.judge.specs.Total.{whole-of, totals}
 use Rattle.parts.specs.Writers.{flat, with-state, from-partial, first-in-line, far}
-use Rattle.lines.proofs.Laws.{p-split, p-length}
+use Rattle.lines.proofs.Laws.{p-split, p-length, near-small, far-small}
 use Prim.Native.Nat.{ℕ}
 use Rattle.lines.proofs.line.Reads as line
 use Rattle.lines.proofs.line_p.Reads as line-p
@@ -27,7 +27,7 @@ line-p-near-requires t c κs = tt
 
 pub line-p-pack-state-requires : (t : ℕ) → line-p-lts.Need-pack-state-requires (line-p-calls t) (line-p-at t) line-p.Post
 line-p-pack-state-requires t c κs =
-    let p = c .before .before .before .before .pre .1 .0 in ((_, p .1, omega (arith, p .2, p-length (c .before .before .before .before .args .back) (p .0) (c .before .near .ensures) refl)), c .before .before .before .before .pre .1 .1)
+    let p = c .before .before .before .before .pre .1 .0 in ((_, p .1, omega (arith, p .2, p-length (c .before .before .before .before .args .back) (p .0) (c .before .near .ensures) refl)), c .before .before .before .before .pre .1 .1, omega (arith, c .before .near .ensures, near-small (c .before .before .before .before .args .back)))
 
 pub line-p-find-partial-requires : (t : ℕ) → line-p-lts.Need-find-partial-requires (line-p-calls t) (line-p-at t) line-p.Post
 line-p-find-partial-requires t c κs = (_, c .before .before .before .before .before .before .before .pre .1 .0 .1)
@@ -97,6 +97,7 @@ line-p-pack-state-requires-2 t c κs =
         ),
       ),
       c .before .before .before .before .before .before .before .before .before .before .before .before .before .before .pre .1 .1,
+      omega (arith, c .before .far .ensures, far-small (c .before .before .before .before .before .before .before .before .before .before .before .before .before .before .args .back)),
     )
 
 pub line-p-same-length : (t : ℕ) → line-p-lts.Need-same-length (line-p-calls t) (line-p-at t) line-p.Post
