@@ -17,9 +17,12 @@ use Rattle.tokens.specs.Views.{shape-of, state-of, first-of, items-of, rest-of}
 use Rattle.tokens.proofs.Laws.{at-end}
 use Rattle.tokens.proofs.Sequences.{plain-length}
 use Rattle.tokens.proofs.Writes.{read-back}
+use Rattle.spans.specs.Spans.{is, passing, beyond}
 use Rattle.judge.specs.Total.{Total, whole-of, partial-of, first-reduced, mirrored-lines, c-node-of, middle-of, gather-of, reduced-of, total-by, totals}
 use Rattle.parts.specs.Writers.{flat, with-state, all-with-state, from-partial, in-line, first-in-line, all-in-line, gathered}
-use Rattle.parts.proofs.Laws.{flat-nil, flat-append, flat-p, AtFirst, at-first, starts, totals-none, whole-totals, all-empty-is, c-node-length, insert-length}
+use Rattle.parts.proofs.Laws.{flat-nil, flat-append, flat-p, AtFirst, at-first, starts, totals-none, flat-whole, all-empty-is, c-node-length, insert-length}
+use Rattle.parts.proofs.Walks.{passing-text}
+use Rattle.parts.proofs.States.{is-state}
 use Rattle.update.specs.Update.{Begins}
 use Rattle.parts.proofs.Totals.{partial-none, partial-more, mirrored-lines-is, p-reduced-is}
 
@@ -124,15 +127,15 @@ middle-empty {j} a h =
     rw (a .split, a .its-state, eq-eqb (number (state-of j)) 0 h)
     (flat-append (one (a .head .item)) (middle-of (totals (rest-of j))) ∙ ap (λ (l : List ℕ). l ++ flat (middle-of (totals (rest-of j)))) (a .its-tokens))
 
+-- The empty items at the front stand as they are.
+pub middle-span : (j : Judged) → flat (middle-of (totals j)) ≡ encode (plain (tree (passing (is 0) j))) ++ flat (middle-of (totals (beyond (is 0) j)))
+middle-span = passing-text (is 0) (λ j. flat (middle-of (totals j))) (λ k h t. middle-empty (at-first k h) (is-state t))
+
 in-reduced : {j : Judged} (a : AtFirst j) → first-reduced (totals j) ≡ a .head .reduced
 in-reduced a = rw (a .split)
 
 in-first : (back : Bool) {j : Judged} (a : AtFirst j) → first-in-line back (totals j) ≡ in-line back (a .head)
 in-first back a = rw (a .split)
-
-flat-whole : (j : Judged) → flat (whole-of (totals j)) ≡ encode (plain (tree j))
-unfolding flat
-flat-whole j = rw (whole-totals j)
 
 pub middle-last : {j : Judged} (a : AtFirst j) → (number (state-of j) ≡ 0 → ⊥) → all-with-state 0 (totals (rest-of j)) ≡ true
     → flat (middle-of (totals j)) ≡ flat (first-reduced (totals j)) ++ encode (plain (tree (rest-of j)))

@@ -51,16 +51,12 @@ fn middle(x: &[u16], out: &mut [u16], tmp: &mut [u16]) -> usize
     ensures { λ r. ⌜ ((j : Judged) → now (x .entry) ≡ encode j
         → Begins (flat (middle-of (totals j))) (now (out .exit)) r) ⌝ }
 {
-    let mut i = 0;
-    while i < x.len() {
-        let y = &x[i..];
-        if tokens::state(y) != 0 {
-            let k = tokens::strip(&x[0..i], out);
-            return k + peak(y, &mut out[k..], tmp);
-        }
-        i += tokens::size(y);
+    let i = spans::span(x, 0);
+    let k = tokens::strip(&x[0..i], out);
+    if i == x.len() {
+        return k;
     }
-    tokens::strip(&x[0..i], out)
+    k + peak(&x[i..], &mut out[k..], tmp)
 }
 
 // The same, where the first item is not empty.

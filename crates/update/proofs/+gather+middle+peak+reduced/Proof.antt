@@ -13,7 +13,7 @@ use Rattle.update.proofs.reduced.Reads as reduced
 use Rattle.update.proofs.+gather+middle+peak+reduced.Lts-reduced as reduced-lts
 use Rattle.update.proofs.+gather+middle+peak+reduced.Proof.Cycle.{μ-gather, μ-middle, μ-peak, μ-reduced, gather-at, middle-at, peak-at, reduced-at}
 use Rattle.update.proofs.+gather+middle+peak+reduced.Proof.Gather.{gather-calls, gather-find-partial-requires, gather-pack-state-requires, gather-same-length, gather-returns, gather-rest-requires, gather-find-partial-requires-2, gather-line-requires, gather-mul-pack-state, gather-sub-pack-state, gather-part-pack-state-start, gather-part-pack-state-end, gather-pack-state-requires-2, gather-add-k, gather-mul-line, gather-sub-line, gather-part-line-start, gather-part-line-end, gather-line-requires-2, gather-add-m, gather-sub-c-node, gather-part-c-node-start, gather-part-c-node-end, gather-c-node-requires, gather-same-length-2, gather-same-length-3, gather-returns-2, gather-count-requires, gather-reduced-requires, gather-same-length-4, gather-same-length-5, gather-returns-3, gather-pack-state-requires-3, gather-mul-line-2, gather-sub-line-2, gather-part-line-start-2, gather-part-line-end-2, gather-line-requires-3, gather-add-m-2, gather-sub-c-node-2, gather-part-c-node-start-2, gather-part-c-node-end-2, gather-c-node-requires-2, gather-same-length-6, gather-same-length-7, gather-returns-4}
-use Rattle.update.proofs.+gather+middle+peak+reduced.Proof.Middle.{middle-Inv-loop, middle-μ-loop, middle-calls, middle-loop-holds, middle-mul-y, middle-sub-y, middle-part-y-start, middle-part-y-end, middle-state-requires, middle-sub-strip, middle-part-strip-start, middle-part-strip-end, middle-strip-requires, middle-mul-peak, middle-sub-peak, middle-part-peak-start, middle-part-peak-end, middle-peak-requires, middle-add-result, middle-same-length, middle-same-length-2, middle-returns, middle-size-requires, middle-add-i, middle-loop-less, middle-loop-again, middle-sub-strip-2, middle-part-strip-start-2, middle-part-strip-end-2, middle-strip-requires-2, middle-same-length-3, middle-same-length-4, middle-returns-2}
+use Rattle.update.proofs.+gather+middle+peak+reduced.Proof.Middle.{middle-calls, middle-span-requires, middle-sub-strip, middle-part-strip-start, middle-part-strip-end, middle-strip-requires, middle-same-length, middle-returns, middle-mul-peak, middle-sub-peak, middle-part-peak-start, middle-part-peak-end, middle-mul-peak-2, middle-sub-peak-2, middle-part-peak-start-2, middle-part-peak-end-2, middle-peak-requires, middle-add-result, middle-same-length-2, middle-same-length-3, middle-returns-2}
 use Rattle.update.proofs.+gather+middle+peak+reduced.Proof.Peak.{peak-calls, peak-rest-requires, peak-all-of-state-requires, peak-reduced-requires, peak-rest-requires-2, peak-mul-strip, peak-sub-strip, peak-part-strip-start, peak-part-strip-end, peak-strip-requires, peak-add-result, peak-same-length, peak-same-length-2, peak-returns, peak-line-requires, peak-rest-requires-3, peak-mul-lines, peak-sub-lines, peak-part-lines-start, peak-part-lines-end, peak-lines-requires, peak-add-result-2, peak-same-length-3, peak-returns-2}
 use Rattle.update.proofs.+gather+middle+peak+reduced.Proof.Reduced.{reduced-calls, reduced-returns, reduced-shape-requires, reduced-first-requires, reduced-strip-requires, reduced-same-length, reduced-returns-2, reduced-state-requires, reduced-first-requires-2, reduced-strip-requires-2, reduced-same-length-2, reduced-returns-3, reduced-items-requires, reduced-middle-requires, reduced-sub-c-node, reduced-part-c-node-start, reduced-part-c-node-end, reduced-c-node-requires, reduced-same-length-3, reduced-same-length-4, reduced-returns-4, reduced-items-requires-2, reduced-gather-requires, reduced-items-requires-3, reduced-sub-among, reduced-part-among-start, reduced-part-among-end, reduced-among-requires, reduced-same-length-5, reduced-same-length-6, reduced-returns-5}
 use Rattle.update.proofs.+gather+middle+peak+reduced.{statement}
@@ -71,37 +71,25 @@ pub +gather+middle+peak+reduced-spec : {M : Type 1} → statement M
     (λ t. middle-lts.spec (middle-calls t)
     (middle-at t)
     middle.Post
-    middle-Inv-loop
-    middle-μ-loop
-    (middle-loop-holds t)
-    (middle-mul-y t)
-    (middle-sub-y t)
-    (middle-part-y-start t)
-    (middle-part-y-end t)
-    (middle-state-requires t)
+    (middle-span-requires t)
     (middle-sub-strip t)
     (middle-part-strip-start t)
     (middle-part-strip-end t)
     (middle-strip-requires t)
+    (middle-same-length t)
+    (middle-returns t)
     (middle-mul-peak t)
     (middle-sub-peak t)
     (middle-part-peak-start t)
     (middle-part-peak-end t)
+    (middle-mul-peak-2 t)
+    (middle-sub-peak-2 t)
+    (middle-part-peak-start-2 t)
+    (middle-part-peak-end-2 t)
     (middle-peak-requires t)
     (middle-add-result t)
-    (middle-same-length t)
     (middle-same-length-2 t)
-    (middle-returns t)
-    (middle-size-requires t)
-    (middle-add-i t)
-    (middle-loop-less t)
-    (middle-loop-again t)
-    (middle-sub-strip-2 t)
-    (middle-part-strip-start-2 t)
-    (middle-part-strip-end-2 t)
-    (middle-strip-requires-2 t)
     (middle-same-length-3 t)
-    (middle-same-length-4 t)
     (middle-returns-2 t))
     (λ t. peak-lts.spec (peak-calls t)
     (peak-at t)

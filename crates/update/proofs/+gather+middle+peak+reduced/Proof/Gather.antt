@@ -29,7 +29,7 @@ pub gather-find-partial-requires : (t : ℕ) → gather-lts.Need-find-partial-re
 gather-find-partial-requires t c κs = (_, c .before .before .before .pre .1 .0 .1)
 
 pub gather-pack-state-requires : (t : ℕ) → gather-lts.Need-pack-state-requires (gather-calls t) (gather-at t) gather.Post
-gather-pack-state-requires t c κs = let p = c .before .before .before .before .before .before .pre .1 .0 in ((_, p .1, omega (arith, p .2, ap (λ (f : Forest). length (flat f)) (gather-none (p .0) (c .before .before .find-partial .ensures .1 (p .0) (p .1)) (c .before .if1 .taken)))), c .before .before .before .before .before .before .pre .1 .1)
+gather-pack-state-requires t c κs = let p = c .before .before .before .before .before .before .pre .1 .0 in ((_, p .1, omega (arith, p .2, ap (λ (f : Forest). length (flat f)) (gather-none (p .0) (c .before .before .find-partial .ensures .1 (p .0) (p .1)) (c .before .if1 .taken)))), c .before .before .before .before .before .before .pre .1 .1, omega arith)
 
 pub gather-same-length : (t : ℕ) → gather-lts.Need-same-length (gather-calls t) (gather-at t) gather.Post
 gather-same-length t c = c .before .before .pack-state .kept .1 .1 .0
@@ -68,7 +68,7 @@ pub gather-part-pack-state-end : (t : ℕ) → gather-lts.Need-part-pack-state-e
 gather-part-pack-state-end t c = search needs
 
 pub gather-pack-state-requires-2 : (t : ℕ) → gather-lts.Need-pack-state-requires-2 (gather-calls t) (gather-at t) gather.Post
-gather-pack-state-requires-2 t c κs = let p = c .before .before .before .before .before .before .before .before .before .before .before .before .before .pre .1 .0 in ((_, p .1, omega (arith, room-1 t (c .before), c .before .before .before .line .kept .1 .1 .0, c .before .before .before .before .before .before .before .before .before .before .before .before .before .pre .1 .3, c .pack-state-arg2 .given)), c .before .before .before .before .before .before .before .before .before .before .before .before .before .pre .1 .1)
+gather-pack-state-requires-2 t c κs = let p = c .before .before .before .before .before .before .before .before .before .before .before .before .before .pre .1 .0 in ((_, p .1, omega (arith, room-1 t (c .before), c .before .before .before .line .kept .1 .1 .0, c .before .before .before .before .before .before .before .before .before .before .before .before .before .pre .1 .3, c .pack-state-arg2 .given)), c .before .before .before .before .before .before .before .before .before .before .before .before .before .pre .1 .1, omega arith)
 
 pub room-2 : (t : ℕ) (c : gather-lts.After-slice-known5 (gather-calls t) (gather-at t) gather.Post)
     → 1 + (c .before .before .before .before .before .before .line .result + c .before .before .pack-state2 .result + length (flat (first-in-line true (totals (second (c .before .before .before .before .before .before .before .before .before .before .before .before .before .before .before .before .pre .1 .0 .0)))))) ≤ length (c .before .before .before .before .before .before .before .before .before .before .before .before .before .before .before .before .args .tmp .now)
@@ -141,7 +141,7 @@ pub one-long : (t : ℕ) (c : gather-lts.Else3 (gather-calls t) (gather-at t) ga
 one-long t c = let p = c .before .before .before .before .before .before .before .before .before .before .pre .1 .0 in let y = c .before .before .before .before .before .before .find-partial .ensures .1 (p .0) (p .1) in beside-length (p .0) (gather-some (p .0) y (c .before .before .before .before .before .if1 .left) (c .before .before .before .find-partial2 .ensures .1 _ (c .before .before .before .before .rest .ensures .1 _ y)) (c .before .before .if2 .left) (c .before .count .ensures .1 (p .0) (p .1)) (c .if3 .left))
 
 pub gather-pack-state-requires-3 : (t : ℕ) → gather-lts.Need-pack-state-requires-3 (gather-calls t) (gather-at t) gather.Post
-gather-pack-state-requires-3 t c κs = let p = c .before .before .before .before .before .before .before .before .before .before .before .pre .1 .0 in ((_, p .1, omega (arith, p .3, one-long t (c .before))), c .before .before .before .before .before .before .before .before .before .before .before .pre .1 .1)
+gather-pack-state-requires-3 t c κs = let p = c .before .before .before .before .before .before .before .before .before .before .before .pre .1 .0 in ((_, p .1, omega (arith, p .3, one-long t (c .before))), c .before .before .before .before .before .before .before .before .before .before .before .pre .1 .1, omega arith)
 
 pub room-4 : (t : ℕ) (c : gather-lts.After-slice-known10 (gather-calls t) (gather-at t) gather.Post)
     → 1 + (c .before .before .pack-state3 .result + length (flat (first-in-line true (totals (from-partial (c .before .before .before .before .before .before .before .before .before .before .before .before .before .before .pre .1 .0 .0)))))) ≤ length (c .before .before .before .before .before .before .before .before .before .before .before .before .before .before .args .tmp .now)

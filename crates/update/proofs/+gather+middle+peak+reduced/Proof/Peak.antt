@@ -30,7 +30,7 @@ pub peak-rest-requires : (t : ℕ) → peak-lts.Need-rest-requires (peak-calls t
 peak-rest-requires t c κs = ((_, c .before .before .before .pre .1 .0 .1), omega arith)
 
 pub peak-all-of-state-requires : (t : ℕ) → peak-lts.Need-all-of-state-requires (peak-calls t) (peak-at t) peak.Post
-peak-all-of-state-requires t c κs = let p = c .before .before .before .before .pre .1 .0 in (_, c .rest .ensures .1 (p .0) (p .1))
+peak-all-of-state-requires t c κs = let p = c .before .before .before .before .pre .1 .0 in ((_, c .rest .ensures .1 (p .0) (p .1)), omega arith)
 
 pub peak-reduced-requires : (t : ℕ) → peak-lts.Need-reduced-requires (peak-calls t) (peak-at t) peak.Post
 peak-reduced-requires t c κs = let p = c .before .before .before .before .before .before .before .before .pre .1 .0 in let l = last-length (starts (p .0) (p .1) (λ z. omega (arith, z, c .before .before .before .before .before .before .before .before .pre .1 .4))) (c .before .before .before .before .before .before .before .before .pre .1 .5 (p .0) (p .1)) (sym (c .before .before .before .all-of-state .ensures _ (c .before .before .before .before .rest .ensures .1 (p .0) (p .1))) ∙ c .before .before .if1 .taken) in (omega arith, ((_, p .1, omega (arith, p .2, l), omega (arith, p .3, l)), c .before .before .before .before .before .before .before .before .pre .1 .1, c .before .before .before .before .before .before .before .before .pre .1 .2, c .before .before .before .before .before .before .before .before .pre .1 .3))
