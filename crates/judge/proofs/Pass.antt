@@ -1,31 +1,23 @@
 -- The judging pass, item by item.
 use mathlib.Core.Path.{_≡_, refl, sym, ap, _∙_}
-use mathlib.Core.Bool.{Bool, true, false, not}
-use mathlib.Core.List.{List, [], _∷_, _++_, append-assoc, append-nil}
+use mathlib.Core.List.{List, _∷_, _++_, append-assoc, append-nil}
 use Prim.Native.Nat.{ℕ, zero, suc, _+_, _-_, _%_, _≤_, _<_}
 use native.Mathlib.Omega.{arith}
-use lib.Dec.{eqb}
 use native.Mathlib.Numerals.{add-one}
 use lib.ListN.{length, take, drop, getD, set, length-drop, take-append-drop}
 use lib.Seq.{length-take-le, append-snoc, take-append-seam, drop-drop, set-at, drop-at}
 use Rattle.orders.specs.CircularOrder.{Restriction}
-use Rattle.orders.specs.Tree.{Kind, P, C, Forest, nil, leaf, node, items}
-use Rattle.orders.specs.Form.{Single}
-use Rattle.orders.specs.Reduce.{reduce}
-use Rattle.orders.proofs.Laws.{Forked}
+use Rattle.orders.specs.Tree.{Kind, P, C, items}
 use Rattle.tokens.specs.Tokens.{State, number, Judged, j-nil, j-leaf, j-node, tree, j-append, leaf-token, node-token, encode, Tokens, Wrote}
 use Rattle.tokens.specs.Views.{shape-of, state-of, leaf-of, first-of, items-of, rest-of}
 use Rattle.tokens.proofs.Laws.{number-small, at-end}
 use Rattle.tokens.proofs.Sequences.{plain-length, encode-append}
 use Rattle.tokens.proofs.Writes.{take-more}
-use Rattle.judge.specs.Judge.{can-reduce, leaf-state, node-state, states, judge}
-use Rattle.judge.specs.Automaton.{Run, p0, start-of, step, runs, reads, verdict, code}
-use Rattle.judge.specs.Total.{when, is-some, first-reduced, totals}
-use Rattle.judge.proofs.Words.{each}
+use Rattle.judge.specs.Judge.{leaf-state, node-state, states, judge}
+use Rattle.judge.specs.Automaton.{p0, start-of, runs, reads, verdict, code}
 use Rattle.judge.proofs.Automaton.{judges}
 use Rattle.judge.proofs.Items.{some-items}
 use Rattle.judge.proofs.Judged.{judge-length}
-use Rattle.judge.proofs.Reduces.{reduce-total}
 
 -- A token with another state.
 relabel-leaf : (s z : State) (b : ℕ) → leaf-token z b ≡ leaf-token s b - leaf-token s b % 8 + number z
@@ -157,26 +149,3 @@ module _ (S : Restriction) where
       let was : out ≡ take p old ++ ((j ++ b) ++ drop (length x) old) = w (inner k) (rw ep (inner-items k x i d h)) ∙ rw (judge-append (items-of k) (rest-of k)) in
       rw (many, ea, was, drop-at (take p old) ((j ++ b) ++ drop (length x) old) p (length-take-le p old (omega arith)), append-assoc)
       (take-append-seam j (b ++ drop (length x) old))
-
--- The tree alone, read as the one item of a P-node.
-alone : (s : State) → not (eqb (number (verdict (step p0 s))) 4) ≡ can-reduce s
-unfolding verdict step reads node-state
-alone = each (λ s. not (eqb (number (verdict (step p0 s))) 4) ≡ can-reduce s) refl refl refl refl refl
-
-is-when : (b : Bool) (f : Forest) → is-some (when b f) ≡ b
-is-when true f = refl
-is-when false f = refl
-
-pub single-verdict : (S : Restriction) (t : Forest) → Single (items t) → not (eqb (number (verdict (runs p0 (states (judge S t))))) 4) ≡ can-reduce (state-of (judge S t))
-unfolding judge state-of verdict reads node-state
-single-verdict S nil h = refl
-single-verdict S (leaf b nil) h = alone (leaf-state (S b))
-single-verdict S (leaf b (leaf c f)) h = absurd h
-single-verdict S (leaf b (node k i f)) h = absurd h
-single-verdict S (node k i nil) h = alone (node-state k (states (judge S i)))
-single-verdict S (node k i (leaf c f)) h = absurd h
-single-verdict S (node k i (node l g f)) h = absurd h
-
-pub verdict-possible : (S : Restriction) (t : Forest) → Single (items t) → Forked t → not (eqb (number (verdict (runs p0 (states (judge S t))))) 4) ≡ is-some (reduce S t)
-verdict-possible S t one h =
-    single-verdict S t one ∙ sym (ap is-some (reduce-total S t h) ∙ is-when (can-reduce (state-of (judge S t))) (first-reduced (totals (judge S t))))

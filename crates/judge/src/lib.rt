@@ -1,17 +1,14 @@
-// The judge: each item of a tree in tokens is labelled with its state under a restriction, and so whether the restriction is possible.
+// The judge: each item of a tree in tokens is labelled with its state under a restriction. The state of the whole tree says whether the
+// restriction is possible.
 ghost use mathlib.Core.Path.{_≡_};
 ghost use mathlib.Core.List.{[]};
 ghost use Prim.Native.Nat.{ℕ, _<_, _≤_};
 ghost use lib.ListN.{length, getD};
-ghost use Rattle.orders.specs.Tree.{items};
-ghost use Rattle.orders.specs.Form.{Single, Every, TwoItems};
-ghost use Rattle.orders.specs.Reduce.{reduce};
 ghost use Rattle.marks.specs.Marks.{marked};
 ghost use Rattle.tokens.specs.Tokens.{State, number, Judged, tree, encode, Tokens, Wrote};
 ghost use Rattle.tokens.specs.Views.{shape-of, leaf-of};
 ghost use Rattle.judge.specs.Judge.{leaf-state, states, judge};
 ghost use Rattle.judge.specs.Automaton.{Run, start-of, step, runs, verdict, code};
-ghost use Rattle.judge.specs.Total.{is-some};
 
 // The automaton in numbers: a row for each run, and in it the run after one more item of each state.
 const MOVES: [[u8; 5]; 17] = [
@@ -120,13 +117,4 @@ pub fn judge(toks: &[u16], marks: &[u64], run: u8, out: &mut [u16]) -> u8
         out[i] = t - t % 8 + s;
     }
     run_on(&out[0..n], &moves, run)
-}
-
-// Whether the marked leaves can be made consecutive. judged is scratch.
-pub fn possible(toks: &[u16], marks: &[u64], judged: &mut [u16]) -> bool
-    requires { ⌜ (Tokens (now toks)) × (length (now toks) ≤ length (now judged)) ⌝ }
-    ensures { λ r. ⌜ ((j : Judged) → now (toks .entry) ≡ encode j → Single (items (tree j)) → Every (λ k i. TwoItems (items i)) (tree j)
-        → r ≡ is-some (reduce (marked (now (marks .entry))) (tree j))) ⌝ }
-{
-    verdict(judge(toks, marks, 0, judged)) != 4
 }

@@ -135,23 +135,6 @@ pub fn is_empty(words: &[u64]) -> bool
     true
 }
 
-// Whether the two have the same words. (Slices of different lengths have not.)
-pub fn equal(a: &[u64], b: &[u64]) -> bool
-    ensures { λ r. ⌜ r ≡ same (now (a .entry)) (now (b .entry)) ⌝ }
-{
-    if a.len() != b.len() {
-        return false;
-    }
-    let mut i = 0;
-    while i < a.len() {
-        if a[i] != b[i] {
-            return false;
-        }
-        i += 1;
-    }
-    true
-}
-
 // How many marks the word has.
 fn count(word: u64) -> usize
     ensures { λ r. ⌜ (r ≡ ones word) × (r ≤ 64) ⌝ }

@@ -128,9 +128,6 @@ pub flat-whole : (j : Judged) → flat (whole-of (totals j)) ≡ encode (plain (
 unfolding flat
 flat-whole j = ap flat (whole-totals j)
 
-pub flat-head : {j : Judged} (a : AtFirst j) (f : Forest) → flat (put (a .head .item) f) ≡ encode (plain (tree (first-of j))) ++ flat f
-flat-head a f = flat-put (a .head .item) f ∙ ap (λ (l : List ℕ). l ++ flat f) (a .its-tokens)
-
 pub whole-items : (ts : List Total) → length (items (whole-of ts)) ≡ length ts
 whole-items [] = refl
 whole-items (t ∷ ts) = rw (items-put (t .item) (whole-of ts), whole-items ts)
@@ -254,11 +251,6 @@ pack-many f h = rw (lt-ltb 1 (length (items f)) (omega arith))
 
 pub flat-pack : (f : Forest) {k : ℕ} → (length (items f) < 2 → ⊥) → k ≡ length (flat f) → flat (pack f) ≡ (32 * k + 8) ∷ flat f
 flat-pack f h e = ap flat (pack-many f h) ∙ flat-p f e
-
-pub pack-le : (f : Forest) → length (flat (pack f)) ≤ 1 + length (flat f)
-pack-le f =
-    cond-cases (ltb 1 (length (items f))) (node P f nil) f (λ g. length (flat g) ≤ 1 + length (flat f))
-    (λ y. omega (arith, ap length (flat-p f refl))) (λ n. omega arith)
 
 -- The items of a state as at most one item; r is how many they are.
 pub packs-few : (s : ℕ) (j : Judged) {r : ℕ} → r ≡ length (with-state s (totals j)) → r < 2

@@ -1,15 +1,15 @@
 -- Going along the items of a sequence that pass a test, up to the first that does not.
 use mathlib.Core.Path.{_≡_, refl, sym, ap, _∙_}
 use mathlib.Core.Bool.{Bool, true, false}
-use mathlib.Core.List.{List, [], _∷_, _++_}
+use mathlib.Core.List.{List, _∷_}
 use Prim.Native.Nat.{ℕ, zero, suc, _+_, _-_, _%_, _≤_, _<_}
 use native.Mathlib.Omega.{arith}
-use lib.ListN.{length, take, drop, getD, length-append, length-drop}
+use lib.ListN.{length, take, drop, getD, length-drop}
 use lib.Seq.{drop-cons, drop-drop, drop-append-seam, take-add, take-append-seam}
 use Rattle.orders.proofs.ListLaws.{cond-cases}
-use Rattle.tokens.specs.Tokens.{number, Judged, j-nil, j-leaf, j-node, j-append, leaf-token, node-token, encode, Tokens}
+use Rattle.tokens.specs.Tokens.{number, Judged, j-nil, j-leaf, j-node, j-append, encode, Tokens}
 use Rattle.tokens.specs.Views.{state-of, first-of, rest-of}
-use Rattle.tokens.proofs.Laws.{number-small, at-end, encode-split, whole, leaf-even, leaf-state, node-odd}
+use Rattle.tokens.proofs.Laws.{at-end, encode-split, whole, leaf-even, leaf-state, node-odd}
 use Rattle.tokens.proofs.Sequences.{encode-append, encode-injective}
 use Rattle.spans.specs.Spans.{passing, beyond, Parted}
 

@@ -3,13 +3,13 @@ use mathlib.Core.Path.{_≡_, refl, sym, ap, subst, _∙_}
 use mathlib.Core.List.{List, _∷_, _++_, append-assoc}
 use Prim.Native.Nat.{ℕ, suc, _+_, _-_, _/_, _%_, _≤_, _<_}
 use native.Mathlib.Omega.{arith}
-use lib.ListN.{length, take, drop, getD, length-drop, drop-of-length-le}
+use lib.ListN.{length, take, drop, getD, drop-of-length-le}
 use lib.Seq.{drop-drop, drop-cons, drop-append-seam}
 use Rattle.orders.specs.Tree.{Forest, nil, leaf, node, append, frontier}
 use Rattle.orders.specs.Form.{first}
 use Rattle.tokens.specs.Tokens.{Judged, j-nil, j-leaf, j-node, tree, j-append, encode, Tokens}
 use Rattle.tokens.specs.Views.{first-of, items-of, rest-of}
-use Rattle.tokens.proofs.Laws.{at-end, leaf-even, leaf-number, node-odd, node-size, encode-split, sizes, size-leaf, whole}
+use Rattle.tokens.proofs.Laws.{at-end, leaf-even, leaf-number, node-odd, node-size, encode-split, size-leaf, whole}
 use Rattle.tokens.proofs.Sequences.{encode-append, tree-append}
 
 -- At index i of the tokens of any sequence j stand those of a sequence k, and the two are as Q says.
@@ -78,16 +78,6 @@ next-token {l} {i} h n go = record {
       let r = h .at j e in
       (opened (r .0), sym (drop-drop 1 i l) ∙ rw (r .1) (encode-opened (r .0)), go j (r .0) (here-at l i (r .0) n (r .1)) (r .2));
 }
-
--- The first item, of m tokens, is the last one or not.
-item-sizes : {l : List ℕ} {i m : ℕ} {k : Judged} → Here l i k → m ≡ length (encode (first-of k)) → m + length (encode (rest-of k)) ≡ length l - i
-item-sizes {l} {i} {k = k} p h = omega (arith, sizes k (p .part), ap length (whole l i), length-drop i l)
-
-pub last-item : {l : List ℕ} {i m : ℕ} {k : Judged} → Here l i k → m ≡ length (encode (first-of k)) → i + m ≡ length l → rest-of k ≡ j-nil
-last-item {k = k} p h e = at-end (rest-of k) refl (omega (arith, item-sizes p h))
-
-pub more-items : {l : List ℕ} {i m : ℕ} {k : Judged} → Here l i k → m ≡ length (encode (first-of k)) → (i + m ≡ length l → ⊥) → 0 < length (encode (rest-of k))
-more-items {l} {i} p h e = omega (arith, item-sizes p h, ap length (p .part), ap length (whole l i), length-drop i l)
 
 -- The first leaf, by the first token.
 leaf-is : (k : Judged) → 0 < length (encode k) → getD (encode k) 0 0 / 8 % 2 ≡ 0 → first (tree k) ≡ getD (encode k) 0 0 / 16

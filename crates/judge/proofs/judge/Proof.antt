@@ -1,18 +1,18 @@
 use Rattle.tokens.proofs.Laws.{whole}
 use mathlib.Core.Path.{_≡_, refl, sym, ap, _∙_}
-use Prim.Native.Nat.{ℕ, _+_, _*_, _-_, _≤_, _<_}
+use Prim.Native.Nat.{ℕ, _+_, _-_, _≤_}
 use native.Mathlib.Omega.{arith}
 use borrow.Author.Needs.{needs}
 use lib.ListN.{length, take, drop, length-drop, length-set}
 use Rattle.marks.specs.Marks.{marked}
 use Rattle.tokens.specs.Tokens.{number, Judged, tree, encode, Tokens}
-use Rattle.tokens.specs.Views.{first-of, items-of, rest-of}
+use Rattle.tokens.specs.Views.{items-of}
 use Rattle.tokens.proofs.Writes.{read-part}
-use Rattle.judge.specs.Judge.{states, judge}
-use Rattle.judge.specs.Automaton.{start-of, step, runs, code}
+use Rattle.judge.specs.Judge.{judge}
+use Rattle.judge.specs.Automaton.{start-of, step, code}
 use Rattle.judge.proofs.Tables.{move-table, moves-small, code-small}
-use Rattle.judge.proofs.Items.{from-items, some-items}
-use Rattle.judge.proofs.Pass.{suffix, state-at, leaf-at, node-at, JudgedFrom, judged-none, judged-all, judged-more, judged-part}
+use Rattle.judge.proofs.Items.{from-items}
+use Rattle.judge.proofs.Pass.{suffix, leaf-at, node-at, JudgedFrom, judged-none, judged-all, judged-more, judged-part}
 use Rattle.judge.proofs.judge.Statement.{statement}
 use Rattle.judge.proofs.judge.Tie as tie
 use Rattle.judge.proofs.judge.Reads as reads

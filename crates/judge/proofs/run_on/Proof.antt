@@ -1,12 +1,11 @@
-use mathlib.Core.Path.{_≡_, refl, sym, ap, _∙_}
-use Prim.Native.Nat.{_+_, _*_, _-_, _≤_, _<_}
+use mathlib.Core.Path.{_≡_, sym, ap, _∙_}
+use Prim.Native.Nat.{_-_, _≤_, _<_}
 use native.Mathlib.Omega.{arith}
-use borrow.Author.Needs.{needs}
 use lib.ListN.{length, take, drop, length-drop}
 use lib.Seq.{drop-drop}
 use borrow.Author.Tests.{eq-eqb}
 use Rattle.tokens.specs.Tokens.{number, Judged, encode}
-use Rattle.tokens.specs.Views.{state-of, first-of, rest-of}
+use Rattle.tokens.specs.Views.{state-of, rest-of}
 use Rattle.tokens.proofs.Laws.{number-small, at-end, whole}
 use Rattle.spans.specs.Spans.{is, beyond, Parted}
 use Rattle.spans.proofs.Laws.{parted-some}

@@ -1,14 +1,12 @@
-use mathlib.Core.Path.{_≡_, refl, sym, ap, _∙_}
-use mathlib.Core.List.{List, _++_}
+use mathlib.Core.Path.{_≡_, refl, ap, _∙_}
+use mathlib.Core.List.{List}
 use Prim.Native.Nat.{ℕ, _+_, _-_, _≤_, _<_}
 use native.Mathlib.Omega.{arith}
 use borrow.Author.Needs.{needs}
 use lib.ListN.{length, take, drop, length-append, length-drop}
-use Rattle.tokens.specs.Tokens.{Judged, tree, plain, encode, number}
-use Rattle.tokens.specs.Views.{state-of}
+use Rattle.tokens.specs.Tokens.{Judged, tree, plain, encode}
 use Rattle.tokens.proofs.Laws.{whole}
 use Rattle.spans.specs.Spans.{is, is-not, passing, beyond, Parted}
-use Rattle.spans.proofs.Laws.{parted-some, parted-first}
 use Rattle.judge.specs.Total.{whole-of, totals}
 use Rattle.parts.specs.Writers.{flat, with-state}
 use Rattle.parts.proofs.Laws.{totals-none, flat-nil}

@@ -1,11 +1,11 @@
 use native.Mathlib.Omega.{arith}
-use mathlib.Core.Path.{_≡_, _∙_, ap}
+use mathlib.Core.Path.{_≡_, _∙_}
 use Prim.Native.Nat.{_-_}
 use lib.ListN.{length, take, drop, length-drop}
 use Rattle.tokens.specs.Tokens.{Judged, encode}
 use Rattle.tokens.proofs.Laws.{whole}
 use Rattle.spans.specs.Spans.{is, beyond}
-use Rattle.parts.proofs.States.{some-beyond, rises-none, rises-stop, rises-go}
+use Rattle.parts.proofs.States.{rises-none, rises-stop, rises-go}
 use borrow.Author.Needs.{needs}
 use borrow.Author.Needs.{needs}
 use Rattle.parts.proofs.rises.Statement.{statement}

@@ -1,7 +1,7 @@
 -- A C-node's items: the empty ones at the front, and the others.
 use mathlib.Core.Path.{_≡_, refl, sym, ap, _∙_}
-use mathlib.Core.List.{List, [], _++_, append-nil}
-use Prim.Native.Nat.{ℕ, _+_, _-_, _≤_, _<_}
+use mathlib.Core.List.{List, [], append-nil}
+use Prim.Native.Nat.{ℕ, _+_, _-_, _≤_}
 use lib.ListN.{length, take, drop, length-append, length-drop}
 use native.Mathlib.Omega.{arith}
 use borrow.Author.Needs.{needs}
