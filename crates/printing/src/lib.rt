@@ -92,7 +92,7 @@ fn print_end(
         return put(b"order", out, at);
     }
     if j == 1 {
-        return fields::put_names(file, names, head, lines, order, out, at);
+        return series::put_names(file, names, head, lines, order, out, at);
     }
     if j == 2 {
         return put(b"tree", out, at);

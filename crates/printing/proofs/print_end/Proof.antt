@@ -8,7 +8,7 @@ use Rattle.printing.proofs.print_end.Statement.{statement}
 use Rattle.printing.proofs.print_end.Tie as tie
 use Rattle.printing.proofs.print_end.Reads as reads
 use Rattle.printing.proofs.print_end.Lts as lts
-use Rattle.fields.proofs.put_names.Reads as put-names-reads
+use Rattle.series.proofs.put_names.Reads as put-names-reads
 use Rattle.output.proofs.put.Reads as put-reads
 use Rattle.output.proofs.put_tree.Reads as put-tree-reads
 

@@ -7,7 +7,7 @@ use lib.ListN.{length, getD, take, drop}
 use lib.Seq.{take-length}
 use Rattle.orders.specs.Lists.{All}
 use Rattle.ringfile.specs.RingFile.{Name, Holds}
-use Rattle.fields.specs.Fields.{between}
+use Rattle.series.specs.Series.{between}
 
 -- What stands after the first element.
 abbrev pub tail : List ℕ → List ℕ

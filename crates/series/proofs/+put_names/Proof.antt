@@ -6,18 +6,18 @@ use denote.Ref.{now}
 use lib.ListN.{length, getD}
 use Rattle.output.proofs.Laws.{appends-none, appends-then, appends-as}
 use Rattle.ringfile.specs.RingFile.{Holds}
-use Rattle.fields.specs.Fields.{name}
-use Rattle.fields.proofs.Words.{words-none, words-one, words-more, all-first, all-tail, name-few}
+use Rattle.series.specs.Series.{name}
+use Rattle.series.proofs.Words.{words-none, words-one, words-more, all-first, all-tail, name-few}
 use Prim.Native.Nat.{ℕ, _+_, _-_, _≤_, _<_}
 use borrow.Fn.Kinds.{In}
 use borrow.Fn.PlainCycle.{Measures, is, falls, and}
-use Rattle.fields.proofs.put_names.Reads as put-names
-use Rattle.fields.proofs.put_names.Kinds as put-names-kinds
-use Rattle.fields.proofs.+put_names.Lts-put_names as put-names-lts
+use Rattle.series.proofs.put_names.Reads as put-names
+use Rattle.series.proofs.put_names.Kinds as put-names-kinds
+use Rattle.series.proofs.+put_names.Lts-put_names as put-names-lts
 use Rattle.output.proofs.put.Reads as put-reads
 use Rattle.ringfile.proofs.name_of.Reads as name-of-reads
-use Rattle.fields.proofs.+put_names.{statement}
-use Rattle.fields.proofs.+put_names.Tie.{close}
+use Rattle.series.proofs.+put_names.{statement}
+use Rattle.series.proofs.+put_names.Tie.{close}
 
 abbrev μ-put-names : Measures 3 put-names-kinds.ps ℕ
 μ-put-names κs a = length (a .1 .1 .1 .1 .0 .now)

@@ -5,17 +5,17 @@ use denote.Ref.{now}
 use lib.ListN.{length, getD}
 use Rattle.orders.specs.TreeText.{digits}
 use Rattle.output.proofs.Laws.{appends-none, appends-then}
-use Rattle.fields.proofs.Words.{words-none, words-one, words-more, all-first, all-tail}
+use Rattle.series.proofs.Words.{words-none, words-one, words-more, all-first, all-tail}
 use Prim.Native.Nat.{ℕ, _+_, _-_, _≤_, _<_}
 use borrow.Fn.Kinds.{In}
 use borrow.Fn.PlainCycle.{Measures, is, falls, and}
-use Rattle.fields.proofs.put_conflicts.Reads as put-conflicts
-use Rattle.fields.proofs.put_conflicts.Kinds as put-conflicts-kinds
-use Rattle.fields.proofs.+put_conflicts.Lts-put_conflicts as put-conflicts-lts
+use Rattle.series.proofs.put_conflicts.Reads as put-conflicts
+use Rattle.series.proofs.put_conflicts.Kinds as put-conflicts-kinds
+use Rattle.series.proofs.+put_conflicts.Lts-put_conflicts as put-conflicts-lts
 use Rattle.output.proofs.put.Reads as put-reads
 use Rattle.output.proofs.put_number.Reads as put-number-reads
-use Rattle.fields.proofs.+put_conflicts.{statement}
-use Rattle.fields.proofs.+put_conflicts.Tie.{close}
+use Rattle.series.proofs.+put_conflicts.{statement}
+use Rattle.series.proofs.+put_conflicts.Tie.{close}
 
 abbrev μ-put-conflicts : Measures 3 put-conflicts-kinds.ps ℕ
 μ-put-conflicts κs a = length (a .0 .now)
