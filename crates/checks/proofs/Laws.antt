@@ -18,8 +18,8 @@ use Rattle.calls.specs.Refusals.{refuse, down, bad-size, short, short-nodes}
 use Rattle.calls.specs.Calls.{is-none, table-checks, tree-checks, ring-checks}
 use Rattle.calls.proofs.NodeTables.{tree-in-holds}
 use Rattle.calls.proofs.Demands.{size-fine, nodes-fine}
-use Rattle.records.specs.declared.Walked.the-variants.{Found}
-use Rattle.records.specs.Walks.{Loads}
+use Rattle.walks.specs.declared.Walked.the-variants.{Found}
+use Rattle.walks.specs.Walks.{Loads}
 use Rattle.checks.specs.declared.Lent.{Lent}
 use Rattle.checks.specs.declared.Lent.the-variants.{Refused}
 use Rattle.checks.specs.Lent.{TableLent, TreeLent, LendsTree, RingLent, LendsRing}

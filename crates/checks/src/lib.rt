@@ -8,7 +8,7 @@ ghost use Rattle.book.specs.Lists.{verdict};
 ghost use Rattle.checks.specs.Lent.{LendsTree, LendsRing};
 use book::Checked;
 use calls::Refusal;
-use records::Walked;
+use walks::Walked;
 
 // The lent tree, in this many tokens; or why the call is refused.
 pub enum Lent {

@@ -21,7 +21,7 @@ use Rattle.marks.proofs.Leaves.{marked-group, size-of-list}
 use Rattle.aim.specs.Starts.{Within}
 use Rattle.aim.proofs.Sizes.{count-in-is, perm-count, all-standard}
 use Rattle.fields.specs.Ordered.{Ordered}
-use Rattle.fields.proofs.Words.{all-at}
+use Rattle.series.proofs.Words.{all-at}
 
 module _ {n : ℕ} {order : List ℕ} (o : Ordered n order) where
   pub order-length : length order ≡ n

@@ -1,4 +1,3 @@
-pub mod Words
 pub mod Conflicting
 pub mod Aiming
 pub mod Telling

@@ -23,15 +23,16 @@ use Rattle.ringfile.specs.declared.Scanned.{Scanned}
 use Rattle.ringfile.specs.declared.Scanned.the-variants.{Ring, Refused}
 use Rattle.ringfile.specs.RingFile.{Value, file-bytes, Rules, leaves-on, RefusedAt, Accepted, Holds, Says}
 use Rattle.ringfile.proofs.Answers.{ring-holds, refused-byte, refused-is, refused-at}
-use Rattle.ringfile.proofs.Exact.{parts-once, not-both, one-byte}
+use Rattle.syntax.proofs.Exact.{parts-once, not-both, one-byte}
 use Rattle.ledger.specs.Ledger.{State, opened, run, state-at}
 use Rattle.ledger.specs.Stands.{lists-of, StandsAt}
 use Rattle.ledger.proofs.Runs.{state-all}
 use Rattle.ledger.proofs.Files.{few-names, lists-length}
 use Rattle.fields.specs.Ordered.{Ordered}
 use Rattle.listing.specs.declared.Piece.{Piece}
-use Rattle.listing.specs.Listing.{listing, error-line, printed}
-use Rattle.listing.specs.Printing.{final, Final, Parts}
+use Rattle.printing.specs.Listing.{listing, error-line, printed}
+use Rattle.printing.specs.Printing.{final, Final}
+use Rattle.listing.specs.Parts.{Parts}
 use Rattle.listing.specs.Lists.{Lists, accepted, too-long, malformed, Listed}
 use Rattle.listing.proofs.Parts.{shown-none}
 

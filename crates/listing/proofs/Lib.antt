@@ -1,5 +1,2 @@
-pub mod Sample
-pub mod Lines
-pub mod Printing
 pub mod Parts
 pub mod Answers

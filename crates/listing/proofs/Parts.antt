@@ -9,9 +9,9 @@ use Rattle.tokens.proofs.Writes.{wrote-none}
 use Rattle.output.specs.Appends.{Appends}
 use Rattle.ringfile.specs.RingFile.{Value, value-word, further, line, value-lines, file-bytes, Holds}
 use Rattle.listing.specs.declared.Piece.{Piece}
-use Rattle.listing.specs.Listing.{printed}
-use Rattle.listing.specs.Printing.{Parts}
-use Rattle.listing.proofs.Lines.{printed-none, printed-more}
+use Rattle.printing.specs.Listing.{printed}
+use Rattle.listing.specs.Parts.{Parts}
+use Rattle.printing.proofs.Lines.{printed-none, printed-more}
 
 -- A file has fewer group lines than bytes.
 further-some : (ws : List (List ℕ)) → 1 ≤ length (further ws)

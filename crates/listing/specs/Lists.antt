@@ -4,8 +4,8 @@ use mathlib.Core.List.{List, [], _∷_, map}
 use Prim.Native.Nat.{ℕ, _≤_, _<_}
 use lib.ListN.{length}
 use Rattle.ringfile.specs.RingFile.{Value, file-bytes, Rules, leaves-on, RefusedAt}
-use Rattle.listing.specs.Listing.{listing, error-line}
-use Rattle.listing.specs.Printing.{Parts}
+use Rattle.printing.specs.Listing.{listing, error-line}
+use Rattle.listing.specs.Parts.{Parts}
 use Rattle.listing.specs.declared.Piece.{Piece}
 
 -- An accepted file has its listing. "A malformed file gives only `error 11 at byte B`"; above 65,536 bytes B is 65,536.

@@ -4,59 +4,7 @@ ghost use lib.ListN.{length};
 ghost use Rattle.orders.specs.Tree.{frontier};
 ghost use Rattle.orders.specs.Form.{standard};
 ghost use Rattle.tokens.specs.Tokens.{Judged, tree, encode, Wrote};
-ghost use Rattle.order.specs.Room.{Room};
-
-// Writes the leaves of a P-node's items, left to right, to the start of order, and says how many.
-fn collect_p(toks: &[u16], order: &mut [u16]) -> usize
-    requires { ⌜ Room frontier (now toks) (length (now order)) ⌝ }
-    ensures { λ r. ⌜ ((j : Judged) → now (toks .entry) ≡ encode j → Wrote (frontier (tree j)) (now (order .entry)) (now (order .exit)) r) ⌝ }
-{
-    let mut k = 0;
-    let mut i = 0;
-    while i < toks.len() {
-        let t = toks[i];
-        if t / 8 % 2 == 0 {
-            order[k] = t / 16;
-            k += 1;
-            i += 1;
-            continue;
-        }
-        let inner = tokens::items(&toks[i..]);
-        i += tokens::size(&toks[i..]);
-        if t / 8 % 4 == 3 {
-            k += collect_c(inner, &mut order[k..]);
-            continue;
-        }
-        k += collect_p(inner, &mut order[k..]);
-    }
-    k
-}
-
-// Writes the leaves of a C-node's items, left to right, to the start of order, and says how many.
-fn collect_c(toks: &[u16], order: &mut [u16]) -> usize
-    requires { ⌜ Room frontier (now toks) (length (now order)) ⌝ }
-    ensures { λ r. ⌜ ((j : Judged) → now (toks .entry) ≡ encode j → Wrote (frontier (tree j)) (now (order .entry)) (now (order .exit)) r) ⌝ }
-{
-    let mut k = 0;
-    let mut i = 0;
-    while i < toks.len() {
-        let t = toks[i];
-        if t / 8 % 2 == 0 {
-            order[k] = t / 16;
-            k += 1;
-            i += 1;
-            continue;
-        }
-        let inner = tokens::items(&toks[i..]);
-        i += tokens::size(&toks[i..]);
-        if t / 8 % 4 == 1 {
-            k += collect_p(inner, &mut order[k..]);
-            continue;
-        }
-        k += collect_c(inner, &mut order[k..]);
-    }
-    k
-}
+ghost use Rattle.frontier.specs.Room.{Room};
 
 // Writes leaf 1 and then the leaves of the tree, left to right, to the start of order, and says how many.
 pub fn standard_order(toks: &[u16], order: &mut [u16]) -> usize
@@ -64,5 +12,5 @@ pub fn standard_order(toks: &[u16], order: &mut [u16]) -> usize
     ensures { λ r. ⌜ ((j : Judged) → now (toks .entry) ≡ encode j → Wrote (standard (tree j)) (now (order .entry)) (now (order .exit)) r) ⌝ }
 {
     order[0] = 1;
-    1 + collect_p(toks, &mut order[1..])
+    1 + frontier::collect_p(toks, &mut order[1..])
 }

@@ -33,7 +33,7 @@ pub fn put_number(v: usize, out: &mut [u8], at: usize) -> usize
     requires { ⌜ at + 20 ≤ length (now out) ⌝ }
     ensures { λ r. ⌜ (r ≤ at + 20) × (Appends (digits v) at (now (out .entry)) (now (out .exit)) r) ⌝ }
 {
-    at + text::write_number(v, &mut out[at..])
+    at + spelling::write_number(v, &mut out[at..])
 }
 
 // Appends the tree text of a tree in tokens.
@@ -41,5 +41,5 @@ pub fn put_tree(toks: &[u16], out: &mut [u8], at: usize) -> usize
     requires { ⌜ TextFits (now toks) at (length (now out)) ⌝ }
     ensures { λ r. ⌜ ((j : Judged) → now (toks .entry) ≡ encode j → Appends (tree-text (tree j)) at (now (out .entry)) (now (out .exit)) r) ⌝ }
 {
-    at + text::tree_text(toks, &mut out[at..])
+    at + spelling::tree_text(toks, &mut out[at..])
 }

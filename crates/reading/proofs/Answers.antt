@@ -14,7 +14,7 @@ use Rattle.scanner.specs.Rule.{broken-at}
 use Rattle.scanner.proofs.Exact.{refused-shape, accepted-shape, start-word, short-tree}
 use Rattle.scanner.proofs.Rule.{Least, fine, worst, broken-least}
 use Rattle.scanner.proofs.Canonical.{keeps-form}
-use Rattle.shape.specs.declared.Reached.{Reached}
+use Rattle.leaves.specs.declared.Reached.{Reached}
 use Rattle.shape.specs.Texts.{WordRead}
 use Rattle.shape.specs.Texts.{Spelled}
 

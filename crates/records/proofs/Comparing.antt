@@ -14,7 +14,7 @@ use Rattle.calls.specs.Tables.{padded}
 use Rattle.calls.proofs.NodeTables.{padded-length}
 use Rattle.tokens.specs.Tokens.{Wrote}
 use Rattle.tokens.proofs.Bits.{or-none}
-use Rattle.records.specs.Rows.{starts}
+use Rattle.rows.specs.Rows.{starts}
 
 -- A list begins with xs and then ys.
 pub starts-append : (xs ys l : List ℕ) → starts (xs ++ ys) l ≡ (starts xs l && starts ys (drop (length xs) l))

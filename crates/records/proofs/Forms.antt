@@ -13,7 +13,7 @@ use Rattle.calls.specs.NodeTable.{rows, table-of}
 use Rattle.calls.proofs.NodeTables.{Narrow, form-narrow, form-few, rows-length}
 use Rattle.tokens.specs.Tokens.{tree, plain, encode, Wrote}
 use Rattle.tokens.proofs.Sequences.{tree-plain, encode-injective}
-use Rattle.records.specs.Rows.{starts, Rowed, Formed}
+use Rattle.rows.specs.Rows.{starts, Rowed, Formed}
 use Rattle.records.proofs.Comparing.{starts-padded, zero-part}
 
 plain-injective : (t u : Forest) → encode (plain t) ≡ encode (plain u) → t ≡ u

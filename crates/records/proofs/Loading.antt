@@ -10,9 +10,9 @@ use Rattle.orders.specs.Tree.{Forest}
 use Rattle.orders.specs.Form.{in-form?}
 use Rattle.calls.specs.NodeTable.{table-of, Holds, spelled-tree, tree-in}
 use Rattle.tokens.specs.Tokens.{plain, encode, Wrote}
-use Rattle.records.specs.declared.Walked.{Walked}
-use Rattle.records.specs.declared.Walked.the-variants.{Found, Bad}
-use Rattle.records.specs.Walks.{Spells}
+use Rattle.walks.specs.declared.Walked.{Walked}
+use Rattle.walks.specs.declared.Walked.the-variants.{Found, Bad}
+use Rattle.walks.specs.Walks.{Spells}
 
 -- What a walk answers.
 pub spells-found : (n : ℕ) (table old new : List ℕ) {r : Walked} {k : ℕ} → r ≡ Found k → Spells n table old new r

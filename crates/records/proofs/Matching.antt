@@ -12,8 +12,8 @@ use Rattle.calls.proofs.NodeTables.{Narrow}
 use Rattle.tokens.specs.Tokens.{Judged, tree, encode}
 use Rattle.tokens.specs.Views.{shape-of}
 use Rattle.tokens.proofs.Steps.{opened}
-use Rattle.records.specs.Rows.{starts}
-use Rattle.records.proofs.Rows.{rows-leaf, Onward, onward-start, onward-leaf, onward-node, here-row, here-long, rows-first}
+use Rattle.rows.specs.Rows.{starts}
+use Rattle.rows.proofs.Rows.{rows-leaf, Onward, onward-start, onward-leaf, onward-node, here-row, here-long, rows-first}
 use Rattle.records.proofs.Comparing.{starts-not, starts-then}
 
 -- The table begins with the rows of j just when, after those of the records before next, it goes on with those of h.

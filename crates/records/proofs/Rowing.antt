@@ -9,7 +9,7 @@ use Rattle.tokens.specs.Tokens.{Judged, tree, encode, Wrote}
 use Rattle.tokens.specs.Views.{shape-of}
 use Rattle.tokens.proofs.Steps.{opened}
 use Rattle.tokens.proofs.Writes.{Written, written-start, written-same, written-then}
-use Rattle.records.proofs.Rows.{rows-leaf, Onward, onward-start, onward-leaf, onward-node, here-row, rows-first}
+use Rattle.rows.proofs.Rows.{rows-leaf, Onward, onward-start, onward-leaf, onward-node, here-row, rows-first}
 
 -- Of the rows of j, k numbers were written; those of h are left, their first record being next.
 pub record Rowing (r : ℕ) (old new : List ℕ) (next k : ℕ) (j h : Judged) : Type 0 where

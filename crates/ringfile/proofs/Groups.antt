@@ -13,7 +13,7 @@ use Rattle.orders.proofs.Ranges.{filter-different, in-filter, in-range}
 use Rattle.tokens.specs.Tokens.{Wrote}
 use Rattle.tokens.proofs.Writes.{write-step}
 use Rattle.ringfile.specs.RingFile.{Value, off, in-group, leaves-on, Rules}
-use Rattle.ringfile.specs.Words.{leaves-after}
+use Rattle.syntax.specs.Words.{leaves-after}
 
 -- The leaves of a group are different leaves of the ring.
 pub leaves-different : (vs : List Value) → Distinct (leaves-on vs)

@@ -1,113 +1,13 @@
--- Document 01, "Ring file and lister": the bytes of a ring file, the files that are accepted, and the byte at which any other is refused (11).
+-- What is said of a file. The ring file itself is defined in `syntax/specs/RingFile`, whose names are passed on here.
+use Prim.Native.Nat.{ℕ, _≤_, _<_}
 use mathlib.Core.Path.{_≡_}
-use mathlib.Core.Bool.{Bool, true, false}
-use mathlib.Core.List.{List, [], _∷_, _++_, map}
-use Prim.Native.Nat.{ℕ, zero, suc, _+_, _-_, _≤_, _<_}
-use lib.ListN.{length, take, drop, getD}
-use Rattle.orders.specs.Lists.{All, Distinct, In, filter, range}
+use mathlib.Core.List.{List}
+use lib.ListN.{length}
 use Rattle.calls.specs.declared.Refusal.the-variants.{RingFile}
 use Rattle.ringfile.specs.declared.Scanned.{Scanned}
 use Rattle.ringfile.specs.declared.Scanned.the-variants.{Ring, Refused}
-
--- "A to Z, a to z and 0 to 9".
-unfoldable pub alphabet : List ℕ
-alphabet = range 65 26 ++ (range 97 26 ++ range 48 10)
-
-abbrev pub NameByte : ℕ → Type 0
-NameByte b = In b alphabet
-
--- "Names are 1 to 8 bytes out of" these.
-pub record Name (w : List ℕ) : Type 0 where
-  pub some-byte : 1 ≤ length w
-  pub few-bytes : length w ≤ 8
-  pub each : All NameByte w
-
--- "All different, for bins 1 to n"; n is 1 to 256.
-pub record Names (ns : List (List ℕ)) : Type 0 where
-  pub some-name : 1 ≤ length ns
-  pub few-names : length ns ≤ 256
-  pub each : All Name ns
-  pub different : Distinct ns
-
--- "Values are `0`, `1`, or `-`, which means 0": the byte of each, and whether the leaf is in the group.
-pub data Value : Type 0 where
-  off on hyphen : Value
-
-abbrev pub value-byte : Value → ℕ
-value-byte off = 48
-value-byte on = 49
-value-byte hyphen = 45
-
-abbrev pub in-group : Value → Bool
-in-group off = false
-in-group on = true
-in-group hyphen = false
-
-abbrev pub value-word : Value → List ℕ
-value-word v = value-byte v ∷ []
-
--- "One space stands between, and every line ends with byte 10." The line of these words; what follows its first word.
-abbrev pub further : List (List ℕ) → List ℕ
-further [] = 10 ∷ []
-further (w ∷ ws) = 32 ∷ (w ++ further ws)
-
-abbrev pub line : List (List ℕ) → List ℕ
-line [] = 10 ∷ []
-line (w ∷ ws) = w ++ further ws
-
-abbrev pub value-lines : List (List Value) → List ℕ
-value-lines [] = []
-value-lines (vs ∷ vss) = line (map value-word vs) ++ value-lines vss
-
--- "A line of names, then lines of values in that order, one group a line, perhaps none."
-abbrev pub file-bytes : List (List ℕ) → List (List Value) → List ℕ
-file-bytes ns vss = line ns ++ value-lines vss
-
-pub record Rules (ns : List (List ℕ)) (vss : List (List Value)) : Type 0 where
-  pub names : Names ns
-  pub values : All (λ vs. length vs ≡ length ns) vss
-
--- Where word number k, from 0, of a line starts.
-abbrev pub place-of : List (List ℕ) → ℕ → ℕ
-place-of [] k = 0
-place-of (w ∷ ws) zero = 0
-place-of (w ∷ ws) (suc k) = length w + 1 + place-of ws k
-
--- Name number k, from 0, of the file x stands in s and the bytes after it, n of them.
-pub record NameAt (x : List ℕ) (ns : List (List ℕ)) (k s n : ℕ) : Type 0 where
-  pub starts : s ≡ place-of ns k
-  pub bytes : n ≡ length (getD ns k [])
-  pub name : take n (drop s x) ≡ getD ns k []
-
--- The group of a line: the leaves with the value `1`, rising. A leaf's number is its place in the line, from 1.
-unfoldable pub leaves-on : List Value → List ℕ
-leaves-on vs = filter (λ b. in-group (getD vs (b - 1) off)) (range 1 (length vs))
-
--- x is an accepted file, the size limit apart; some such file begins with x.
-pub record Accepted (x : List ℕ) : Type 0 where
-  pub ns : List (List ℕ)
-  pub vss : List (List Value)
-  pub rules : Rules ns vss
-  pub bytes : x ≡ file-bytes ns vss
-
-abbrev pub Begun : List ℕ → Type 0
-Begun x = (y : List ℕ) × Accepted (x ++ y)
-
--- "The first byte up to and including which no accepted file begins alike, the size limit apart, or the length if the file ends too soon."
-pub data RefusedAt (x : List ℕ) (p : ℕ) : Type 0 where
-  at-byte : p < length x → Begun (take p x) → (Begun (take (suc p) x) → ⊥) → RefusedAt x p
-  at-end : p ≡ length x → Begun x → (Accepted x → ⊥) → RefusedAt x p
-
--- x is accepted: a ring of n leaves, a names line of h bytes, and l lines of values.
-pub record Holds (x : List ℕ) (n h l : ℕ) : Type 0 where
-  pub ns : List (List ℕ)
-  pub vss : List (List Value)
-  pub rules : Rules ns vss
-  pub bytes : x ≡ file-bytes ns vss
-  pub size : length x ≤ 65536
-  pub leaves : n ≡ length ns
-  pub head : h ≡ length (line ns)
-  pub lines : l ≡ length vss
+unfoldable pub use Rattle.syntax.specs.RingFile.{alphabet, leaves-on}
+pub use Rattle.syntax.specs.RingFile.{NameByte, Name, Names, Value, off, on, hyphen, value-byte, in-group, value-word, further, line, value-lines, file-bytes, Rules, place-of, NameAt, Accepted, Begun, RefusedAt, at-byte, at-end, Holds}
 
 -- What is said of the file x. "A file above 65,536 bytes is refused first, at byte 65,536."
 pub data Says (x : List ℕ) : Scanned → Type 0 where

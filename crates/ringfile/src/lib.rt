@@ -1,14 +1,10 @@
 // The ring file: whether it is accepted, and its names and groups, read where they stand.
 ghost use mathlib.Core.Path.{_≡_};
-ghost use mathlib.Core.List.{List, [], _++_};
+ghost use mathlib.Core.List.{List, []};
 ghost use Prim.Native.Nat.{ℕ, _+_, _-_, _≤_, _<_};
-ghost use lib.ListN.{length, take, getD};
-ghost use Rattle.orders.specs.Lists.{All, Distinct, elem, filter};
+ghost use lib.ListN.{length, getD};
 ghost use Rattle.tokens.specs.Tokens.{Wrote};
-ghost use Rattle.ringfile.specs.RingFile.{alphabet, Name, Value, off, in-group, line, file-bytes, place-of, NameAt, leaves-on, Rules, Says};
-ghost use Rattle.ringfile.specs.Words.{word-end, Word, spaced, among, begins};
-ghost use Rattle.ringfile.specs.Scanner.{room, is-new, naming, due, got, step, Naming};
-ghost use Rattle.ringfile.specs.Cursors.{Stands, Stepped, Advances, Within};
+ghost use Rattle.ringfile.specs.RingFile.{Value, off, in-group, line, file-bytes, NameAt, leaves-on, Rules, Says};
 use calls::Refusal;
 
 // What a file holds: a ring of `names` leaves, a names line of `head` bytes, and `lines` lines of values; or why it is refused.
@@ -27,232 +23,6 @@ pub struct Part {
     pub length: usize,
 }
 
-// Where the scanner stands. phase: 0 in the names line, 1 a value is due, 2 after a value, 3 refused. names: whole names.
-// start: where the begun name starts; after the names line, its length. got: whole values of the line. lines: whole value lines.
-struct Cursor {
-    phase: u8,
-    names: usize,
-    start: usize,
-    got: usize,
-    lines: usize,
-}
-
-// Whether b may stand in a name.
-fn letter(b: u8) -> bool
-    ensures { λ r. ⌜ r ≡ elem alphabet b ⌝ }
-{
-    match b {
-        48..=57 => true,
-        65..=90 => true,
-        97..=122 => true,
-        _ => false,
-    }
-}
-
-// Whether w is one of the words of x, a space after each. j: how many bytes of the word are those of w; m + 1 where it differs.
-fn is_among(x: &[u8], w: &[u8]) -> bool
-    ensures { λ r. ⌜ ((ns : List (List ℕ)) → All Word ns → now (x .entry) ≡ spaced ns → r ≡ among ns (now (w .entry))) ⌝ }
-{
-    let m = w.len();
-    let mut j = 0;
-    let mut i = 0;
-    while i < x.len() {
-        let b = x[i];
-        i += 1;
-        if b == 32 {
-            if j == m {
-                return true;
-            }
-            j = 0;
-            continue;
-        }
-        if j >= m {
-            j = m + 1;
-            continue;
-        }
-        if w[j] == b {
-            j += 1;
-            continue;
-        }
-        j = m + 1;
-    }
-    false
-}
-
-// How many of the words of x, a space after each, begin with t. j: as in is_among, but m where more bytes follow t.
-fn begin_with(x: &[u8], t: &[u8]) -> usize
-    ensures { λ r. ⌜ ((ns : List (List ℕ)) → All Word ns → now (x .entry) ≡ spaced ns → r ≡ length (filter (begins (now (t .entry))) ns)) ⌝ }
-    ensures { λ r. ⌜ r ≤ length (now (x .entry)) ⌝ }
-{
-    let m = t.len();
-    let mut count = 0;
-    let mut j = 0;
-    let mut i = 0;
-    while i < x.len() {
-        let b = x[i];
-        i += 1;
-        if b == 32 {
-            if j == m {
-                count += 1;
-            }
-            j = 0;
-            continue;
-        }
-        if j >= m {
-            continue;
-        }
-        if t[j] == b {
-            j += 1;
-            continue;
-        }
-        j = m + 1;
-    }
-    count
-}
-
-// Whether the begun name t can become a new name. x: the earlier names, a space after each.
-fn has_room(x: &[u8], t: &[u8]) -> bool
-    ensures { λ r. ⌜ ((ns : List (List ℕ)) → All Name ns → Distinct ns → now (x .entry) ≡ spaced ns → r ≡ room ns (now (t .entry))) ⌝ }
-{
-    let m = t.len();
-    if m < 7 {
-        return true;
-    }
-    let taken = begin_with(x, t);
-    if m == 7 {
-        return taken < 63;
-    }
-    if m == 8 {
-        return taken < 1;
-    }
-    false
-}
-
-// Whether w is a new name. x: the earlier names, a space after each.
-fn is_new(x: &[u8], w: &[u8]) -> bool
-    ensures { λ r. ⌜ ((ns : List (List ℕ)) → All Name ns → now (x .entry) ≡ spaced ns → r ≡ is-new ns (now (w .entry))) ⌝ }
-{
-    if w.len() == 0 {
-        return false;
-    }
-    !is_among(x, w)
-}
-
-// The cursor in this phase, before any value; phase 3 with zeros is that of a refusal.
-fn at_phase(phase: u8, names: usize, start: usize) -> Cursor
-    ensures { λ r. ⌜ (r .phase ≡ phase) × (r .names ≡ names) × (r .start ≡ start) × (r .got ≡ 0) × (r .lines ≡ 0) ⌝ }
-{
-    Cursor {
-        phase: phase,
-        names: names,
-        start: start,
-        got: 0,
-        lines: 0,
-    }
-}
-
-// The cursor after byte number `at`, in the names line.
-fn on_name(file: &[u8], at: usize, names: usize, start: usize) -> Cursor
-    requires { ⌜ (at < length (now file)) × (start ≤ at) × (names ≤ 256) ⌝ }
-    ensures { λ r. ⌜ Within r (at + 1) ⌝ }
-    ensures { λ r. ⌜ ((ns : List (List ℕ)) (w : List ℕ) → Naming ns w → take at (now (file .entry)) ≡ spaced ns ++ w
-        → names ≡ length ns → start ≡ length (spaced ns) → Stepped r (step (naming ns w) (getD (now (file .entry)) at 0))) ⌝ }
-{
-    let b = file[at];
-    let next = at + 1;
-    if letter(b) {
-        if has_room(&file[0..start], &file[start..next]) {
-            return at_phase(0, names, start);
-        }
-        return at_phase(3, 0, 0);
-    }
-    if b == 32 {
-        if 255 <= names {
-            return at_phase(3, 0, 0);
-        }
-        if is_new(&file[0..start], &file[start..at]) {
-            return at_phase(0, names + 1, next);
-        }
-        return at_phase(3, 0, 0);
-    }
-    if b == 10 {
-        if 256 <= names {
-            return at_phase(3, 0, 0);
-        }
-        if is_new(&file[0..start], &file[start..at]) {
-            return at_phase(1, names + 1, next);
-        }
-        return at_phase(3, 0, 0);
-    }
-    at_phase(3, 0, 0)
-}
-
-// The cursor after the byte b, number `at`, where a value is due.
-fn on_value(b: u8, at: usize, c: Cursor) -> Cursor
-    requires { ⌜ Within c at ⌝ }
-    ensures { λ r. ⌜ Within r (at + 1) ⌝ }
-    ensures { λ r. ⌜ ((ns : List (List ℕ)) (vss : List (List Value)) (vs : List Value) → Stands c (due ns vss vs)
-        → Stepped r (step (due ns vss vs) b)) ⌝ }
-{
-    let mut next = c;
-    next.phase = 2;
-    match b {
-        48 => next,
-        49 => next,
-        45 => next,
-        _ => at_phase(3, 0, 0),
-    }
-}
-
-// The cursor after the byte b, number `at`, where a value was read.
-fn on_got(b: u8, at: usize, c: Cursor) -> Cursor
-    requires { ⌜ (Within c at) × (at < 65536) ⌝ }
-    ensures { λ r. ⌜ Within r (at + 1) ⌝ }
-    ensures { λ r. ⌜ ((ns : List (List ℕ)) (vss : List (List Value)) (vs : List Value) (v : Value) → Stands c (got ns vss vs v)
-        → Stepped r (step (got ns vss vs v) b)) ⌝ }
-{
-    let more = c.got + 1;
-    let names = c.names;
-    let mut next = c;
-    next.phase = 1;
-    if b == 32 {
-        if more < names {
-            next.got = more;
-            return next;
-        }
-        return at_phase(3, 0, 0);
-    }
-    if b == 10 {
-        if more == names {
-            next.got = 0;
-            next.lines = c.lines + 1;
-            return next;
-        }
-        return at_phase(3, 0, 0);
-    }
-    at_phase(3, 0, 0)
-}
-
-// The cursor after byte number `at`.
-fn advance(file: &[u8], at: usize, c: Cursor) -> Cursor
-    requires { ⌜ (Within c at) × (at < length (now file)) × (length (now file) ≤ 65536) ⌝ }
-    ensures { λ r. ⌜ Within r (at + 1) ⌝ }
-    ensures { λ r. ⌜ Advances (now (file .entry)) at c r ⌝ }
-{
-    let phase = c.phase;
-    if phase == 0 {
-        return on_name(file, at, c.names, c.start);
-    }
-    let b = file[at];
-    if phase == 1 {
-        return on_value(b, at, c);
-    }
-    if phase == 2 {
-        return on_got(b, at, c);
-    }
-    at_phase(3, 0, 0)
-}
-
 // Reads the file: what it holds, or the byte at which it is refused.
 pub fn scan(file: &[u8]) -> Scanned
     ensures { λ r. ⌜ Says (now (file .entry)) r ⌝ }
@@ -261,10 +31,10 @@ pub fn scan(file: &[u8]) -> Scanned
     if 65536 < n {
         return Scanned::Refused(Refusal::RingFile(65536));
     }
-    let mut c = at_phase(0, 0, 0);
+    let mut c = cursor::at_phase(0, 0, 0);
     let mut i = 0;
     while i < n {
-        c = advance(file, i, c);
+        c = cursor::advance(file, i, c);
         let phase = c.phase;
         if phase == 3 {
             return Scanned::Refused(Refusal::RingFile(i));
@@ -286,43 +56,6 @@ pub fn scan(file: &[u8]) -> Scanned
     }
 }
 
-// How many bytes stand before the first space or line end.
-fn word_end(x: &[u8]) -> usize
-    ensures { λ r. ⌜ r ≡ word-end (now (x .entry)) ⌝ }
-{
-    let mut i = 0;
-    while i < x.len() {
-        if x[i] == 32 {
-            return i;
-        }
-        if x[i] == 10 {
-            return i;
-        }
-        i += 1;
-    }
-    i
-}
-
-// Where name number k, from 0, of the names line that x begins with starts: after so many spaces.
-fn place(x: &[u8], k: usize) -> usize
-    ensures { λ r. ⌜ ((ns : List (List ℕ)) (t : List ℕ) → All Word ns → now (x .entry) ≡ line ns ++ t → k < length ns → r ≡ place-of ns k) ⌝ }
-    ensures { λ r. ⌜ r ≤ length (now (x .entry)) ⌝ }
-{
-    let mut left = k;
-    let mut i = 0;
-    while i < x.len() {
-        if left == 0 {
-            return i;
-        }
-        let b = x[i];
-        i += 1;
-        if b == 32 {
-            left -= 1;
-        }
-    }
-    i
-}
-
 // Where name number k, from 0, of an accepted file stands. Of another file or number it is some part of the file.
 pub fn name_at(file: &[u8], k: usize) -> Part
     ensures { λ r. ⌜ ((ns : List (List ℕ)) (vss : List (List Value)) → Rules ns vss → now (file .entry) ≡ file-bytes ns vss → k < length ns
@@ -335,8 +68,8 @@ pub fn name_at(file: &[u8], k: usize) -> Part
             length: 0,
         };
     }
-    let start = place(file, k);
-    let length = word_end(&file[start..]);
+    let start = words::place(file, k);
+    let length = words::word_end(&file[start..]);
     Part { start, length }
 }
 

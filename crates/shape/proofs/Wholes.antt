@@ -16,11 +16,11 @@ use Rattle.scanner.specs.Scan.{start, lit, pre, open-due, after, letter?, run-a
 use Rattle.scanner.specs.Unused.{unused}
 use Rattle.scanner.proofs.Moves.{at-end, all-read, word-read, word-byte, word-bad, word-over, pre-byte, pre-bad, pre-letter, pre-none, close-root, close-left, after-root}
 use Rattle.scanner.proofs.Exact.{others-length, refused-shape, accepted-shape, start-pre}
-use Rattle.shape.specs.declared.Reached.{Reached}
-use Rattle.shape.specs.Passages.{Marks, OpenedRead, kind-of}
+use Rattle.leaves.specs.declared.Reached.{Reached}
+use Rattle.leaves.specs.Passages.{Marks, OpenedRead, kind-of}
 use Rattle.shape.specs.Texts.{WordRead, Begins, Opening, WholeRead, ShapeRead}
 use Rattle.numerals.proofs.Numerals.{drop-step}
-use Rattle.shape.proofs.Nodes.{letter-kind, node-wrote}
+use Rattle.nodes.proofs.Nodes.{letter-kind, node-wrote}
 
 -- A word, up to byte i.
 module _ (x w : List ℕ) (i : ℕ) (e : run-at x 0 (lit w) ≡ run-at x i (lit (drop i w))) where

@@ -8,7 +8,7 @@ use Rattle.orders.specs.Tree.{Forest}
 use Rattle.orders.specs.TreeText.{tree-text, Shaped, ShapeRefused}
 use Rattle.tokens.specs.Tokens.{plain, encode, Wrote}
 use Rattle.scanner.specs.Scan.{lit, pre, letter?, run-at, accepted, refused}
-use Rattle.shape.specs.declared.Reached.{Reached}
+use Rattle.leaves.specs.declared.Reached.{Reached}
 
 -- The text against one word.
 pub record WordRead (x word : List ℕ) (r : Reached) : Type 0 where

@@ -17,7 +17,7 @@ use Rattle.calls.proofs.NodeTables.{tree-in-holds}
 use Rattle.tokens.specs.Tokens.{tree, plain, encode, Wrote}
 use Rattle.tokens.proofs.Sequences.{tree-plain}
 use Rattle.tokens.proofs.Writes.{read-part}
-use Rattle.records.specs.Rows.{Formed}
+use Rattle.rows.specs.Rows.{Formed}
 use Rattle.records.proofs.Forms.{formed-is}
 use Rattle.checks.specs.Lent.{TreeLent}
 use Rattle.text.specs.Fills.{Fills}

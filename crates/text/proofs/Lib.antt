@@ -1,4 +1,3 @@
-pub mod Laws
 pub mod Calls
 pub mod Reading
 pub mod RoundTrip

@@ -4,7 +4,7 @@ use denote.Ref.{now}
 use Rattle.calls.specs.Refusals.{down}
 use Rattle.calls.specs.Calls.{table-checks}
 use Rattle.book.specs.Lists.{verdict}
-use Rattle.records.specs.Walks.{Loads}
+use Rattle.walks.specs.Walks.{Loads}
 use Rattle.checks.proofs.Laws.{tables-lent, tables-refused, no-tree, tree-lent}
 use borrow.Author.Needs.{needs}
 use Rattle.checks.proofs.lent_tree.Statement.{statement}

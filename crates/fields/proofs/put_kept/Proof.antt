@@ -9,7 +9,7 @@ use Rattle.orders.specs.Aim.{aim-of}
 use Rattle.output.proofs.Laws.{appends-then, appends-as}
 use Rattle.ringfile.specs.RingFile.{Holds}
 use Rattle.fields.specs.Fields.{name}
-use Rattle.fields.proofs.Words.{name-few}
+use Rattle.series.proofs.Words.{name-few}
 use Rattle.fields.proofs.Aiming.{same-group, aim-range, kept-within}
 use borrow.Author.Needs.{needs}
 use Rattle.fields.proofs.put_kept.Statement.{statement}

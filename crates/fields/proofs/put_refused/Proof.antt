@@ -16,7 +16,7 @@ use Rattle.fields.proofs.put_refused.Tie as tie
 use Rattle.fields.proofs.put_refused.Reads as reads
 use Rattle.fields.proofs.put_refused.Lts as lts
 use Rattle.conflict.proofs.find.Reads as find-reads
-use Rattle.fields.proofs.put_conflicts.Reads as put-conflicts-reads
+use Rattle.series.proofs.put_conflicts.Reads as put-conflicts-reads
 use Rattle.output.proofs.put.Reads as put-reads
 
 -- The numbers that were found.

@@ -1,5 +1,5 @@
 use native.Mathlib.Omega.{arith}
-use Rattle.listing.proofs.Printing.{stands-at}
+use Rattle.printing.proofs.Printing.{stands-at}
 use borrow.Author.Needs.{needs}
 use Rattle.listing.proofs.print_from.Statement.{statement}
 use Rattle.listing.proofs.print_from.Tie as tie

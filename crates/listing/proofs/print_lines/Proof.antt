@@ -4,15 +4,15 @@ use native.Mathlib.Omega.{arith}
 use lib.ListN.{length}
 use Rattle.ringfile.specs.RingFile.{Holds}
 use Rattle.ledger.specs.Stands.{lists-of}
-use Rattle.listing.specs.Listing.{listing}
-use Rattle.listing.specs.Printing.{Before, Final}
-use Rattle.listing.proofs.Printing.{listed-length}
+use Rattle.printing.specs.Listing.{listing}
+use Rattle.printing.specs.Printing.{Before, Final}
+use Rattle.printing.proofs.Printing.{listed-length}
 use Rattle.listing.proofs.Parts.{lines-few, Shown, shown-none, shown-more, short-part, whole-part}
 use Rattle.listing.proofs.print_lines.Statement.{statement}
 use Rattle.listing.proofs.print_lines.Tie as tie
 use Rattle.listing.proofs.print_lines.Reads as reads
 use Rattle.listing.proofs.print_lines.Lts as lts
-use Rattle.listing.proofs.print_line.Reads as print-line-reads
+use Rattle.printing.proofs.print_line.Reads as print-line-reads
 use Rattle.output.proofs.put.Reads as put-reads
 
 abbrev Inv-loop : tie.InvT-loop

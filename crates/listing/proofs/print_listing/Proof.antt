@@ -7,8 +7,8 @@ use Rattle.tokens.specs.Tokens.{tree, plain, Wrote}
 use Rattle.tokens.proofs.Writes.{wrote-most}
 use Rattle.ringfile.specs.RingFile.{Holds}
 use Rattle.ledger.specs.Stands.{lists-of}
-use Rattle.listing.specs.Printing.{final}
-use Rattle.listing.proofs.Printing.{flat-encode}
+use Rattle.printing.specs.Printing.{final}
+use Rattle.printing.proofs.Printing.{flat-encode}
 use Rattle.listing.proofs.Answers.{final-tokens, final-published, order-room, is-final, is-ordered}
 use borrow.Author.Needs.{needs}
 use Rattle.listing.proofs.print_listing.Statement.{statement}

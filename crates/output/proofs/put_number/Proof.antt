@@ -6,7 +6,7 @@ use Rattle.output.proofs.put_number.Statement.{statement}
 use Rattle.output.proofs.put_number.Tie as tie
 use Rattle.output.proofs.put_number.Reads as reads
 use Rattle.output.proofs.put_number.Lts as lts
-use Rattle.text.proofs.write_number.Reads as write-number-reads
+use Rattle.spelling.proofs.write_number.Reads as write-number-reads
 
 sub-write-number : tie.Need-sub-write-number
 sub-write-number c = search needs

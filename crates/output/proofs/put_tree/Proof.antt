@@ -5,7 +5,7 @@ use Rattle.output.proofs.put_tree.Statement.{statement}
 use Rattle.output.proofs.put_tree.Tie as tie
 use Rattle.output.proofs.put_tree.Reads as reads
 use Rattle.output.proofs.put_tree.Lts as lts
-use Rattle.text.proofs.tree_text.Reads as tree-text-reads
+use Rattle.spelling.proofs.tree_text.Reads as tree-text-reads
 
 sub-tree-text : tie.Need-sub-tree-text
 sub-tree-text c = search needs

@@ -4,7 +4,7 @@ use native.Mathlib.Omega.{arith}
 use denote.Ref.{now}
 use lib.ListN.{replicate}
 use Rattle.tokens.proofs.Writes.{read-part, wrote-most}
-use Rattle.records.specs.Rows.{Formed}
+use Rattle.rows.specs.Rows.{Formed}
 use Rattle.planner.specs.Attempts.{JoinedRing, Attempts}
 use Rattle.planner.proofs.Laws.{join-refused, join-done, join-demand}
 use borrow.Author.Needs.{needs}

@@ -7,7 +7,7 @@ use lib.ListN.{length}
 use Rattle.orders.specs.Join.{fresh}
 use Rattle.orders.proofs.Fresh.{fresh-form}
 use Rattle.tokens.proofs.Writes.{read-part, wrote-most}
-use Rattle.records.specs.Rows.{Formed}
+use Rattle.rows.specs.Rows.{Formed}
 use Rattle.calls.specs.Refusals.{down, short}
 use Rattle.calls.specs.Calls.{table-checks}
 use Rattle.book.specs.Lists.{verdict}

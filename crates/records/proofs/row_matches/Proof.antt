@@ -5,7 +5,7 @@ use Rattle.orders.specs.Tree.{items}
 use Rattle.orders.specs.Lists.{same}
 use Rattle.tokens.specs.Tokens.{tree}
 use Rattle.tokens.proofs.Sequences.{encode-injective}
-use Rattle.records.proofs.Rows.{row-length}
+use Rattle.rows.proofs.Rows.{row-length}
 use Rattle.records.proofs.Comparing.{wrote-whole}
 use borrow.Author.Needs.{needs}
 use Rattle.records.proofs.row_matches.Statement.{statement}

@@ -5,7 +5,7 @@ use borrow.Author.Tests.{not-true, not-false}
 use lib.ListN.{length}
 use Rattle.tokens.specs.Views.{items-of}
 use Rattle.tokens.proofs.Steps.{Left, from-start, part-left, here, at-last, next-token}
-use Rattle.records.proofs.Rows.{shape-some, narrow-all, next-room, next-items}
+use Rattle.rows.proofs.Rows.{shape-some, narrow-all, next-room, next-items}
 use Rattle.records.proofs.Matching.{Matching, matching-start, matching-leaf, matching-node, matching-not}
 use Rattle.records.proofs.rows_match.Statement.{statement}
 use Rattle.records.proofs.rows_match.Tie as tie

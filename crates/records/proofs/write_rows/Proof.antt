@@ -4,13 +4,13 @@ use native.Mathlib.Omega.{arith}
 use lib.ListN.{length}
 use Rattle.tokens.proofs.Steps.{Left, from-start, part-left, here, at-last, next-token}
 use Rattle.tokens.proofs.Writes.{written-end}
-use Rattle.records.proofs.Rows.{shape-some, here-long, next-room, next-items}
+use Rattle.rows.proofs.Rows.{shape-some, here-long, next-room, next-items}
 use Rattle.records.proofs.Rowing.{Rowing, rowing-start, rowing-leaf, rowing-node}
 use Rattle.records.proofs.write_rows.Statement.{statement}
 use Rattle.records.proofs.write_rows.Tie as tie
 use Rattle.records.proofs.write_rows.Reads as reads
 use Rattle.records.proofs.write_rows.Lts as lts
-use Rattle.records.proofs.write_row.Reads as write-row-reads
+use Rattle.rows.proofs.write_row.Reads as write-row-reads
 use Rattle.tokens.proofs.items.Reads as items-reads
 use Rattle.tokens.proofs.shape.Reads as shape-reads
 

@@ -3,13 +3,13 @@ use Rattle.ringfile.proofs.name_at.Statement.{statement}
 use Rattle.ringfile.proofs.name_at.Tie as tie
 use Rattle.ringfile.proofs.name_at.Reads as reads
 use Rattle.ringfile.proofs.name_at.Lts as lts
-use Rattle.ringfile.proofs.place.Reads as place-reads
-use Rattle.ringfile.proofs.word_end.Reads as word-end-reads
+use Rattle.words.proofs.place.Reads as place-reads
+use Rattle.words.proofs.word_end.Reads as word-end-reads
 use denote.Ref.{now}
 use native.Mathlib.Omega.{arith}
 use Rattle.ringfile.specs.RingFile.{value-lines}
-use Rattle.ringfile.proofs.NamesLine.{name-words}
-use Rattle.ringfile.proofs.Places.{end-inside, found-at, no-name}
+use Rattle.words.proofs.Room.{name-words}
+use Rattle.words.proofs.Places.{end-inside, found-at, no-name}
 
 returns : tie.Need-returns
 returns c = (λ ns vss r e l. no-name ns vss (c .before .before .args .k) r l (omega arith), omega arith)

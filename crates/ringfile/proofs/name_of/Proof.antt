@@ -5,7 +5,7 @@ use Rattle.ringfile.proofs.name_of.Reads as reads
 use Rattle.ringfile.proofs.name_of.Lts as lts
 use Rattle.ringfile.proofs.name_at.Reads as name-at-reads
 use denote.Ref.{now}
-use Rattle.ringfile.proofs.Places.{name-there}
+use Rattle.words.proofs.Places.{name-there}
 
 name-at-requires : tie.Need-name-at-requires
 name-at-requires c κs = search needs

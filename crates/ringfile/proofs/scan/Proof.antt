@@ -2,15 +2,15 @@ use Rattle.ringfile.proofs.scan.Statement.{statement}
 use Rattle.ringfile.proofs.scan.Tie as tie
 use Rattle.ringfile.proofs.scan.Reads as reads
 use Rattle.ringfile.proofs.scan.Lts as lts
-use Rattle.ringfile.proofs.advance.Reads as advance-reads
-use Rattle.ringfile.proofs.at_phase.Reads as at-phase-reads
+use Rattle.cursor.proofs.advance.Reads as advance-reads
+use Rattle.cursor.proofs.at_phase.Reads as at-phase-reads
 use native.Mathlib.Omega.{arith}
 use Prim.Native.Nat.{_≤_, _-_}
 use mathlib.Core.Path.{_≡_, refl}
 use denote.Ref.{now}
 use lib.ListN.{length}
 use Rattle.ringfile.specs.RingFile.{too-long}
-use Rattle.ringfile.specs.Cursors.{Within}
+use Rattle.cursor.specs.Cursors.{Within}
 use Rattle.ringfile.proofs.Scanning.{Reach, reach-start, reach-next, says-bad, says-ring, says-short}
 
 abbrev Inv-loop : tie.InvT-loop

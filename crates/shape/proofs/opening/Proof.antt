@@ -7,7 +7,7 @@ use Rattle.shape.proofs.opening.Statement.{statement}
 use Rattle.shape.proofs.opening.Tie as tie
 use Rattle.shape.proofs.opening.Reads as reads
 use Rattle.shape.proofs.opening.Lts as lts
-use Rattle.shape.proofs.is_letter.Reads as is-letter-reads
+use Rattle.leaves.proofs.is_letter.Reads as is-letter-reads
 
 returns : tie.Need-returns
 returns c = opening-0 _ (omega arith)

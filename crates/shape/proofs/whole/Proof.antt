@@ -8,8 +8,8 @@ use Rattle.shape.proofs.whole.Statement.{statement}
 use Rattle.shape.proofs.whole.Tie as tie
 use Rattle.shape.proofs.whole.Reads as reads
 use Rattle.shape.proofs.whole.Lts as lts
-use Rattle.shape.proofs.header.Reads as header-reads
-use Rattle.shape.proofs.opened.Reads as opened-reads
+use Rattle.leaves.proofs.header.Reads as header-reads
+use Rattle.nodes.proofs.opened.Reads as opened-reads
 use Rattle.shape.proofs.opening.Reads as opening-reads
 
 opening-requires : tie.Need-opening-requires

@@ -5,7 +5,7 @@ use borrow.Author.Tests.{ltb-false}
 use denote.Ref.{now}
 use lib.ListN.{length, replicate}
 use Rattle.tokens.proofs.Writes.{read-part, wrote-most}
-use Rattle.records.specs.Rows.{Formed}
+use Rattle.rows.specs.Rows.{Formed}
 use Rattle.calls.specs.Refusals.{down, short}
 use Rattle.calls.specs.Calls.{table-checks}
 use Rattle.book.specs.Lists.{verdict}

@@ -4,7 +4,7 @@ use mathlib.Core.Path.{_≡_, refl}
 use Prim.Native.Nat.{_≤_, _-_}
 use native.Mathlib.Omega.{arith}
 use lib.ListN.{length, drop, replicate, length-set}
-use Rattle.records.proofs.Writing.{zero-step, wrote-zeros}
+use Rattle.rows.proofs.Writing.{zero-step, wrote-zeros}
 use Rattle.text.proofs.zeros.Statement.{statement}
 use Rattle.text.proofs.zeros.Tie as tie
 

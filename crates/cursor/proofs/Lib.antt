@@ -1,0 +1,2 @@
+pub mod NamesLine
+pub mod Stepping

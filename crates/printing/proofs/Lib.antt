@@ -1,0 +1,3 @@
+pub mod Sample
+pub mod Lines
+pub mod Printing

@@ -1,0 +1,7 @@
+pub mod Lists
+pub mod Words
+pub mod NewNames
+pub mod Steps
+pub mod Reached
+pub mod Complete
+pub mod Exact

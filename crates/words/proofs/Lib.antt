@@ -1,0 +1,5 @@
+pub mod Slices
+pub mod Matching
+pub mod Counting
+pub mod Room
+pub mod Places
