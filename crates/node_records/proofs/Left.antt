@@ -34,9 +34,9 @@ use Rattle.lent.specs.declared.Node.{Node}
 use Rattle.lent.specs.Rows.{node-rows, with-rows, Sound}
 use Rattle.lent.proofs.Kept.{kept}
 use Rattle.lent.proofs.Back.{past}
-use Rattle.ring.specs.Records.{Left}
-use Rattle.ring.proofs.Says.{Opens, Joins-group, Reads-text}
-use Rattle.ring.proofs.Trees.{table-back}
+use Rattle.node_records.specs.Records.{Left}
+use Rattle.node_records.proofs.Says.{Opens, Joins-group, Reads-text}
+use Rattle.node_records.proofs.Trees.{table-back}
 
 -- The rows as they were, or a tree's table over them.
 data Rows (n : ℕ) (ns : List Node) (fs : List ℕ) : Type 0 where

@@ -1,4 +1,4 @@
--- `ring::trial` meets its contract: a walk of its MIR, by hand, whose calls are steps of crate lent's `proofs/Steps.antt`.
+-- `record_updates::trial` meets its contract: a walk of its MIR, by hand, whose calls are steps of crate lent's `proofs/Steps.antt`.
 -- Assumes nothing.
 use mathlib.Core.Path.{_≡_, refl, sym, _∙_, ap}
 use Prim.Native.Nat.{ℕ, _<_, _^_}
@@ -40,7 +40,7 @@ use denote.Triple.Walked.{says, Stays, gave-slice, stay-dropped, walkOf, goes-ga
 use denote.Exit.{yes}
 use Rattle.lent.specs.declared.Node.{Node}
 use Rattle.lent.specs.Rows.{node-rows, with-rows, zero-rows, Sound}
-use Rattle.ring.proofs.Says.{Tries}
+use Rattle.node_records.proofs.Says.{Tries}
 use Rattle.calls.specs.declared.Answer.{Answer}
 use Rattle.calls.proofs.Answer as Answer·
 use Rattle.calls.proofs.Answer.Laws as Answer′
@@ -56,10 +56,10 @@ use Rattle.lent.proofs.store.Met as store-thm
 use Rattle.planner.proofs.trial as core
 use Rattle.planner.proofs.trial.Symbol as core-def
 use Rattle.planner.proofs.trial.Met as core-thm
-use Rattle.ring.proofs.trial.Key as key′
-use Rattle.ring.proofs.trial as this
-use Rattle.ring.proofs.trial.Statement as stated
-use Rattle.ring.proofs.trial.Code as code
+use Rattle.record_updates.proofs.trial.Key as key′
+use Rattle.record_updates.proofs.trial as this
+use Rattle.record_updates.proofs.trial.Statement as stated
+use Rattle.record_updates.proofs.trial.Code as code
 
 -- what the function still has of each parameter at exit: a `&mut` is given for good
 abbrev stayed : Stays (this.ended .signature .params) (this.ended .kept)
