@@ -16,7 +16,7 @@ pub fn order(n: usize, nodes: &[u16], order: &mut [u16], value: &mut usize) -> u
         → StandardOrder t (take n (now (order .exit)))))
         × Coded r (now (value .exit)) ⌝ }
 {
-    let answer = planner::order(n, nodes, rows::records(nodes), order);
+    let answer = planner::order(n, nodes, coding::records(nodes), order);
     calls::code(answer, value)
 }
 
@@ -33,6 +33,6 @@ pub fn aim(
         ≡ aim-call n (length (now (nodes .entry)) / 257) (now (nodes .entry)) (now (book .entry)) count group)
         × Coded r (now (value .exit)) ⌝ }
 {
-    let answer = aim::aim(n, nodes, rows::records(nodes), book, count, group);
+    let answer = aim::aim(n, nodes, coding::records(nodes), book, count, group);
     calls::code(answer, value)
 }

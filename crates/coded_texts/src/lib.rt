@@ -11,7 +11,7 @@ pub fn write(n: usize, nodes: &[u16], bytes: &mut [u8], value: &mut usize) -> u8
         ≡ write-call n (length (now (nodes .entry)) / 257) (now (nodes .entry)) (now (bytes .entry)))
         × Coded r (now (value .exit)) ⌝ }
 {
-    let answer = text::write(n, nodes, rows::records(nodes), bytes);
+    let answer = text::write(n, nodes, coding::records(nodes), bytes);
     calls::code(answer, value)
 }
 
@@ -21,7 +21,7 @@ pub fn read(n: usize, nodes: &mut [u16], book: &mut [u64], text: &[u8], value: &
         (ring (answer-of r (now (value .exit))) (now (nodes .exit)) (now (book .exit)))
         × Coded r (now (value .exit)) ⌝ }
 {
-    let have = rows::records(nodes);
+    let have = coding::records(nodes);
     let answer = text::read(n, nodes, have, book, text);
     calls::code(answer, value)
 }

@@ -16,7 +16,7 @@ pub fn open(n: usize, nodes: &mut [u16], book: &mut [u64], value: &mut usize) ->
         ≡ open-call n (length (now (nodes .entry)) / 257) (now (nodes .entry)) (now (book .entry)))
         × Coded r (now (value .exit)) ⌝ }
 {
-    let have = rows::records(nodes);
+    let have = coding::records(nodes);
     let answer = planner::open(n, nodes, have, book);
     calls::code(answer, value)
 }
@@ -36,7 +36,7 @@ pub fn join(
         → WellFormed n (now (list .entry)) → Joins n (elem (now (list .entry))) t (answer-of r (now (value .exit))) (now (nodes .exit))))
         × Coded r (now (value .exit)) ⌝ }
 {
-    let have = rows::records(nodes);
+    let have = coding::records(nodes);
     let answer = planner::join(n, nodes, have, book, count, list);
     calls::code(answer, value)
 }
@@ -56,6 +56,6 @@ pub fn trial(
         → WellFormed n (now (list .entry)) → ImpossibleIff (elem (now (list .entry))) t (answer-of r (now (value .exit)))))
         × Coded r (now (value .exit)) ⌝ }
 {
-    let answer = planner::trial(n, nodes, rows::records(nodes), book, count, list);
+    let answer = planner::trial(n, nodes, coding::records(nodes), book, count, list);
     calls::code(answer, value)
 }

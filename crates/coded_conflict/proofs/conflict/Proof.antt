@@ -1,6 +1,6 @@
 use mathlib.Core.Path.{refl}
 use borrow.Author.Needs.{needs}
-use Rattle.rows.proofs.Coded.{coded}
+use Rattle.coding.proofs.Coded.{coded}
 use Rattle.coded_conflict.proofs.Says.{Conflicts}
 use Rattle.coded_conflict.proofs.conflict.Statement.{statement}
 use Rattle.coded_conflict.proofs.conflict.Tie as tie

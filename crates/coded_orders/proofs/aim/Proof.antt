@@ -1,5 +1,5 @@
 use borrow.Author.Needs.{needs}
-use Rattle.rows.proofs.Coded.{coded}
+use Rattle.coding.proofs.Coded.{coded}
 use Rattle.coded_orders.proofs.Says.{Aims}
 use Rattle.coded_orders.proofs.aim.Statement.{statement}
 use Rattle.coded_orders.proofs.aim.Tie as tie
@@ -7,7 +7,7 @@ use Rattle.coded_orders.proofs.aim.Reads as reads
 use Rattle.coded_orders.proofs.aim.Lts as lts
 use Rattle.aim.proofs.aim.Reads as aim-reads
 use Rattle.calls.proofs.code.Reads as code-reads
-use Rattle.rows.proofs.records.Reads as records-reads
+use Rattle.coding.proofs.records.Reads as records-reads
 
 records-requires : tie.Need-records-requires
 records-requires c κs = search needs

@@ -1,12 +1,12 @@
 use borrow.Author.Needs.{needs}
-use Rattle.rows.proofs.Coded.{coded}
+use Rattle.coding.proofs.Coded.{coded}
 use Rattle.coded_orders.proofs.Says.{Orders}
 use Rattle.coded_orders.proofs.order.Statement.{statement}
 use Rattle.coded_orders.proofs.order.Tie as tie
 use Rattle.coded_orders.proofs.order.Reads as reads
 use Rattle.coded_orders.proofs.order.Lts as lts
 use Rattle.calls.proofs.code.Reads as code-reads
-use Rattle.rows.proofs.records.Reads as records-reads
+use Rattle.coding.proofs.records.Reads as records-reads
 use Rattle.planner.proofs.order.Reads as order-reads
 
 records-requires : tie.Need-records-requires

@@ -1,12 +1,12 @@
 use borrow.Author.Needs.{needs}
-use Rattle.rows.proofs.Coded.{coded}
+use Rattle.coding.proofs.Coded.{coded}
 use Rattle.coded_texts.proofs.Says.{Reads-text}
 use Rattle.coded_texts.proofs.read.Statement.{statement}
 use Rattle.coded_texts.proofs.read.Tie as tie
 use Rattle.coded_texts.proofs.read.Reads as reads
 use Rattle.coded_texts.proofs.read.Lts as lts
 use Rattle.calls.proofs.code.Reads as code-reads
-use Rattle.rows.proofs.records.Reads as records-reads
+use Rattle.coding.proofs.records.Reads as records-reads
 use Rattle.text.proofs.read.Reads as read-reads
 
 records-requires : tie.Need-records-requires

@@ -1,12 +1,12 @@
 use borrow.Author.Needs.{needs}
-use Rattle.rows.proofs.Coded.{coded}
+use Rattle.coding.proofs.Coded.{coded}
 use Rattle.coded_texts.proofs.Says.{Writes}
 use Rattle.coded_texts.proofs.write.Statement.{statement}
 use Rattle.coded_texts.proofs.write.Tie as tie
 use Rattle.coded_texts.proofs.write.Reads as reads
 use Rattle.coded_texts.proofs.write.Lts as lts
 use Rattle.calls.proofs.code.Reads as code-reads
-use Rattle.rows.proofs.records.Reads as records-reads
+use Rattle.coding.proofs.records.Reads as records-reads
 use Rattle.text.proofs.write.Reads as write-reads
 
 records-requires : tie.Need-records-requires

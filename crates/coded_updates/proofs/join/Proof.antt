@@ -1,12 +1,12 @@
 use borrow.Author.Needs.{needs}
-use Rattle.rows.proofs.Coded.{coded}
+use Rattle.coding.proofs.Coded.{coded}
 use Rattle.coded_updates.proofs.Says.{Joins-group}
 use Rattle.coded_updates.proofs.join.Statement.{statement}
 use Rattle.coded_updates.proofs.join.Tie as tie
 use Rattle.coded_updates.proofs.join.Reads as reads
 use Rattle.coded_updates.proofs.join.Lts as lts
 use Rattle.calls.proofs.code.Reads as code-reads
-use Rattle.rows.proofs.records.Reads as records-reads
+use Rattle.coding.proofs.records.Reads as records-reads
 use Rattle.planner.proofs.join.Reads as join-reads
 
 records-requires : tie.Need-records-requires

@@ -1,12 +1,12 @@
 use borrow.Author.Needs.{needs}
-use Rattle.rows.proofs.Coded.{coded}
+use Rattle.coding.proofs.Coded.{coded}
 use Rattle.coded_updates.proofs.Says.{Opens}
 use Rattle.coded_updates.proofs.open.Statement.{statement}
 use Rattle.coded_updates.proofs.open.Tie as tie
 use Rattle.coded_updates.proofs.open.Reads as reads
 use Rattle.coded_updates.proofs.open.Lts as lts
 use Rattle.calls.proofs.code.Reads as code-reads
-use Rattle.rows.proofs.records.Reads as records-reads
+use Rattle.coding.proofs.records.Reads as records-reads
 use Rattle.planner.proofs.open.Reads as open-reads
 
 records-requires : tie.Need-records-requires

@@ -1,12 +1,12 @@
 use borrow.Author.Needs.{needs}
-use Rattle.rows.proofs.Coded.{coded}
+use Rattle.coding.proofs.Coded.{coded}
 use Rattle.coded_updates.proofs.Says.{Tries}
 use Rattle.coded_updates.proofs.trial.Statement.{statement}
 use Rattle.coded_updates.proofs.trial.Tie as tie
 use Rattle.coded_updates.proofs.trial.Reads as reads
 use Rattle.coded_updates.proofs.trial.Lts as lts
 use Rattle.calls.proofs.code.Reads as code-reads
-use Rattle.rows.proofs.records.Reads as records-reads
+use Rattle.coding.proofs.records.Reads as records-reads
 use Rattle.planner.proofs.trial.Reads as trial-reads
 
 records-requires : tie.Need-records-requires
