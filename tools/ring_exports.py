@@ -21,6 +21,12 @@ CALLS = {
     "write": (LENT + [("bytes", "&mut u8")], "Writes"),
     "read": (RING + [("text", "&u8")], "Reads-text"),
 }
+# The crate in which `ring::NAME` stands.
+HOMES = {
+    "record_updates": ("open", "join", "trial"),
+    "record_orders": ("order", "aim"),
+    "record_texts": ("write", "read"),
+}
 
 
 def sub(n):
@@ -154,6 +160,7 @@ class Walk:
     def __init__(self, call):
         kinds, self.says = CALLS[call]
         self.call, self.name, self.dashed = call, "ring_" + call, "ring-" + call
+        self.home = next(home for home, calls in HOMES.items() if call in calls)
         self.params = []
         for x, kind in kinds:
             self.params.append(Param(len(self.params), sum(p.lent for p in self.params), x, kind))
@@ -346,13 +353,13 @@ class Walk:
         tells = nest([p.tells() for p in self.params] + [f"mut-tells (named {self.J}) ({at('κs', self.J)}) usize"])
         x = at("a", len(self.params))
         passed = "".join(p.passed() for p in self.params) + f" ({at('κs', self.J)}) ({at('qs', self.J)}) ({x} .ptr .0) ({x} .ptr .1) ({x} .name) ({x} .now)"
-        return TAIL.format(dashed=self.dashed, goes=goes, spells=spells, tells=tells, passed=passed, call=self.call)
+        return TAIL.format(dashed=self.dashed, goes=goes, spells=spells, tells=tells, passed=passed, call=self.call, home=self.home.replace("_", "-"))
 
     def proof(self):
         types = sorted({p.row for p in self.params if p.row != "T.the-row"} | {"u8", "usize"})
         yield f"-- `ring_exports::{self.name}` meets its contract: a walk of its MIR, by hand, whose two calls are steps of proofs/Steps.antt. Written by tools/ring_exports.py."
         yield "-- Assumes nothing."
-        yield HEAD.format(says=self.says, call=self.call, name=self.name, types=", ".join(types))
+        yield HEAD.format(says=self.says, call=self.call, home=self.home, name=self.name, types=", ".join(types))
         yield "-- what the function still has of each parameter at exit: a `&mut` is given for good"
         yield "abbrev stayed : Stays (this.ended .signature .params) (this.ended .kept)"
         yield "stayed = " + nest([p.stay() for p in self.params] + [f"gave-ref ({self.J} ∷ []) tt (plain (λ _. usize))"]) + "\n"
@@ -416,9 +423,9 @@ use Rattle.ring_exports.proofs.Says.{{{says}}}
 use Rattle.ring_exports.proofs.Steps.{{Code, number, answers, codes}}
 use Rattle.calls.proofs.code.Symbol as code-def
 use Rattle.calls.proofs.code.Met as code-thm
-use Rattle.ring.proofs.{call} as call
-use Rattle.ring.proofs.{call}.Symbol as call-def
-use Rattle.ring.proofs.{call}.Met as call-thm
+use Rattle.{home}.proofs.{call} as call
+use Rattle.{home}.proofs.{call}.Symbol as call-def
+use Rattle.{home}.proofs.{call}.Met as call-thm
 use Rattle.ring_exports.proofs.{name}.Key as key′
 use Rattle.ring_exports.proofs.{name} as this
 use Rattle.ring_exports.proofs.{name}.Statement as stated
@@ -438,7 +445,7 @@ unfolding code.routine tablesOf
     entered 𝓤 H (tripleOf 𝓤 H (𝓖 .A) this.signature (this.spec 𝓤 H (𝓖 .A) (𝓜 .mem) (𝓡 .run)))
     (tables 𝓤 H 𝓜 𝓡 code.env .C) (tables 𝓤 H 𝓜 𝓡 code.env .Λ) key′.name code.function (code.unfolded 𝓤 H 𝓜 𝓡)
     ({dashed}-meets 𝓤 H (𝓖 .A) (givenOf 𝓤 H 𝓜 𝓖) (𝓜 .mem) (𝓡 .run) (tablesOf 𝓤 H 𝓜 (tables 𝓤 H 𝓜 𝓡 code.env))
-    (cited 𝓤 H (Call 𝓤 H (𝓖 .A) (𝓜 .mem) (𝓡 .run)) 𝓜 𝓡 code.env call-def.name call-def.routine code.calls-ring·{call} (call-thm.met 𝓤 H 𝓜 𝓖 𝓡))
+    (cited 𝓤 H (Call 𝓤 H (𝓖 .A) (𝓜 .mem) (𝓡 .run)) 𝓜 𝓡 code.env call-def.name call-def.routine code.calls-{home}·{call} (call-thm.met 𝓤 H 𝓜 𝓖 𝓡))
     (cited 𝓤 H (Code 𝓤 H (𝓖 .A) (𝓜 .mem) (𝓡 .run)) 𝓜 𝓡 code.env code-def.name code-def.routine code.calls-calls·code (code-thm.met 𝓤 H 𝓜 𝓖 𝓡)))"""
 
 if __name__ == "__main__":

@@ -1,5 +1,6 @@
 // The calls of document 01 for C and Rust, on a node table of rows of 257 numbers, one row a record. Each returns 0, or the number of its refusal,
-// and writes one number through `value`: its own answer; or the place or byte of the refusal, 0 where the table names none.
+// and writes one number through `value`: its own answer; or the place or byte of the refusal, 0 where the table names none. Each is handed on from
+// the crate named, with its contract.
 ghost use mathlib.Core.Path.{_≡_};
 ghost use mathlib.Core.List.{List, []};
 ghost use Prim.Native.Nat.{ℕ, _+_, _/_, _≤_, _<_};
@@ -14,15 +15,7 @@ ghost use Rattle.conflict.specs.Demand.{LentBook, Named};
 ghost use Rattle.tokens.specs.Tokens.{Wrote};
 ghost use Rattle.ringfile.specs.RingFile.{Value, line, file-bytes, NameAt, leaves-on, Rules, Says};
 ghost use Rattle.calls.specs.Codes.{answer-of, Coded};
-ghost use Rattle.exports.specs.Scan.{scanned, ScanCoded};
-use ringfile::Scanned;
-
-// How many whole records the rows are.
-fn records(nodes: &[u16]) -> usize
-    ensures { λ r. ⌜ r ≡ length (now (nodes .entry)) / 257 ⌝ }
-{
-    nodes.len() / 257
-}
+ghost use Rattle.coded_file.specs.Scan.{scanned, ScanCoded};
 
 // Opens a ring of n leaves: its node table gets the fresh tree, and its book is emptied. The value is the count of groups, 0.
 #[no_mangle]
@@ -36,9 +29,7 @@ pub extern "C" fn tokuwhape_open(
         ≡ open-call n (length (now (nodes .entry)) / 257) (now (nodes .entry)) (now (book .entry)))
         × Coded r (now (value .exit)) ⌝ }
 {
-    let have = records(nodes);
-    let answer = planner::open(n, nodes, have, book);
-    calls::code(answer, value)
+    coded_updates::open(n, nodes, book, value)
 }
 
 // Joins the list's group: the node table gets the new tree, and the group takes the book's next place. The value is the new count of groups.
@@ -57,9 +48,7 @@ pub extern "C" fn tokuwhape_join(
         → WellFormed n (now (list .entry)) → Joins n (elem (now (list .entry))) t (answer-of r (now (value .exit))) (now (nodes .exit))))
         × Coded r (now (value .exit)) ⌝ }
 {
-    let have = records(nodes);
-    let answer = planner::join(n, nodes, have, book, count, list);
-    calls::code(answer, value)
+    coded_updates::join(n, nodes, book, count, list, value)
 }
 
 // Answers as joining the list's group would, and changes nothing.
@@ -78,8 +67,7 @@ pub extern "C" fn tokuwhape_trial(
         → WellFormed n (now (list .entry)) → ImpossibleIff (elem (now (list .entry))) t (answer-of r (now (value .exit)))))
         × Coded r (now (value .exit)) ⌝ }
 {
-    let answer = planner::trial(n, nodes, records(nodes), book, count, list);
-    calls::code(answer, value)
+    coded_updates::trial(n, nodes, book, count, list, value)
 }
 
 // Writes the standard order to the first n places of order. The value is n.
@@ -96,8 +84,7 @@ pub extern "C" fn tokuwhape_order(
         → StandardOrder t (take n (now (order .exit)))))
         × Coded r (now (value .exit)) ⌝ }
 {
-    let answer = planner::order(n, nodes, records(nodes), order);
-    calls::code(answer, value)
+    coded_orders::order(n, nodes, order, value)
 }
 
 // Finds the leaf at which the book's group with this number is aimed (document 01's aim), in the standard order. The value is the leaf.
@@ -114,8 +101,7 @@ pub extern "C" fn tokuwhape_aim(
         ≡ aim-call n (length (now (nodes .entry)) / 257) (now (nodes .entry)) (now (book .entry)) count group)
         × Coded r (now (value .exit)) ⌝ }
 {
-    let answer = aim::aim(n, nodes, records(nodes), book, count, group);
-    calls::code(answer, value)
+    coded_orders::aim(n, nodes, book, count, group, value)
 }
 
 // Writes the tree text to the first 2,048 bytes, zeros after it. The value is its length.
@@ -130,8 +116,7 @@ pub extern "C" fn tokuwhape_write(
         ≡ write-call n (length (now (nodes .entry)) / 257) (now (nodes .entry)) (now (bytes .entry)))
         × Coded r (now (value .exit)) ⌝ }
 {
-    let answer = text::write(n, nodes, records(nodes), bytes);
-    calls::code(answer, value)
+    coded_texts::write(n, nodes, bytes, value)
 }
 
 // Reads a tree text for n leaves, lent exactly: the node table gets its tree, and the book is emptied. The value is the count of groups, 0.
@@ -147,9 +132,7 @@ pub extern "C" fn tokuwhape_read(
         (ring (answer-of r (now (value .exit))) (now (nodes .exit)) (now (book .exit)))
         × Coded r (now (value .exit)) ⌝ }
 {
-    let have = records(nodes);
-    let answer = text::read(n, nodes, have, book, text);
-    calls::code(answer, value)
+    coded_texts::read(n, nodes, book, text, value)
 }
 
 // Writes the numbers of the groups in conflict with the list's group to the first 96 places of conflicts, rising, and zeros up to 96 places. The value is how many.
@@ -168,8 +151,7 @@ pub extern "C" fn tokuwhape_conflict(
         → Named n (now (book .entry)) count (now (list .entry)) (answer-of r (now (value .exit))) (now (conflicts .exit))))
         × Coded r (now (value .exit)) ⌝ }
 {
-    let answer = conflict::conflict(n, book, count, list, conflicts);
-    calls::code(answer, value)
+    coded_conflict::conflict(n, book, count, list, conflicts, value)
 }
 
 // Reads a ring file. The value is how many names it has; the names line's bytes and the count of value lines are written too.
@@ -183,25 +165,7 @@ pub extern "C" fn tokuwhape_scan(
     ensures { λ r. ⌜ Says (now (file .entry)) (scanned r (now (value .exit)) (now (head .exit)) (now (lines .exit)))
         × ScanCoded r (now (value .exit)) (now (head .exit)) (now (lines .exit)) ⌝ }
 {
-    let found = ringfile::scan(file);
-    match found {
-        Scanned::Ring {
-            names,
-            head: bytes,
-            lines: groups,
-        } => {
-            *value = names;
-            *head = bytes;
-            *lines = groups;
-            0
-        }
-        Scanned::Refused(refusal) => {
-            *value = calls::place(refusal);
-            *head = 0;
-            *lines = 0;
-            calls::number(refusal)
-        }
-    }
+    coded_file::scan(file, head, lines, value)
 }
 
 // Where name number k, from 0, of an accepted file stands: returns how many bytes it has, and writes the first one's number. Of another file or
@@ -212,9 +176,7 @@ pub extern "C" fn tokuwhape_name(file: &[u8], k: usize, start: &mut usize) -> us
         → NameAt (now (file .entry)) ns k (now (start .exit)) r) ⌝ }
     ensures { λ r. ⌜ now (start .exit) + r ≤ length (now (file .entry)) ⌝ }
 {
-    let part = ringfile::name_at(file, k);
-    *start = part.start;
-    part.length
+    coded_file::name(file, k, start)
 }
 
 // Writes the group of value line l, from 0, of an accepted file with so many names and a names line of head bytes to the start of the list: its
@@ -233,5 +195,5 @@ pub extern "C" fn tokuwhape_group(
     ensures { λ r. ⌜ r ≤ 256 ⌝ }
     ensures { λ r. ⌜ (length (now (list .entry)) < names → (r ≡ 0) × (now (list .exit) ≡ now (list .entry))) ⌝ }
 {
-    ringfile::group_of(file, names, head, l, list)
+    coded_file::group(file, names, head, l, list)
 }

@@ -13,7 +13,7 @@ use Rattle.calls.specs.Demands.{LentTree, LentRing, ImpossibleIff, Joins}
 use Rattle.conflict.specs.Demand.{LentBook, Named}
 use Rattle.lent.specs.declared.Node.{Node}
 use Rattle.lent.specs.Rows.{node-rows}
-use Rattle.ring.specs.Records.{Left}
+use Rattle.node_records.specs.Records.{Left}
 
 abbrev pub Opens : ℕ → List Node → List ℕ → List Node → List ℕ → Answer → Type 0
 Opens n nodes book nodes′ book′ a =

@@ -11,7 +11,7 @@ ghost use Rattle.calls.specs.Calls.{ring, filled-as, open-call, join-call, tria
 ghost use Rattle.calls.specs.Codes.{answer-of, Coded};
 ghost use Rattle.calls.specs.Demands.{LentTree, LentRing, ImpossibleIff, Joins};
 ghost use Rattle.lent.specs.Rows.{node-rows};
-ghost use Rattle.ring.specs.Records.{Left};
+ghost use Rattle.node_records.specs.Records.{Left};
 use lent::Node;
 
 // Opens a ring of n leaves: `ring::open`. The value is the count of groups, 0.

@@ -45,9 +45,9 @@ use Rattle.ring_exports.proofs.Says.{Opens}
 use Rattle.ring_exports.proofs.Steps.{Code, number, answers, codes}
 use Rattle.calls.proofs.code.Symbol as code-def
 use Rattle.calls.proofs.code.Met as code-thm
-use Rattle.ring.proofs.open as call
-use Rattle.ring.proofs.open.Symbol as call-def
-use Rattle.ring.proofs.open.Met as call-thm
+use Rattle.record_updates.proofs.open as call
+use Rattle.record_updates.proofs.open.Symbol as call-def
+use Rattle.record_updates.proofs.open.Met as call-thm
 use Rattle.ring_exports.proofs.ring_open.Key as key′
 use Rattle.ring_exports.proofs.ring_open as this
 use Rattle.ring_exports.proofs.ring_open.Statement as stated
@@ -124,5 +124,5 @@ ring-open-spec 𝓤 H 𝓜 𝓖 𝓡 =
     entered 𝓤 H (tripleOf 𝓤 H (𝓖 .A) this.signature (this.spec 𝓤 H (𝓖 .A) (𝓜 .mem) (𝓡 .run)))
     (tables 𝓤 H 𝓜 𝓡 code.env .C) (tables 𝓤 H 𝓜 𝓡 code.env .Λ) key′.name code.function (code.unfolded 𝓤 H 𝓜 𝓡)
     (ring-open-meets 𝓤 H (𝓖 .A) (givenOf 𝓤 H 𝓜 𝓖) (𝓜 .mem) (𝓡 .run) (tablesOf 𝓤 H 𝓜 (tables 𝓤 H 𝓜 𝓡 code.env))
-    (cited 𝓤 H (Call 𝓤 H (𝓖 .A) (𝓜 .mem) (𝓡 .run)) 𝓜 𝓡 code.env call-def.name call-def.routine code.calls-ring·open (call-thm.met 𝓤 H 𝓜 𝓖 𝓡))
+    (cited 𝓤 H (Call 𝓤 H (𝓖 .A) (𝓜 .mem) (𝓡 .run)) 𝓜 𝓡 code.env call-def.name call-def.routine code.calls-record-updates·open (call-thm.met 𝓤 H 𝓜 𝓖 𝓡))
     (cited 𝓤 H (Code 𝓤 H (𝓖 .A) (𝓜 .mem) (𝓡 .run)) 𝓜 𝓡 code.env code-def.name code-def.routine code.calls-calls·code (code-thm.met 𝓤 H 𝓜 𝓖 𝓡)))

@@ -1,0 +1,2 @@
+-- What the scan of a ring file answers, as numbers.
+pub mod Scan

@@ -1,0 +1,25 @@
+use borrow.Author.Needs.{needs}
+use Rattle.coding.proofs.Coded.{coded}
+use Rattle.coded_orders.proofs.Says.{Aims}
+use Rattle.coded_orders.proofs.aim.Statement.{statement}
+use Rattle.coded_orders.proofs.aim.Tie as tie
+use Rattle.coded_orders.proofs.aim.Reads as reads
+use Rattle.coded_orders.proofs.aim.Lts as lts
+use Rattle.aim.proofs.aim.Reads as aim-reads
+use Rattle.calls.proofs.code.Reads as code-reads
+use Rattle.coding.proofs.records.Reads as records-reads
+
+records-requires : tie.Need-records-requires
+records-requires c κs = search needs
+
+aim-requires : tie.Need-aim-requires
+aim-requires c κs = search needs
+
+code-requires : tie.Need-code-requires
+code-requires c κs = search needs
+
+returns : tie.Need-returns
+returns c = (coded (Aims (c .before .before .before .before .before .before .args .n) (c .before .before .before .before .before .before .args .nodes .now) (c .before .before .before .before .before .before .args .book .now) (c .before .before .before .before .before .before .args .count) (c .before .before .before .before .before .before .args .group)) (c .before .before .before .records .ensures) (c .code .ensures .0) (c .before .before .aim .ensures), c .code .ensures .1)
+
+pub aim-spec : {M : Type 1} → statement M
+aim-spec = tie.close (tie.spec records-requires aim-requires code-requires returns)

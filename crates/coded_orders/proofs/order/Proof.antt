@@ -1,0 +1,29 @@
+use borrow.Author.Needs.{needs}
+use Rattle.coding.proofs.Coded.{coded}
+use Rattle.coded_orders.proofs.Says.{Orders}
+use Rattle.coded_orders.proofs.order.Statement.{statement}
+use Rattle.coded_orders.proofs.order.Tie as tie
+use Rattle.coded_orders.proofs.order.Reads as reads
+use Rattle.coded_orders.proofs.order.Lts as lts
+use Rattle.calls.proofs.code.Reads as code-reads
+use Rattle.coding.proofs.records.Reads as records-reads
+use Rattle.planner.proofs.order.Reads as order-reads
+
+records-requires : tie.Need-records-requires
+records-requires c κs = search needs
+
+order-requires : tie.Need-order-requires
+order-requires c κs = search needs
+
+code-requires : tie.Need-code-requires
+code-requires c κs = search needs
+
+same-length : tie.Need-same-length
+same-length c = search needs
+
+returns : tie.Need-returns
+returns c = (coded (Orders (c .before .before .before .before .before .before .before .before .before .args .n) (c .before .before .before .before .before .before .before .before .before .args .nodes .now) (c .before .before .before .before .before .before .before .before .before .args .order .now) (c .before .before .before .before .order .last .1 .1 .1 .0)) (c .before .before .before .before .before .before .records .ensures) (c .code .ensures .0) (c .before .before .before .before .order .ensures), c .code .ensures .1)
+
+pub order-spec : {M : Type 1} → statement M
+order-spec =
+    tie.close (tie.spec records-requires order-requires code-requires same-length returns)

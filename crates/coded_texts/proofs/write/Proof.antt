@@ -1,0 +1,29 @@
+use borrow.Author.Needs.{needs}
+use Rattle.coding.proofs.Coded.{coded}
+use Rattle.coded_texts.proofs.Says.{Writes}
+use Rattle.coded_texts.proofs.write.Statement.{statement}
+use Rattle.coded_texts.proofs.write.Tie as tie
+use Rattle.coded_texts.proofs.write.Reads as reads
+use Rattle.coded_texts.proofs.write.Lts as lts
+use Rattle.calls.proofs.code.Reads as code-reads
+use Rattle.coding.proofs.records.Reads as records-reads
+use Rattle.text.proofs.write.Reads as write-reads
+
+records-requires : tie.Need-records-requires
+records-requires c κs = search needs
+
+write-requires : tie.Need-write-requires
+write-requires c κs = search needs
+
+code-requires : tie.Need-code-requires
+code-requires c κs = search needs
+
+same-length : tie.Need-same-length
+same-length c = search needs
+
+returns : tie.Need-returns
+returns c = (coded (Writes (c .before .before .before .before .before .before .before .before .before .args .n) (c .before .before .before .before .before .before .before .before .before .args .nodes .now) (c .before .before .before .before .before .before .before .before .before .args .bytes .now) (c .before .before .before .before .write .last .1 .1 .1 .0)) (c .before .before .before .before .before .before .records .ensures) (c .code .ensures .0) (c .before .before .before .before .write .ensures), c .code .ensures .1)
+
+pub write-spec : {M : Type 1} → statement M
+write-spec =
+    tie.close (tie.spec records-requires write-requires code-requires same-length returns)

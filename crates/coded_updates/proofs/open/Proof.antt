@@ -1,0 +1,33 @@
+use borrow.Author.Needs.{needs}
+use Rattle.coding.proofs.Coded.{coded}
+use Rattle.coded_updates.proofs.Says.{Opens}
+use Rattle.coded_updates.proofs.open.Statement.{statement}
+use Rattle.coded_updates.proofs.open.Tie as tie
+use Rattle.coded_updates.proofs.open.Reads as reads
+use Rattle.coded_updates.proofs.open.Lts as lts
+use Rattle.calls.proofs.code.Reads as code-reads
+use Rattle.coding.proofs.records.Reads as records-reads
+use Rattle.planner.proofs.open.Reads as open-reads
+
+records-requires : tie.Need-records-requires
+records-requires c κs = search needs
+
+open-requires : tie.Need-open-requires
+open-requires c κs = search needs
+
+code-requires : tie.Need-code-requires
+code-requires c κs = search needs
+
+same-length : tie.Need-same-length
+same-length c = search needs
+
+same-length-2 : tie.Need-same-length-2
+same-length-2 c = search needs
+
+returns : tie.Need-returns
+returns c = (coded (Opens (c .before .before .before .before .before .before .before .before .before .before .before .before .before .args .n) (c .before .before .before .before .before .before .before .before .before .before .before .before .before .args .nodes .now) (c .before .before .before .before .before .before .before .before .before .before .before .before .before .args .book .now) (c .before .before .before .before .before .before .«open» .last .1 .0) (c .before .before .before .before .before .before .«open» .last .1 .1 .1 .0)) (c .before .before .before .before .before .before .before .before .before .records .ensures) (c .code .ensures .0) (c .before .before .before .before .before .before .«open» .ensures), c .code .ensures .1)
+
+pub open-spec : {M : Type 1} → statement M
+open-spec =
+    tie.close
+    (tie.spec records-requires open-requires code-requires same-length same-length-2 returns)

@@ -1,0 +1,25 @@
+use borrow.Author.Needs.{needs}
+use Rattle.coding.proofs.Coded.{coded}
+use Rattle.coded_updates.proofs.Says.{Tries}
+use Rattle.coded_updates.proofs.trial.Statement.{statement}
+use Rattle.coded_updates.proofs.trial.Tie as tie
+use Rattle.coded_updates.proofs.trial.Reads as reads
+use Rattle.coded_updates.proofs.trial.Lts as lts
+use Rattle.calls.proofs.code.Reads as code-reads
+use Rattle.coding.proofs.records.Reads as records-reads
+use Rattle.planner.proofs.trial.Reads as trial-reads
+
+records-requires : tie.Need-records-requires
+records-requires c κs = search needs
+
+trial-requires : tie.Need-trial-requires
+trial-requires c κs = search needs
+
+code-requires : tie.Need-code-requires
+code-requires c κs = search needs
+
+returns : tie.Need-returns
+returns c = (coded (Tries (c .before .before .before .before .before .before .before .args .n) (c .before .before .before .before .before .before .before .args .nodes .now) (c .before .before .before .before .before .before .before .args .book .now) (c .before .before .before .before .before .before .before .args .count) (c .before .before .before .before .before .before .before .args .list .now)) (c .before .before .before .records .ensures) (c .code .ensures .0) (c .before .before .trial .ensures), c .code .ensures .1)
+
+pub trial-spec : {M : Type 1} → statement M
+trial-spec = tie.close (tie.spec records-requires trial-requires code-requires returns)

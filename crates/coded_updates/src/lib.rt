@@ -1,0 +1,61 @@
+// The calls that open a ring, join a group and try one, on a node table of rows, with the answer as two numbers: each returns 0, or the number of its
+// refusal, and writes its own answer, or the place of the refusal, through `value`.
+ghost use mathlib.Core.Path.{_≡_};
+ghost use Prim.Native.Nat.{_/_};
+ghost use lib.ListN.{length};
+ghost use Rattle.orders.specs.Lists.{elem};
+ghost use Rattle.orders.specs.CircularOrder.{WellFormed};
+ghost use Rattle.orders.specs.Tree.{Forest};
+ghost use Rattle.calls.specs.Calls.{ring, open-call, join-call, trial-call};
+ghost use Rattle.calls.specs.Demands.{LentRing, ImpossibleIff, Joins};
+ghost use Rattle.calls.specs.Codes.{answer-of, Coded};
+
+// Opens a ring of n leaves: its node table gets the fresh tree, and its book is emptied. The value is the count of groups, 0.
+pub fn open(n: usize, nodes: &mut [u16], book: &mut [u64], value: &mut usize) -> u8
+    ensures { λ r. ⌜ (ring (answer-of r (now (value .exit))) (now (nodes .exit)) (now (book .exit))
+        ≡ open-call n (length (now (nodes .entry)) / 257) (now (nodes .entry)) (now (book .entry)))
+        × Coded r (now (value .exit)) ⌝ }
+{
+    let have = coding::records(nodes);
+    let answer = planner::open(n, nodes, have, book);
+    calls::code(answer, value)
+}
+
+// Joins the list's group: the node table gets the new tree, and the group takes the book's next place. The value is the new count of groups.
+pub fn join(
+    n: usize,
+    nodes: &mut [u16],
+    book: &mut [u64],
+    count: usize,
+    list: &[u16],
+    value: &mut usize,
+) -> u8
+    ensures { λ r. ⌜ ((ring (answer-of r (now (value .exit))) (now (nodes .exit)) (now (book .exit))
+        ≡ join-call n (length (now (nodes .entry)) / 257) (now (nodes .entry)) (now (book .entry)) count (now (list .entry)))
+        × ((t : Forest) → LentRing n (length (now (nodes .entry)) / 257) (now (nodes .entry)) (now (book .entry)) count t
+        → WellFormed n (now (list .entry)) → Joins n (elem (now (list .entry))) t (answer-of r (now (value .exit))) (now (nodes .exit))))
+        × Coded r (now (value .exit)) ⌝ }
+{
+    let have = coding::records(nodes);
+    let answer = planner::join(n, nodes, have, book, count, list);
+    calls::code(answer, value)
+}
+
+// Answers as joining the list's group would, and changes nothing.
+pub fn trial(
+    n: usize,
+    nodes: &[u16],
+    book: &[u64],
+    count: usize,
+    list: &[u16],
+    value: &mut usize,
+) -> u8
+    ensures { λ r. ⌜ ((answer-of r (now (value .exit))
+        ≡ trial-call n (length (now (nodes .entry)) / 257) (now (nodes .entry)) (now (book .entry)) count (now (list .entry)))
+        × ((t : Forest) → LentRing n (length (now (nodes .entry)) / 257) (now (nodes .entry)) (now (book .entry)) count t
+        → WellFormed n (now (list .entry)) → ImpossibleIff (elem (now (list .entry))) t (answer-of r (now (value .exit)))))
+        × Coded r (now (value .exit)) ⌝ }
+{
+    let answer = planner::trial(n, nodes, coding::records(nodes), book, count, list);
+    calls::code(answer, value)
+}

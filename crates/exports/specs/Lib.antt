@@ -1,2 +1,0 @@
--- What the exported scan of a ring file answers, as numbers.
-pub mod Scan
