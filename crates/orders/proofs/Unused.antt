@@ -149,6 +149,14 @@ module _ (e : ℕ → List ℕ) where
       out-rest = widen-all false (c .rest) (c .out-rest);
     }
 
+-- Such is a restriction that has all of ds with x, or none of them.
+pub behind-alike : (G : Restriction) (x : ℕ) (ds : List ℕ) → All (λ z. G z ≡ G x) ds → (y : ℕ) → All (λ z. G z ≡ G y) (behind x ds y)
+behind-alike G x ds h y = go (ℕ-discrete y x)
+  where
+    go : Dec (y ≡ x) → All (λ z. G z ≡ G y) (behind x ds y)
+    go (yes e) = rw (eq-eqb y x e, e) h
+    go (no u) = rw (ne-eqb y x u) tt
+
 -- Every leaf is there once: x is not in the list; it is; there are no leaves to put in.
 module _ (x : ℕ) (ds : List ℕ) where
   widen-none : (l : List ℕ) → All (λ y. x ≢ y) l → widen (behind x ds) l ≡ l
