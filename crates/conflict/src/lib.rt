@@ -221,8 +221,7 @@ pub fn find(n: usize, book: &[u64], count: usize, list: &[u16], out: &mut [u16])
 {
     let mut group = [0u64; 4];
     marks::mark_list(list, &mut group);
-    let mut words = [0u64; 4];
-    marks::mark_list(list, &mut words);
+    let mut words = [group[0], group[1], group[2], group[3]];
     choose(&mut words, book, n);
     let mut start = [0u16; 512];
     let m = start_tree(&words, n, &mut start);

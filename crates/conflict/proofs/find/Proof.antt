@@ -12,6 +12,7 @@ use Rattle.tokens.specs.Tokens.{Wrote}
 use Rattle.tokens.proofs.Writes.{read-part, wrote-most}
 use Rattle.parts.specs.Writers.{flat}
 use Rattle.update.proofs.Updates.{wrote-as}
+use Rattle.update.proofs.Agree.{four-words}
 use Rattle.conflict.specs.StandIn.{Chosen, start}
 use Rattle.conflict.specs.LeavingOut.{group, InBook, conflicts-among}
 use Rattle.conflict.proofs.Joined.{Next, next-tree, no-tree}
@@ -36,17 +37,23 @@ slice-aggregate-mark-list c = search needs
 mark-list-requires : tie.Need-mark-list-requires
 mark-list-requires c κs = search needs
 
-slice-aggregate-mark-list-2 : tie.Need-slice-aggregate-mark-list-2
-slice-aggregate-mark-list-2 c = search needs
+array-read-t20 : tie.Need-array-read-t20
+array-read-t20 c = search needs
 
-mark-list-requires-2 : tie.Need-mark-list-requires-2
-mark-list-requires-2 c κs = search needs
+array-read-t23 : tie.Need-array-read-t23
+array-read-t23 c = search needs
+
+array-read-t26 : tie.Need-array-read-t26
+array-read-t26 c = search needs
+
+array-read-t29 : tie.Need-array-read-t29
+array-read-t29 c = search needs
 
 slice-aggregate-choose : tie.Need-slice-aggregate-choose
 slice-aggregate-choose c = search needs
 
 choose-requires : tie.Need-choose-requires
-choose-requires c κs = (omega arith, c .before .before .before .before .before .before .before .before .before .before .pre .1, c .before .before .before .before .before .before .before .before .before .before .pre .0)
+choose-requires c κs = (omega arith, c .before .before .before .before .before .before .before .pre .1, c .before .before .before .before .before .before .before .pre .0)
 
 slice-aggregate-start-tree : tie.Need-slice-aggregate-start-tree
 slice-aggregate-start-tree c = search needs
@@ -73,17 +80,17 @@ slice-aggregate-join-2 : tie.Need-slice-aggregate-join-2
 slice-aggregate-join-2 c = search needs
 
 -- The leaves to go by; the tree of them; the tree of the new group.
-choice : (c : tie.After-choose) → Chosen (c .before .before .before .before .before .before .before .before .before .before .before .args .n) (elem (now (c .before .before .before .before .before .before .before .before .before .before .before .args .list))) (group (now (c .before .before .before .before .before .before .before .before .before .before .before .args .book))) (marked (c .choose .last .0))
-choice c = subst (λ G. Chosen (c .before .before .before .before .before .before .before .before .before .before .before .args .n) G (group (now (c .before .before .before .before .before .before .before .before .before .before .before .args .book))) (marked (c .choose .last .0))) (ap marked (c .before .before .before .mark-list2 .ensures) ∙ marked-group (c .before .before .before .before .before .before .before .before .before .before .before .args .n) (now (c .before .before .before .before .before .before .before .before .before .before .before .args .list)) (c .before .before .before .before .before .before .before .before .before .before .before .pre .0) (c .before .before .before .before .before .before .before .before .before .before .before .pre .4)) (c .choose .ensures)
+choice : (c : tie.After-choose) → Chosen (c .before .before .before .before .before .before .before .before .args .n) (elem (now (c .before .before .before .before .before .before .before .before .args .list))) (group (now (c .before .before .before .before .before .before .before .before .args .book))) (marked (c .choose .last .0))
+choice c = subst (λ G. Chosen (c .before .before .before .before .before .before .before .before .args .n) G (group (now (c .before .before .before .before .before .before .before .before .args .book))) (marked (c .choose .last .0))) (ap marked (four-words (c .before .before .before .mark-list .last .1 .0) (c .before .before .before .mark-list .kept .1 .0) ∙ c .before .before .before .mark-list .ensures) ∙ marked-group (c .before .before .before .before .before .before .before .before .args .n) (now (c .before .before .before .before .before .before .before .before .args .list)) (c .before .before .before .before .before .before .before .before .pre .0) (c .before .before .before .before .before .before .before .before .pre .4)) (c .choose .ensures)
 
-started : (c : tie.After-start-tree) → take (c .start-tree .result - 0) (drop 0 (c .start-tree .last .1 .1 .0)) ≡ flat (start (c .before .before .before .before .before .before .before .before .before .before .before .before .before .before .before .args .n) (marked (c .before .before .before .before .choose .last .0)))
+started : (c : tie.After-start-tree) → take (c .start-tree .result - 0) (drop 0 (c .start-tree .last .1 .1 .0)) ≡ flat (start (c .before .before .before .before .before .before .before .before .before .before .before .before .args .n) (marked (c .before .before .before .before .choose .last .0)))
 started c = read-part (c .start-tree .ensures)
 
-after : (c : tie.After-known-told) → Next (elem (now (c .before .before .before .before .before .before .before .before .before .before .before .before .before .before .before .before .before .before .before .before .before .before .before .before .before .args .list))) (start (c .before .before .before .before .before .before .before .before .before .before .before .before .before .before .before .before .before .before .before .before .before .before .before .before .before .args .n) (marked (c .before .before .before .before .before .before .before .before .before .before .before .before .before .before .choose .last .0))) (c .before .before .before .before .join .last .1 .1 .1 .0) (c .before .got .given .0 .0)
-after c = next-tree (start (c .before .before .before .before .before .before .before .before .before .before .before .before .before .before .before .before .before .before .before .before .before .before .before .before .before .args .n) (marked (c .before .before .before .before .before .before .before .before .before .before .before .before .before .before .choose .last .0))) (ap marked (c .before .before .before .before .before .before .before .before .before .before .before .before .before .before .before .before .before .before .before .before .mark-list .ensures) ∙ marked-group (c .before .before .before .before .before .before .before .before .before .before .before .before .before .before .before .before .before .before .before .before .before .before .before .before .before .args .n) (now (c .before .before .before .before .before .before .before .before .before .before .before .before .before .before .before .before .before .before .before .before .before .before .before .before .before .args .list)) (c .before .before .before .before .before .before .before .before .before .before .before .before .before .before .before .before .before .before .before .before .before .before .before .before .before .pre .0) (c .before .before .before .before .before .before .before .before .before .before .before .before .before .before .before .before .before .before .before .before .before .before .before .before .before .pre .4)) (c .before .got .given .1) (c .before .before .before .before .join .ensures (start (c .before .before .before .before .before .before .before .before .before .before .before .before .before .before .before .before .before .before .before .before .before .before .before .before .before .args .n) (marked (c .before .before .before .before .before .before .before .before .before .before .before .before .before .before .choose .last .0))) (started (c .before .before .before .before .before .before .before .before .before .before)))
+after : (c : tie.After-known-told) → Next (elem (now (c .before .before .before .before .before .before .before .before .before .before .before .before .before .before .before .before .before .before .before .before .before .before .args .list))) (start (c .before .before .before .before .before .before .before .before .before .before .before .before .before .before .before .before .before .before .before .before .before .before .args .n) (marked (c .before .before .before .before .before .before .before .before .before .before .before .before .before .before .choose .last .0))) (c .before .before .before .before .join .last .1 .1 .1 .0) (c .before .got .given .0 .0)
+after c = next-tree (start (c .before .before .before .before .before .before .before .before .before .before .before .before .before .before .before .before .before .before .before .before .before .before .args .n) (marked (c .before .before .before .before .before .before .before .before .before .before .before .before .before .before .choose .last .0))) (ap marked (c .before .before .before .before .before .before .before .before .before .before .before .before .before .before .before .before .before .mark-list .ensures) ∙ marked-group (c .before .before .before .before .before .before .before .before .before .before .before .before .before .before .before .before .before .before .before .before .before .before .args .n) (now (c .before .before .before .before .before .before .before .before .before .before .before .before .before .before .before .before .before .before .before .before .before .before .args .list)) (c .before .before .before .before .before .before .before .before .before .before .before .before .before .before .before .before .before .before .before .before .before .before .pre .0) (c .before .before .before .before .before .before .before .before .before .before .before .before .before .before .before .before .before .before .before .before .before .before .pre .4)) (c .before .got .given .1) (c .before .before .before .before .join .ensures (start (c .before .before .before .before .before .before .before .before .before .before .before .before .before .before .before .before .before .before .before .before .before .before .args .n) (marked (c .before .before .before .before .before .before .before .before .before .before .before .before .before .before .choose .last .0))) (started (c .before .before .before .before .before .before .before .before .before .before)))
 
 join-requires : tie.Need-join-requires
-join-requires c κs = ((start (c .before .before .before .before .before .before .before .before .before .before .before .before .before .before .before .before .before .before .before .before .args .n) (marked (c .before .before .before .before .before .before .before .before .before .choose .last .0)), started (c .before .before .before .before .before), start-form (choice (c .before .before .before .before .before .before .before .before .before)), c .before .before .before .before .before .before .before .before .before .before .before .before .before .before .before .before .before .before .before .before .pre .0), c .before .before .before .before .before .before .before .before .before .before .before .before .before .before .before .mark-list .kept .1 .0, omega arith)
+join-requires c κs = ((start (c .before .before .before .before .before .before .before .before .before .before .before .before .before .before .before .before .before .args .n) (marked (c .before .before .before .before .before .before .before .before .before .choose .last .0)), started (c .before .before .before .before .before), start-form (choice (c .before .before .before .before .before .before .before .before .before)), c .before .before .before .before .before .before .before .before .before .before .before .before .before .before .before .before .before .pre .0), c .before .before .before .before .before .before .before .before .before .before .before .before .mark-list .kept .1 .0, omega arith)
 
 enum-known-got : tie.Need-enum-known-got
 enum-known-got c = search needs
@@ -92,7 +99,7 @@ enum-told : tie.Need-enum-told
 enum-told c = search needs
 
 returns : tie.Need-returns
-returns c = absurd (one-joins (choice (c .before .before .before .before .before .before .before .before .before .before .before .before .before)) (no-tree (start (c .before .before .before .before .before .before .before .before .before .before .before .before .before .before .before .before .before .before .before .before .before .before .before .before .args .n) (marked (c .before .before .before .before .before .before .before .before .before .before .before .before .before .choose .last .0))) (ap marked (c .before .before .before .before .before .before .before .before .before .before .before .before .before .before .before .before .before .before .before .mark-list .ensures) ∙ marked-group (c .before .before .before .before .before .before .before .before .before .before .before .before .before .before .before .before .before .before .before .before .before .before .before .before .args .n) (now (c .before .before .before .before .before .before .before .before .before .before .before .before .before .before .before .before .before .before .before .before .before .before .before .before .args .list)) (c .before .before .before .before .before .before .before .before .before .before .before .before .before .before .before .before .before .before .before .before .before .before .before .before .pre .0) (c .before .before .before .before .before .before .before .before .before .before .before .before .before .before .before .before .before .before .before .before .before .before .before .before .pre .4)) (c .enum-told .given .1) (c .before .before .before .join .ensures (start (c .before .before .before .before .before .before .before .before .before .before .before .before .before .before .before .before .before .before .before .before .before .before .before .before .args .n) (marked (c .before .before .before .before .before .before .before .before .before .before .before .before .before .choose .last .0))) (started (c .before .before .before .before .before .before .before .before .before)))))
+returns c = absurd (one-joins (choice (c .before .before .before .before .before .before .before .before .before .before .before .before .before)) (no-tree (start (c .before .before .before .before .before .before .before .before .before .before .before .before .before .before .before .before .before .before .before .before .before .args .n) (marked (c .before .before .before .before .before .before .before .before .before .before .before .before .before .choose .last .0))) (ap marked (c .before .before .before .before .before .before .before .before .before .before .before .before .before .before .before .before .mark-list .ensures) ∙ marked-group (c .before .before .before .before .before .before .before .before .before .before .before .before .before .before .before .before .before .before .before .before .before .args .n) (now (c .before .before .before .before .before .before .before .before .before .before .before .before .before .before .before .before .before .before .before .before .before .args .list)) (c .before .before .before .before .before .before .before .before .before .before .before .before .before .before .before .before .before .before .before .before .before .pre .0) (c .before .before .before .before .before .before .before .before .before .before .before .before .before .before .before .before .before .before .before .before .before .pre .4)) (c .enum-told .given .1) (c .before .before .before .join .ensures (start (c .before .before .before .before .before .before .before .before .before .before .before .before .before .before .before .before .before .before .before .before .before .args .n) (marked (c .before .before .before .before .before .before .before .before .before .before .before .before .before .choose .last .0))) (started (c .before .before .before .before .before .before .before .before .before)))))
 
 slice-aggregate-rising : tie.Need-slice-aggregate-rising
 slice-aggregate-rising c = search needs
@@ -122,7 +129,7 @@ leave-out-requires : tie.Need-leave-out-requires
 leave-out-requires c κs =
     let x = after (c .before .before .before .before .before .before .before .before) in
     let r = read-part (c .before .before .before .before .before .before .rising .ensures) in
-    ((x .tree, (elem (now (c .before .before .before .before .before .before .before .before .before .before .before .before .before .before .before .before .before .before .before .before .before .before .before .before .before .before .before .before .before .before .before .before .before .args .list))) ∷ [], x .text, one-represented (choice (c .before .before .before .before .before .before .before .before .before .before .before .before .before .before .before .before .before .before .before .before .before .before)) (x .is), c .before .before .before .before .before .before .before .before .before .before .before .before .before .before .before .before .before .before .before .before .before .before .before .before .before .before .before .before .before .before .before .before .before .pre .0), c .before .before .before .before .before .before .before .before .before .before .before .before .before .before .before .before .before .before .before .before .before .before .before .before .before .before .before .before .before .before .before .before .before .pre .1, subst InBook (sym r) (numbers-in-book (c .before .before .before .before .before .before .before .before .before .before .before .before .before .before .before .before .before .before .before .before .before .before .before .before .before .before .before .before .before .before .before .before .before .args .count) (c .before .before .before .before .before .before .before .before .before .before .before .before .before .before .before .before .before .before .before .before .before .before .before .before .before .before .before .before .before .before .before .before .before .pre .2)), omega (arith, ap length r, range-length 1 (c .before .before .before .before .before .before .before .before .before .before .before .before .before .before .before .before .before .before .before .before .before .before .before .before .before .before .before .before .before .before .before .before .before .args .count), c .before .before .before .before .before .before .before .before .before .before .before .before .before .before .before .before .before .before .before .before .before .before .before .before .before .before .before .before .before .before .before .before .before .pre .3))
+    ((x .tree, (elem (now (c .before .before .before .before .before .before .before .before .before .before .before .before .before .before .before .before .before .before .before .before .before .before .before .before .before .before .before .before .before .before .args .list))) ∷ [], x .text, one-represented (choice (c .before .before .before .before .before .before .before .before .before .before .before .before .before .before .before .before .before .before .before .before .before .before)) (x .is), c .before .before .before .before .before .before .before .before .before .before .before .before .before .before .before .before .before .before .before .before .before .before .before .before .before .before .before .before .before .before .pre .0), c .before .before .before .before .before .before .before .before .before .before .before .before .before .before .before .before .before .before .before .before .before .before .before .before .before .before .before .before .before .before .pre .1, subst InBook (sym r) (numbers-in-book (c .before .before .before .before .before .before .before .before .before .before .before .before .before .before .before .before .before .before .before .before .before .before .before .before .before .before .before .before .before .before .args .count) (c .before .before .before .before .before .before .before .before .before .before .before .before .before .before .before .before .before .before .before .before .before .before .before .before .before .before .before .before .before .before .pre .2)), omega (arith, ap length r, range-length 1 (c .before .before .before .before .before .before .before .before .before .before .before .before .before .before .before .before .before .before .before .before .before .before .before .before .before .before .before .before .before .before .args .count), c .before .before .before .before .before .before .before .before .before .before .before .before .before .before .before .before .before .before .before .before .before .before .before .before .before .before .before .before .before .before .pre .3))
 
 same-length : tie.Need-same-length
 same-length c = search needs
@@ -130,9 +137,9 @@ same-length c = search needs
 returns-2 : tie.Need-returns-2
 returns-2 c =
     let x = after (c .before .before .before .before .before .before .before .before .before .before .before) in
-    wrote-as (list-is (c .before .before .before .before .before .before .before .before .before .before .before .before .before .before .before .before .before .before .before .before .before .before .before .before .before .before .before .before .before .before .before .before .before .before .before .before .args .n) (now (c .before .before .before .before .before .before .before .before .before .before .before .before .before .before .before .before .before .before .before .before .before .before .before .before .before .before .before .before .before .before .before .before .before .before .before .before .args .book)) (c .before .before .before .before .before .before .before .before .before .before .before .before .before .before .before .before .before .before .before .before .before .before .before .before .before .before .before .before .before .before .before .before .before .before .before .before .args .count) (now (c .before .before .before .before .before .before .before .before .before .before .before .before .before .before .before .before .before .before .before .before .before .before .before .before .before .before .before .before .before .before .before .before .before .before .before .before .args .list)))
-    (subst (λ js. Wrote (conflicts-among (c .before .before .before .before .before .before .before .before .before .before .before .before .before .before .before .before .before .before .before .before .before .before .before .before .before .before .before .before .before .before .before .before .before .before .before .before .args .n) (group (now (c .before .before .before .before .before .before .before .before .before .before .before .before .before .before .before .before .before .before .before .before .before .before .before .before .before .before .before .before .before .before .before .before .before .before .before .before .args .book))) ((elem (now (c .before .before .before .before .before .before .before .before .before .before .before .before .before .before .before .before .before .before .before .before .before .before .before .before .before .before .before .before .before .before .before .before .before .before .before .before .args .list))) ∷ []) js) (now (c .before .before .before .before .before .before .before .before .before .before .before .before .before .before .before .before .before .before .before .before .before .before .before .before .before .before .before .before .before .before .before .before .before .before .before .before .args .out)) (c .before .before .leave-out .last .1 .1 .1 .1 .0) (c .before .before .leave-out .result)) (read-part (c .before .before .before .before .before .before .before .before .before .rising .ensures))
-    (c .before .before .leave-out .ensures (x .tree) ((elem (now (c .before .before .before .before .before .before .before .before .before .before .before .before .before .before .before .before .before .before .before .before .before .before .before .before .before .before .before .before .before .before .before .before .before .before .before .before .args .list))) ∷ []) (x .text) (one-represented (choice (c .before .before .before .before .before .before .before .before .before .before .before .before .before .before .before .before .before .before .before .before .before .before .before .before .before)) (x .is))))
+    wrote-as (list-is (c .before .before .before .before .before .before .before .before .before .before .before .before .before .before .before .before .before .before .before .before .before .before .before .before .before .before .before .before .before .before .before .before .before .args .n) (now (c .before .before .before .before .before .before .before .before .before .before .before .before .before .before .before .before .before .before .before .before .before .before .before .before .before .before .before .before .before .before .before .before .before .args .book)) (c .before .before .before .before .before .before .before .before .before .before .before .before .before .before .before .before .before .before .before .before .before .before .before .before .before .before .before .before .before .before .before .before .before .args .count) (now (c .before .before .before .before .before .before .before .before .before .before .before .before .before .before .before .before .before .before .before .before .before .before .before .before .before .before .before .before .before .before .before .before .before .args .list)))
+    (subst (λ js. Wrote (conflicts-among (c .before .before .before .before .before .before .before .before .before .before .before .before .before .before .before .before .before .before .before .before .before .before .before .before .before .before .before .before .before .before .before .before .before .args .n) (group (now (c .before .before .before .before .before .before .before .before .before .before .before .before .before .before .before .before .before .before .before .before .before .before .before .before .before .before .before .before .before .before .before .before .before .args .book))) ((elem (now (c .before .before .before .before .before .before .before .before .before .before .before .before .before .before .before .before .before .before .before .before .before .before .before .before .before .before .before .before .before .before .before .before .before .args .list))) ∷ []) js) (now (c .before .before .before .before .before .before .before .before .before .before .before .before .before .before .before .before .before .before .before .before .before .before .before .before .before .before .before .before .before .before .before .before .before .args .out)) (c .before .before .leave-out .last .1 .1 .1 .1 .0) (c .before .before .leave-out .result)) (read-part (c .before .before .before .before .before .before .before .before .before .rising .ensures))
+    (c .before .before .leave-out .ensures (x .tree) ((elem (now (c .before .before .before .before .before .before .before .before .before .before .before .before .before .before .before .before .before .before .before .before .before .before .before .before .before .before .before .before .before .before .before .before .before .args .list))) ∷ []) (x .text) (one-represented (choice (c .before .before .before .before .before .before .before .before .before .before .before .before .before .before .before .before .before .before .before .before .before .before .before .before .before)) (x .is))))
 
 pub find-spec : {M : Type 1} → statement M
 find-spec =
@@ -140,8 +147,10 @@ find-spec =
     (tie.spec
     slice-aggregate-mark-list
     mark-list-requires
-    slice-aggregate-mark-list-2
-    mark-list-requires-2
+    array-read-t20
+    array-read-t23
+    array-read-t26
+    array-read-t29
     slice-aggregate-choose
     choose-requires
     slice-aggregate-start-tree
