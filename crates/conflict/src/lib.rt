@@ -202,7 +202,8 @@ fn leaves(words: &[u64], n: usize, out: &mut [u16]) -> usize
 // Writes the tree of leaf 1 and the marked leaves from 2 to n that allows all their orders, and says how many tokens it has.
 fn start_tree(words: &[u64], n: usize, out: &mut [u16]) -> usize
     requires { ⌜ (n ≤ 256) × (512 ≤ length (now out)) ⌝ }
-    ensures { λ r. ⌜ Wrote (flat (start n (marked (now (words .entry))))) (now (out .entry)) (now (out .exit)) r ⌝ }
+    ensures { λ r. ⌜ (r ≤ length (now (out .exit)))
+        × Wrote (flat (start n (marked (now (words .entry))))) (now (out .entry)) (now (out .exit)) r ⌝ }
 {
     let mut items = [0u16; 256];
     let k = leaves(words, n, &mut items);

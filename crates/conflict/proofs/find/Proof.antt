@@ -71,7 +71,7 @@ part-join-start : tie.Need-part-join-start
 part-join-start c = search needs
 
 part-join-end : tie.Need-part-join-end
-part-join-end c = omega (arith, wrote-most (c .before .before .start-tree .ensures))
+part-join-end c = search needs
 
 slice-aggregate-join : tie.Need-slice-aggregate-join
 slice-aggregate-join c = search needs
@@ -84,7 +84,7 @@ choice : (c : tie.After-choose) → Chosen (c .before .before .before .before .b
 choice c = subst (λ G. Chosen (c .before .before .before .before .before .before .before .before .args .n) G (group (now (c .before .before .before .before .before .before .before .before .args .book))) (marked (c .choose .last .0))) (ap marked (four-words (c .before .before .before .mark-list .last .1 .0) (c .before .before .before .mark-list .kept .1 .0) ∙ c .before .before .before .mark-list .ensures) ∙ marked-group (c .before .before .before .before .before .before .before .before .args .n) (now (c .before .before .before .before .before .before .before .before .args .list)) (c .before .before .before .before .before .before .before .before .pre .0) (c .before .before .before .before .before .before .before .before .pre .4)) (c .choose .ensures)
 
 started : (c : tie.After-start-tree) → take (c .start-tree .result - 0) (drop 0 (c .start-tree .last .1 .1 .0)) ≡ flat (start (c .before .before .before .before .before .before .before .before .before .before .before .before .args .n) (marked (c .before .before .before .before .choose .last .0)))
-started c = read-part (c .start-tree .ensures)
+started c = read-part (c .start-tree .ensures .1)
 
 after : (c : tie.After-known-told) → Next (elem (now (c .before .before .before .before .before .before .before .before .before .before .before .before .before .before .before .before .before .before .before .before .before .before .args .list))) (start (c .before .before .before .before .before .before .before .before .before .before .before .before .before .before .before .before .before .before .before .before .before .before .args .n) (marked (c .before .before .before .before .before .before .before .before .before .before .before .before .before .before .choose .last .0))) (c .before .before .before .before .join .last .1 .1 .1 .0) (c .before .got .given .0 .0)
 after c = next-tree (start (c .before .before .before .before .before .before .before .before .before .before .before .before .before .before .before .before .before .before .before .before .before .before .args .n) (marked (c .before .before .before .before .before .before .before .before .before .before .before .before .before .before .choose .last .0))) (ap marked (c .before .before .before .before .before .before .before .before .before .before .before .before .before .before .before .before .before .mark-list .ensures) ∙ marked-group (c .before .before .before .before .before .before .before .before .before .before .before .before .before .before .before .before .before .before .before .before .before .before .args .n) (now (c .before .before .before .before .before .before .before .before .before .before .before .before .before .before .before .before .before .before .before .before .before .before .args .list)) (c .before .before .before .before .before .before .before .before .before .before .before .before .before .before .before .before .before .before .before .before .before .before .pre .0) (c .before .before .before .before .before .before .before .before .before .before .before .before .before .before .before .before .before .before .before .before .before .before .pre .4)) (c .before .got .given .1) (c .before .before .before .before .join .ensures (start (c .before .before .before .before .before .before .before .before .before .before .before .before .before .before .before .before .before .before .before .before .before .before .args .n) (marked (c .before .before .before .before .before .before .before .before .before .before .before .before .before .before .choose .last .0))) (started (c .before .before .before .before .before .before .before .before .before .before)))

@@ -1,5 +1,9 @@
 use mathlib.Core.Path.{sym, _∙_}
+use mathlib.Core.List.{List}
+use Prim.Native.Nat.{ℕ, _≤_}
 use native.Mathlib.Omega.{arith}
+use lib.ListN.{length}
+use Rattle.tokens.specs.Tokens.{Wrote}
 use Rattle.marks.specs.Marks.{marked}
 use Rattle.tokens.proofs.Writes.{read-part, wrote-most, wrote-head}
 use Rattle.update.proofs.Updates.{wrote-as}
@@ -33,8 +37,11 @@ copy-requires c κs = search needs
 same-length : tie.Need-same-length
 same-length c = search needs
 
+bounded : {xs old new : List ℕ} {k : ℕ} → Wrote xs old new k → (k ≤ length new) × Wrote xs old new k
+bounded w = (wrote-most w, w)
+
 returns : tie.Need-returns
-returns c = wrote-as (read-part (c .before .before .before .before .before .before .before .before .leaves .ensures) ∙ sym (start-few (c .before .before .before .before .before .before .before .before .before .before .before .before .args .n) (marked (c .before .before .before .before .before .before .before .before .before .before .before .before .args .words .now)) (c .before .before .before .before .before .before .before .before .leaves .result) (c .before .before .before .before .before .before .before .before .leaves .ensures .many) (c .before .before .before .before .before .before .if1 .taken))) (c .before .before .copy .ensures)
+returns c = bounded (wrote-as (read-part (c .before .before .before .before .before .before .before .before .leaves .ensures) ∙ sym (start-few (c .before .before .before .before .before .before .before .before .before .before .before .before .args .n) (marked (c .before .before .before .before .before .before .before .before .before .before .before .before .args .words .now)) (c .before .before .before .before .before .before .before .before .leaves .result) (c .before .before .before .before .before .before .before .before .leaves .ensures .many) (c .before .before .before .before .before .before .if1 .taken))) (c .before .before .copy .ensures))
 
 sub-copy-2 : tie.Need-sub-copy-2
 sub-copy-2 c = search needs
@@ -77,8 +84,8 @@ same-length-2 c = search needs
 
 returns-2 : tie.Need-returns-2
 returns-2 c =
-    rw (start-many (c .before .before .before .before .before .before .before .before .before .before .before .before .args .n) (marked (c .before .before .before .before .before .before .before .before .before .before .before .before .args .words .now)) (c .before .before .before .before .before .before .before .before .leaves .result) (c .before .before .before .before .before .before .before .before .leaves .ensures .many) (omega (arith, c .before .before .before .before .before .before .if1 .left)))
-    (wrote-head _ _ (omega arith) (wrote-as (read-part (c .before .before .before .before .before .before .before .before .leaves .ensures)) (c .before .before .copy2 .ensures)))
+    let e = start-many (c .before .before .before .before .before .before .before .before .before .before .before .before .args .n) (marked (c .before .before .before .before .before .before .before .before .before .before .before .before .args .words .now)) (c .before .before .before .before .before .before .before .before .leaves .result) (c .before .before .before .before .before .before .before .before .leaves .ensures .many) (omega (arith, c .before .before .before .before .before .before .if1 .left)) in
+    bounded (wrote-as (sym e) (wrote-head _ _ (omega arith) (wrote-as (read-part (c .before .before .before .before .before .before .before .before .leaves .ensures)) (c .before .before .copy2 .ensures))))
 
 pub start-tree-spec : {M : Type 1} → statement M
 start-tree-spec =
