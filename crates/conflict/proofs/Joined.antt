@@ -8,13 +8,13 @@ use lib.ListN.{length, take, drop, length-append}
 use Rattle.orders.specs.CircularOrder.{Restriction}
 use Rattle.orders.specs.Tree.{Forest}
 use Rattle.orders.specs.Join.{join}
-use Rattle.orders.proofs.Joining.{join-some}
 use Rattle.tokens.specs.Tokens.{Wrote}
 use Rattle.tokens.proofs.Writes.{read-part}
 use Rattle.parts.specs.Writers.{flat}
 use Rattle.update.specs.declared.Updated.{Updated}
 use Rattle.update.specs.declared.Updated.the-variants.{Impossible, Tokens}
-use Rattle.update.specs.Update.{Published, Answers, impossible, written}
+use Rattle.update.specs.Update.{Within, Answers, impossible, written}
+use Rattle.update.proofs.Updates.{join-form}
 
 pub record Next (G : Restriction) (t : Forest) (new : List ℕ) (m : ℕ) : Type 0 where
   pub tree : Forest
@@ -45,7 +45,6 @@ next-tree t {old} {new} {r} {m} g e a =
 pub no-tree : {H G : Restriction} (t : Forest) {old new : List ℕ} {r : Updated} → H ≡ G → r ≡ Impossible → Answers (join H t) old new r → join G t ≡ none
 no-tree t {old} {new} {r} g e a = answers-none e (subst (λ H. Answers (join H t) old new r) g a)
 
--- The next tree is in form.
-pub next-published : {n : ℕ} {l : List ℕ} (p : Published n l) {G : Restriction} {new : List ℕ} {m : ℕ} → Next G (p .0) new m
-    → Published n (take (m - 0) (drop 0 new))
-next-published {n} p {G} x = (x .tree, x .text, join-some n G (p .0) (x .tree) (p .2) (x .is) .form, p .3)
+-- The next tree is one of some of the leaves too.
+pub next-within : {n : ℕ} {l : List ℕ} (p : Within n l) {G : Restriction} {new : List ℕ} {m : ℕ} → Next G (p .0) new m → Within n (take (m - 0) (drop 0 new))
+next-within p {G} x = (x .tree, x .text, join-form G (p .2) (x .is), p .3)

@@ -7,58 +7,61 @@ use Prim.Native.Nat.{ℕ, _+_, _-_, _≤_, _<_}
 use native.Mathlib.Omega.{arith}
 use lib.ListN.{length, take, drop, getD, take-append-drop}
 use lib.Seq.{drop-length, drop-drop}
-use Rattle.orders.specs.CircularOrder.{CircularOrder, Restriction, Consecutive, AllConsecutive, Possible}
+use Rattle.orders.specs.CircularOrder.{Restriction, Consecutive, AllConsecutive, Possible}
 use Rattle.orders.specs.Tree.{Forest, Allowed}
 use Rattle.orders.specs.Form.{standard}
-use Rattle.orders.specs.Join.{fresh, join}
-use Rattle.orders.proofs.ListLaws.{all-append, all-left, all-right}
+use Rattle.orders.specs.Join.{join}
+use Rattle.orders.proofs.ListLaws.{all-append, all-left, all-right, all-map}
 use Rattle.orders.proofs.StandardOrders.{standard-allowed}
-use Rattle.orders.proofs.Joining.{Allows, join-orders, Joined, join-some}
-use Rattle.orders.proofs.Fresh.{fresh-form, fresh-allowed}
-use Rattle.orders.proofs.Conflicts.{fewer, one-possible}
+use Rattle.orders.proofs.Joining.{Allows, orders-left}
+use Rattle.orders.proofs.Conflicts.{fewer}
 use Rattle.parts.specs.Writers.{flat}
-use Rattle.update.specs.Update.{Published}
+use Rattle.update.specs.Update.{Within}
+use Rattle.update.proofs.Updates.{join-form}
+use Rattle.conflict.specs.StandIn.{OrderOf}
 use Rattle.conflict.specs.LeavingOut.{Represents, Stands, Walked, Stops, keeps, goes-on, conflicts-among}
 use Rattle.conflict.proofs.Keeping.{keeps-behind, keeps-next, goes-on-none, among-none, among-some}
 use Rattle.conflict.proofs.Places.{from-before}
 
--- The fresh tree stands for no group; a group joins.
-pub none-represented : (n : ℕ) → Represents n [] (fresh n)
-none-represented n = record { form = fresh-form n; orders = λ ord. ((λ a. (fresh-allowed n ord .0 a, tt)), (λ r. fresh-allowed n ord .1 (r .0))) }
-
-module _ {n : ℕ} {Gs : List Restriction} {t : Forest} (G : Restriction) (rep : Represents n Gs t) where
-  -- The group stands anywhere among the others.
-  pub joined-represented : (Hs : List Restriction) {u : Forest}
-      → ((ord : List ℕ) → AllConsecutive Hs ord ↔ (AllConsecutive Gs ord × Consecutive G ord)) → join G t ≡ some u → Represents n Hs u
-  joined-represented Hs {u} h e = record { form = j .form; orders = λ ord. ((λ a. to ord (j .orders ord .0 a)), (λ r. from ord r)) }
+module _ {n : ℕ} {f : ℕ → Restriction} {Gs : List Restriction} {t : Forest} (G : Restriction) (rep : Represents n f Gs t) where
+  -- A group joins. It stands anywhere among the others.
+  pub joined-represented : ((ord : List ℕ) → Consecutive G ord → Consecutive G (rep .over .wide ord)) → (Hs : List Restriction) {u : Forest}
+      → ((ord : List ℕ) → AllConsecutive Hs ord ↔ (AllConsecutive Gs ord × Consecutive G ord)) → join G t ≡ some u → Represents n f Hs u
+  joined-represented g Hs {u} h e = record {
+    over = rep .over;
+    form = join-form G (rep .form) e;
+    orders = λ ord. ((λ a. to ord (left ord .0 a)), (λ r. from ord r));
+    wide-keeps-all = λ ord w. let s = h ord .0 w in h (rep .over .wide ord) .1 (rep .wide-keeps-all ord (s .0), g ord (s .1));
+  }
     where
-      j : Joined n G t u
-      j = join-some n G t u (rep .form) e
+      left : (ord : List ℕ) → Allowed u ord ↔ (Allowed t ord × Consecutive G ord)
+      left ord = subst (λ o. Allows o ord ↔ (Allowed t ord × Consecutive G ord)) e (orders-left G t (rep .form .single) (rep .form .canonical) ord)
 
-      to : (ord : List ℕ) → Allowed t ord × Consecutive G ord → CircularOrder n ord × AllConsecutive Hs ord
+      to : (ord : List ℕ) → Allowed t ord × Consecutive G ord → OrderOf (rep .over .leaves) ord × AllConsecutive Hs ord
       to ord a = let r = rep .orders ord .0 (a .0) in (r .0, h ord .1 (r .1, a .1))
 
-      from : (ord : List ℕ) → CircularOrder n ord × AllConsecutive Hs ord → Allowed u ord
-      from ord r = let s = h ord .0 (r .1) in j .orders ord .1 (rep .orders ord .1 (r .0, s .0), s .1)
+      from : (ord : List ℕ) → OrderOf (rep .over .leaves) ord × AllConsecutive Hs ord → Allowed u ord
+      from ord r = let s = h ord .0 (r .1) in left ord .1 (rep .orders ord .1 (r .0, s .0), s .1)
 
   pub joined-not : (Hs : List Restriction) → ((ord : List ℕ) → AllConsecutive Hs ord → AllConsecutive Gs ord × Consecutive G ord)
       → join G t ≡ none → Possible n Hs → ⊥
   joined-not Hs h e p =
-      let s = h (p .order) (p .hang) in
-      subst (λ o. Allows o (p .order)) e (join-orders n G t (rep .form) (p .order) .1 (rep .orders (p .order) .1 (p .is-order, s .0), s .1))
+      let ord = rep .over .narrow (p .order) in
+      let s = h ord (all-map (λ H. Consecutive H (p .order)) (λ H. Consecutive H ord) (λ H. rep .over .narrow-keeps H (p .order)) Hs (p .hang)) in
+      subst (λ o. Allows o ord) e (orders-left G t (rep .form .single) (rep .form .canonical) ord .1
+      (rep .orders ord .1 (rep .over .narrow-order (p .order) (p .is-order), s .0), s .1))
 
-pub represented-possible : {n : ℕ} {Gs : List Restriction} {t : Forest} → Represents n Gs t → Possible n Gs
-represented-possible {t = t} rep = let r = rep .orders (standard t) .0 (standard-allowed t) in record { order = standard t; is-order = r .0; hang = r .1 }
+pub represented-possible : {n : ℕ} {f : ℕ → Restriction} {Gs : List Restriction} {t : Forest} → Represents n f Gs t → Possible n Gs
+represented-possible {t = t} rep =
+    let r = rep .orders (standard t) .0 (standard-allowed t) in
+    record {
+      order = rep .over .wide (standard t);
+      is-order = rep .over .wide-order (standard t) (r .0);
+      hang = rep .wide-keeps-all (standard t) (r .1);
+    }
 
--- The tree of one group: there is one.
-pub one-represented : (n : ℕ) (G : Restriction) {u : Forest} → join G (fresh n) ≡ some u → Represents n (G ∷ []) u
-one-represented n G e = joined-represented G (none-represented n) (G ∷ []) (λ ord. ((λ w. (tt, w .0)), (λ w. (w .1, tt)))) e
-
-pub one-joins : (n : ℕ) (G : Restriction) → join G (fresh n) ≡ none → ⊥
-one-joins n G e = joined-not G (none-represented n) (G ∷ []) (λ ord w. (tt, w .0)) e (one-possible n G)
-
-pub stands-published : {n : ℕ} {toks : List ℕ} → Stands n toks → Published n toks
-stands-published s = (s .0, s .2, s .3 .form, s .4)
+pub stands-within : {n : ℕ} {f : ℕ → Restriction} {toks : List ℕ} → Stands n f toks → Within n toks
+stands-within s = (s .0, s .2, s .3 .form, s .4)
 
 -- One group more, anywhere.
 one-more : (Gs l : List Restriction) (G : Restriction) (ord : List ℕ) → AllConsecutive (Gs ++ (G ∷ l)) ord ↔ (AllConsecutive (Gs ++ l) ord × Consecutive G ord)
@@ -76,11 +79,11 @@ behind n f Gs js i = fewer n (Gs ++ map f js) (Gs ++ map f (drop i js)) (λ ord 
 
 module _ {n : ℕ} {f : ℕ → Restriction} {Gs : List Restriction} where
   -- A walk begins; one group more joins; it cannot.
-  pub walk-begins : {t : Forest} (js : List ℕ) {toks : List ℕ} → Represents n Gs t → toks ≡ flat t → Walked n f Gs js (length js) toks
+  pub walk-begins : {t : Forest} (js : List ℕ) {toks : List ℕ} → Represents n f Gs t → toks ≡ flat t → Walked n f Gs js (length js) toks
   walk-begins {t} js rep e = record {
     tree = t;
     text = e;
-    stands = subst (λ Hs. Represents n Hs t) (sym (append-nil Gs) ∙ ap (λ (l : List ℕ). Gs ++ map f l) (sym (drop-length js))) rep;
+    stands = subst (λ Hs. Represents n f Hs t) (sym (append-nil Gs) ∙ ap (λ (l : List ℕ). Gs ++ map f l) (sym (drop-length js))) rep;
   }
 
   module _ {js : List ℕ} {left : ℕ} {toks : List ℕ} (w : Walked n f Gs js left toks) (h : 0 < left) (g : left ≤ length js) where
@@ -92,9 +95,13 @@ module _ {n : ℕ} {f : ℕ → Restriction} {Gs : List Restriction} where
     more ord = subst (λ l. AllConsecutive (Gs ++ map f l) ord ↔ (AllConsecutive (Gs ++ map f (drop left js)) ord × Consecutive G ord)) (sym (from-before js left h g))
         (one-more Gs (map f (drop left js)) G ord)
 
-    pub walk-joins : {u : Forest} {new : List ℕ} → join (f (getD js (left - 1) 0)) (w .tree) ≡ some u → new ≡ flat u → Walked n f Gs js (left - 1) new
+    pub walk-joins : {u : Forest} {new : List ℕ} → (1 ≤ getD js (left - 1) 0) × (getD js (left - 1) 0 ≤ 96) → join (f (getD js (left - 1) 0)) (w .tree) ≡ some u → new ≡ flat u → Walked n f Gs js (left - 1) new
     unfolding G
-    walk-joins {u} e q = record { tree = u; text = q; stands = joined-represented G (w .stands) (Gs ++ map f (drop (left - 1) js)) more e }
+    walk-joins {u} b e q = record {
+      tree = u;
+      text = q;
+      stands = joined-represented G (w .stands) (w .stands .over .wide-keeps (getD js (left - 1) 0) (b .0) (b .1)) (Gs ++ map f (drop (left - 1) js)) more e;
+    }
 
     pub walk-stops : join (f (getD js (left - 1) 0)) (w .tree) ≡ none → Stops n f Gs js left
     unfolding G
@@ -103,11 +110,11 @@ module _ {n : ℕ} {f : ℕ → Restriction} {Gs : List Restriction} where
   pub walk-ends : {js : List ℕ} → Stops n f Gs js 0
   walk-ends = record { one-more = λ h. absurd (omega (arith, h)) }
 
-  pub walked-stands : {js : List ℕ} {left : ℕ} {toks : List ℕ} → Walked n f Gs js left toks → n ≤ 256 → Stands n toks
+  pub walked-stands : {js : List ℕ} {left : ℕ} {toks : List ℕ} → Walked n f Gs js left toks → n ≤ 256 → Stands n f toks
   walked-stands {js} {left} w h = (w .tree, Gs ++ map f (drop left js), w .text, w .stands, h)
 
-  pub walked-all : {js : List ℕ} {left : ℕ} {toks : List ℕ} (w : Walked n f Gs js left toks) → left ≡ 0 → Represents n (Gs ++ map f js) (w .tree)
-  walked-all {js} w e = subst (λ i. Represents n (Gs ++ map f (drop i js)) (w .tree)) e (w .stands)
+  pub walked-all : {js : List ℕ} {left : ℕ} {toks : List ℕ} (w : Walked n f Gs js left toks) → left ≡ 0 → Represents n f (Gs ++ map f js) (w .tree)
+  walked-all {js} w e = subst (λ i. Represents n f (Gs ++ map f (drop i js)) (w .tree)) e (w .stands)
 
   walked-possible : {js : List ℕ} {left : ℕ} {toks : List ℕ} → Walked n f Gs js left toks → Possible n (Gs ++ map f (drop left js))
   walked-possible w = represented-possible (w .stands)

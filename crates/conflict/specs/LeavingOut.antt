@@ -6,13 +6,14 @@ use mathlib.Core.List.{List, [], _∷_, _++_, map}
 use Prim.Native.Nat.{ℕ, _-_, _<_, _≤_}
 use lib.ListN.{drop}
 use Rattle.orders.specs.Lists.{All}
-use Rattle.orders.specs.CircularOrder.{CircularOrder, Restriction, AllConsecutive, Possible}
+use Rattle.orders.specs.CircularOrder.{Restriction, AllConsecutive, Possible}
 use Rattle.orders.specs.Tree.{Forest, Allowed}
-use Rattle.orders.specs.Form.{InForm}
 use Rattle.orders.specs.Conflict.{possible?}
 use Rattle.marks.specs.Marks.{marked}
 use Rattle.calls.specs.Book.{group-words}
 use Rattle.parts.specs.Writers.{flat}
+use Rattle.update.specs.Update.{FormWithin}
+use Rattle.conflict.specs.StandIn.{OrderOf, StandIn}
 
 -- The group with the number j, from 1.
 unfoldable pub group : List ℕ → ℕ → Restriction
@@ -22,21 +23,24 @@ group book j = marked (group-words book (j - 1))
 abbrev pub InBook : List ℕ → Type 0
 InBook js = All (λ j. (1 ≤ j) × (j ≤ 96)) js
 
--- The tree is in form for n leaves, and it allows exactly the circular orders in which each of the groups is consecutive.
-pub record Represents (n : ℕ) (Gs : List Restriction) (t : Forest) : Type 0 where
-  pub form : InForm n t
-  pub orders : (ord : List ℕ) → Allowed t ord ↔ (CircularOrder n ord × AllConsecutive Gs ord)
+-- The tree is one of leaves that stand for all n, f the groups of the book. It allows exactly the orders of these leaves in which each of the
+-- groups Gs is consecutive.
+pub record Represents (n : ℕ) (f : ℕ → Restriction) (Gs : List Restriction) (t : Forest) : Type 0 where
+  pub over : StandIn n f
+  pub form : FormWithin n t
+  pub orders : (ord : List ℕ) → Allowed t ord ↔ (OrderOf (over .leaves) ord × AllConsecutive Gs ord)
+  pub wide-keeps-all : (ord : List ℕ) → AllConsecutive Gs ord → AllConsecutive Gs (over .wide ord)
 
 -- The tokens are those of such a tree, for at most 256 leaves.
-abbrev pub Stands : ℕ → List ℕ → Type 0
-Stands n toks = (t : Forest) × (Gs : List Restriction) × (toks ≡ flat t) × Represents n Gs t × (n ≤ 256)
+abbrev pub Stands : ℕ → (ℕ → Restriction) → List ℕ → Type 0
+Stands n f toks = (t : Forest) × (Gs : List Restriction) × (toks ≡ flat t) × Represents n f Gs t × (n ≤ 256)
 
 -- Going down from the last of the numbers, f their groups: the tokens are those of the tree of Gs and of the groups behind the first `left`
 -- numbers.
 pub record Walked (n : ℕ) (f : ℕ → Restriction) (Gs : List Restriction) (js : List ℕ) (left : ℕ) (toks : List ℕ) : Type 0 where
   pub tree : Forest
   pub text : toks ≡ flat tree
-  pub stands : Represents n (Gs ++ map f (drop left js)) tree
+  pub stands : Represents n f (Gs ++ map f (drop left js)) tree
 
 -- With one group more they are impossible, or there is no other.
 pub record Stops (n : ℕ) (f : ℕ → Restriction) (Gs : List Restriction) (js : List ℕ) (left : ℕ) : Type 0 where

@@ -1,2 +1,3 @@
+pub mod StandIn
 pub mod LeavingOut
 pub mod Demand

@@ -4,17 +4,18 @@ use mathlib.Core.List.{[], _∷_}
 use Prim.Native.Nat.{_+_, _<_, _≤_, suc, zero, ℕ}
 use native.Mathlib.Omega.{arith}
 use lib.ListN.{length, length-append}
-use Rattle.orders.specs.Lists.{Distinct, In, Perm}
+use Rattle.orders.specs.Lists.{All, Distinct, In, range, Perm}
 use Rattle.orders.specs.CircularOrder.{others}
 use Rattle.orders.specs.Tree.{Kind, Forest, nil, leaf, node, items, frontier}
 use Rattle.orders.specs.Form.{Canonical, Single, InForm, nodes}
 use Rattle.orders.proofs.ListLaws.{cons-head}
 use Rattle.orders.proofs.Perm.{perm-length, perm-distinct, short-perm}
+use Rattle.orders.proofs.Members.{in-all}
 use Rattle.orders.proofs.Ranges.{range-length, in-range, range-distinct}
 use Rattle.orders.proofs.Laws.{Forked}
 use Rattle.orders.proofs.Parts.{canonical-forked}
 
--- Leaf 1 is none of the others, and they differ.
+-- Leaf 1 is none of the others, they differ, and they are from 2 to n.
 pub not-one : (n y : ℕ) → In y (others n) → 1 < y
 not-one zero y i = absurd i
 not-one (suc n) y i = in-range 2 n y i .0
@@ -22,6 +23,10 @@ not-one (suc n) y i = in-range 2 n y i .0
 pub others-distinct : (n : ℕ) → Distinct (others n)
 others-distinct zero = tt
 others-distinct (suc n) = range-distinct 2 n
+
+pub others-range : (n : ℕ) → All (λ b. (2 ≤ b) × (b ≤ n)) (others n)
+others-range zero = tt
+others-range (suc n) = in-all (λ b. (2 ≤ b) × (b ≤ suc n)) (range 2 n) (λ b i. let r = in-range 2 n b i in (r .0, omega (arith, r .1)))
 
 pub form-distinct : (n : ℕ) (t : Forest) → InForm n t → Distinct (frontier t)
 form-distinct n t h = perm-distinct (h .all-leaves) (others-distinct n)

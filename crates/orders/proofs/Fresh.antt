@@ -43,7 +43,7 @@ leaves-order : (l : List ℕ) {xs : List ℕ} → Consistent (leaf-items l) xs �
 leaves-order [] no-items = refl
 leaves-order (b ∷ l) (leaf-first s) = ap (λ m. b ∷ m) (leaves-order l s)
 
-pack-leaves : (l xs : List ℕ) → Consistent (pack (leaf-items l)) xs ↔ Perm l xs
+pub pack-leaves : (l xs : List ℕ) → Consistent (pack (leaf-items l)) xs ↔ Perm l xs
 pack-leaves l xs = Iff·trans (gives-pack (leaf-items l) xs) (to, from)
   where
     to : Consistent (node P (leaf-items l) nil) xs → Perm l xs
@@ -56,7 +56,7 @@ pack-leaves l xs = Iff·trans (gives-pack (leaf-items l) xs) (to, from)
     from : Perm l xs → Consistent (node P (leaf-items l) nil) xs
     from p = node-in {j = leaf-items xs} (rw (items-leaves l, items-leaves xs) (perm-map leaf-item p)) (subst (Consistent (leaf-items xs)) (frontier-leaves xs) (frontier-allowed (leaf-items xs)))
 
--- The fresh ring is in form, for every n.
+-- One P-node with rising leaves is in form, so the fresh ring is, for every n.
 pub leaves-canonical : (l : List ℕ) → Canonical (leaf-items l)
 leaves-canonical [] = tt
 leaves-canonical (b ∷ l) = leaves-canonical l
@@ -65,7 +65,7 @@ range-rises : (m a n : ℕ) → m < a → Rises m (items (leaf-items (range a n)
 range-rises m a zero h = tt
 range-rises m a (suc n) h = (h, range-rises a (suc a) n (omega arith))
 
-others-rising : (n : ℕ) → Rising (items (leaf-items (others n)))
+pub others-rising : (n : ℕ) → Rising (items (leaf-items (others n)))
 others-rising zero = tt
 others-rising (suc zero) = tt
 others-rising (suc (suc n)) = range-rises 2 3 n (omega arith)
@@ -81,13 +81,16 @@ leaves-single : (l : List ℕ) → Single (items (pack (leaf-items l)))
 leaves-single [] = tt
 leaves-single (b ∷ l) = let r = pack-single (leaf-items (b ∷ l)) (omega arith) in subst (λ g. Single (items g)) (sym (r .1)) (one-single (r .0))
 
+pub leaves-form : (l : List ℕ) → Rising (items (leaf-items l)) → Single (items (pack (leaf-items l))) × Canonical (pack (leaf-items l)) × Perm l (frontier (pack (leaf-items l)))
+leaves-form l r = (
+  leaves-single l,
+  pack-canonical (leaf-items l) (leaves-canonical l) r,
+  perm-sym (consistent-perm (pack-leaves l l .1 (perm-refl l))),
+)
+
 pub fresh-form : (n : ℕ) → InForm n (fresh n)
 unfolding fresh
-fresh-form n = record {
-  single = leaves-single (others n);
-  canonical = pack-canonical (leaf-items (others n)) (leaves-canonical (others n)) (others-rising n);
-  all-leaves = perm-sym (consistent-perm (pack-leaves (others n) (others n) .1 (perm-refl (others n))));
-}
+fresh-form n = let r = leaves-form (others n) (others-rising n) in record { single = r .0; canonical = r .1; all-leaves = r .2 }
 
 pub fresh-allowed : (n : ℕ) (ord : List ℕ) → Allowed (fresh n) ord ↔ CircularOrder n ord
 unfolding fresh

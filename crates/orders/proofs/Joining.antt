@@ -8,10 +8,10 @@ use mathlib.Core.List.{List, [], _∷_}
 use Prim.Native.Nat.{_+_, _≤_, suc, zero, ℕ}
 use native.Mathlib.Omega.{arith}
 use lib.ListN.{length}
-use Rattle.orders.specs.Lists.{All, In, elem, range, Perm}
+use Rattle.orders.specs.Lists.{All, Distinct, In, elem, range, Perm}
 use Rattle.orders.specs.CircularOrder.{others, Restriction, WellFormed, Consecutive}
-use Rattle.orders.specs.Tree.{Forest, frontier, Consistent, Allowed}
-use Rattle.orders.specs.Form.{InForm, StandardOrder, standard}
+use Rattle.orders.specs.Tree.{Forest, items, frontier, Consistent, Allowed}
+use Rattle.orders.specs.Form.{Canonical, Single, InForm, StandardOrder, standard}
 use Rattle.orders.specs.Reduce.{complement, reduce}
 use Rattle.orders.specs.Join.{side, join}
 use Rattle.orders.proofs.Perm.{perm-trans, perm-sym}
@@ -19,7 +19,8 @@ use Rattle.orders.proofs.Members.{in-one, all-in, in-all, perm-in, elem
 use Rattle.orders.proofs.Contiguous.{L, Contiguous}
 use Rattle.orders.proofs.CircleAndLine.{complement-out, consecutive-side}
 use Rattle.orders.proofs.Ranges.{range-length, range-in}
-use Rattle.orders.proofs.Forms.{not-one, form-distinct, form-forked}
+use Rattle.orders.proofs.Parts.{canonical-forked}
+use Rattle.orders.proofs.Forms.{not-one, form-distinct}
 use Rattle.orders.proofs.Gives.{Gives}
 use Rattle.orders.proofs.ReduceOrders.{reduce-ok, reduce-frontier, reduce-single}
 use Rattle.orders.proofs.ReduceForm.{reduce-canonical}
@@ -48,10 +49,23 @@ circular o t G h ord = (to o h, from o h)
     from none h p = h (p .0 .after) .1 (p .0 .order, line (p .0) (p .1))
     from (some u) h p = record { after = p .0 .after; one-first = p .0 .one-first; order = h (p .0 .after) .1 (p .0 .order, line (p .0) (p .1)) }
 
+-- A tree of any leaves, with at most one item, in the published form: the orders that are left, and the tree that comes out.
+module _ (G : Restriction) (t : Forest) (one : Single (items t)) (c : Canonical t) where
+  pub orders-left : (ord : List ℕ) → Allows (join G t) ord ↔ (Allowed t ord × Consecutive G ord)
+  unfolding join
+  orders-left = circular (reduce (side 1 G) t) t G (reduce-ok (side 1 G) t one (canonical-forked t c))
+
+  pub tree-left : (t′ : Forest) → Distinct (frontier t) → join G t ≡ some t′ → Single (items t′) × Canonical t′ × Perm (frontier t) (frontier t′)
+  unfolding join
+  tree-left t′ d e = (
+    reduce-single (side 1 G) t t′ one (canonical-forked t c) e,
+    reduce-canonical (side 1 G) t t′ one c e d,
+    reduce-frontier (side 1 G) t t′ one (canonical-forked t c) e,
+  )
+
 module _ (n : ℕ) (G : Restriction) (t : Forest) (f : InForm n t) where
   pub join-orders : (ord : List ℕ) → Allows (join G t) ord ↔ (Allowed t ord × Consecutive G ord)
-  unfolding join
-  join-orders = circular (reduce (side 1 G) t) t G (reduce-ok (side 1 G) t (f .single) (form-forked n t f))
+  join-orders = orders-left G t (f .single) (f .canonical)
 
   -- Impossible: the restriction is consecutive in no allowed order.
   pub join-none : (join G t ≡ none) ↔ ((ord : List ℕ) → Allowed t ord → Consecutive G ord → ⊥)
@@ -69,16 +83,9 @@ pub record Joined (n : ℕ) (G : Restriction) (t t′ : Forest) : Type 0 where
   pub standard-first : StandardOrder t′ (standard t′)
 
 join-form : (n : ℕ) (G : Restriction) (t t′ : Forest) → InForm n t → join G t ≡ some t′ → InForm n t′ × Perm (frontier t) (frontier t′)
-unfolding join
 join-form n G t t′ f e =
-    let p = reduce-frontier (side 1 G) t t′ (f .single) (form-forked n t f) e in (
-      record {
-        single = reduce-single (side 1 G) t t′ (f .single) (form-forked n t f) e;
-        canonical = reduce-canonical (side 1 G) t t′ (f .single) (f .canonical) e (form-distinct n t f);
-        all-leaves = perm-trans (f .all-leaves) p;
-      },
-      p,
-    )
+    let r = tree-left G t (f .single) (f .canonical) t′ (form-distinct n t f) e in
+    (record { single = r .0; canonical = r .1; all-leaves = perm-trans (f .all-leaves) (r .2) }, r .2)
 
 pub join-some : (n : ℕ) (G : Restriction) (t t′ : Forest) → InForm n t → join G t ≡ some t′ → Joined n G t t′
 join-some n G t t′ f e =

@@ -25,7 +25,8 @@ pub mod Reduced
 pub mod ReduceOrders
 pub mod ReduceForm
 pub mod ReduceIdle
--- The theorems: the form tests, the standard order, the tree text, a restriction that joins, the fresh ring, the order tests, the conflict list, the marked circles.
+-- The theorems: the form tests, the standard order, the tree text, a restriction that joins, the fresh ring, the order tests, the conflict list, leaves in no
+-- restriction, the marked circles.
 pub mod FormTests
 pub mod StandardOrders
 pub mod Digits
@@ -34,4 +35,5 @@ pub mod Joining
 pub mod Fresh
 pub mod Decide
 pub mod Conflicts
+pub mod Unused
 pub mod Circles

@@ -95,6 +95,14 @@ pub count-append : (p : ℕ → Bool) (l m : List ℕ) → count p (l ++ m) ≡ 
 count-append p [] m = omega arith
 count-append p (x ∷ l) m = omega (arith, count-cons p x (l ++ m), count-cons p x l, count-append p l m)
 
+pub count-most : (p : ℕ → Bool) (l : List ℕ) → count p l ≤ length l
+count-most p [] = omega arith
+count-most p (x ∷ l) = go (p x) (count-most p l)
+  where
+    go : (b : Bool) → count p l ≤ length l → length (cond b (x ∷ filter p l) (filter p l)) ≤ suc (length l)
+    go true h = omega arith
+    go false h = omega arith
+
 count-none : (l : List ℕ) → count (λ x. false) l ≡ 0
 count-none [] = refl
 count-none (x ∷ l) = count-none l

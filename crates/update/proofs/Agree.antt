@@ -2,22 +2,19 @@
 use mathlib.Core.Path.{_≡_, refl, sym, ap, _∙_}
 use mathlib.Core.Bool.{true, false}
 use mathlib.Core.List.{List, [], _∷_}
-use Prim.Native.Nat.{ℕ, zero, suc, _≤_}
+use Prim.Native.Nat.{ℕ, _≤_}
 use native.Mathlib.Omega.{arith}
 use borrow.Author.Tests.{le-leb}
 use lib.ListN.{length, getD}
-use Rattle.orders.specs.Lists.{All, In, some-of}
-use Rattle.orders.specs.CircularOrder.{Restriction, others}
+use Rattle.orders.specs.Lists.{All, some-of}
+use Rattle.orders.specs.CircularOrder.{Restriction}
 use Rattle.orders.specs.Tree.{Forest, nil, leaf, node, frontier, leaf-item}
-use Rattle.orders.specs.Form.{InForm}
 use Rattle.orders.specs.Reduce.{Class, complement, class, Part, settled, node-part, parts, reduced-first, reduce}
 use Rattle.orders.specs.Join.{side, join}
 use Rattle.orders.proofs.ListLaws.{all-left, all-right, all-map}
-use Rattle.orders.proofs.Perm.{perm-all}
-use Rattle.orders.proofs.Members.{in-all}
-use Rattle.orders.proofs.Ranges.{in-range}
 use Rattle.marks.specs.Marks.{marked, words-of, outside}
 use Rattle.marks.proofs.Words.{marked-words}
+use Rattle.update.specs.Update.{FormWithin}
 
 module _ (S T : Restriction) where
   abbrev pub Agree : List ℕ → Type 0
@@ -50,28 +47,19 @@ module _ (S T : Restriction) where
   unfolding reduce
   reduce-same t h = ap reduced-first (parts-same t h)
 
--- The leaves of a tree in form for n leaves are from 2 to n.
-others-range : (n b : ℕ) → In b (others n) → (1 ≤ b) × (b ≤ n)
-others-range zero b i = absurd i
-others-range (suc n) b i = let r = in-range 2 n b i in (omega arith, omega arith)
-
-pub leaves-range : (n : ℕ) (t : Forest) → InForm n t → All (λ b. (1 ≤ b) × (b ≤ n)) (frontier t)
-leaves-range n t h =
-    perm-all (λ b. (1 ≤ b) × (b ≤ n)) (h .all-leaves) (in-all (λ b. (1 ≤ b) × (b ≤ n)) (others n) (others-range n))
-
 -- A group that leaf 1 is in joins by the other leaves up to n, marked in four words; any other by its own.
 outside-is : (n : ℕ) (G : Restriction) (b : ℕ) → n ≤ 256 → (1 ≤ b) × (b ≤ n) → marked (words-of 4 (outside n G)) b ≡ complement G b
 outside-is n G b h r = marked-words 4 (outside n G) b (r .0) (omega (arith, r .1)) ∙ rw (le-leb b n (r .1))
 
 -- The words ws hold the group; vs are a copy, and us is what the complement makes of it.
-pub join-outside : (n : ℕ) (ws vs us : List ℕ) (t : Forest) → InForm n t → n ≤ 256 → true ≡ marked ws 1 → length ws ≡ 4 → vs ≡ ws
+pub join-outside : (n : ℕ) (ws vs us : List ℕ) (t : Forest) → FormWithin n t → n ≤ 256 → true ≡ marked ws 1 → length ws ≡ 4 → vs ≡ ws
     → us ≡ words-of (length vs) (outside n (marked vs)) → join (marked ws) t ≡ reduce (marked us) t
 unfolding join side
 join-outside n ws vs us t f h e k v u =
     let G = marked ws in
     let w : us ≡ words-of 4 (outside n G) = u ∙ rw (v, k) in
     rw (← e, w)
-    (sym (reduce-same (marked (words-of 4 (outside n G))) (complement G) t (all-map (λ b. (1 ≤ b) × (b ≤ n)) (λ b. marked (words-of 4 (outside n G)) b ≡ complement G b) (λ b r. outside-is n G b h r) (frontier t) (leaves-range n t f))))
+    (sym (reduce-same (marked (words-of 4 (outside n G))) (complement G) t (all-map (λ b. (2 ≤ b) × (b ≤ n)) (λ b. marked (words-of 4 (outside n G)) b ≡ complement G b) (λ b r. outside-is n G b h (omega (arith, r .0), r .1)) (frontier t) (f .in-range))))
 
 pub join-inside : (ws : List ℕ) (t : Forest) → false ≡ marked ws 1 → join (marked ws) t ≡ reduce (marked ws) t
 unfolding join side

@@ -1,17 +1,23 @@
--- The update of a tree in form: its tokens are few, and the judged tree says what is written.
+-- The update of a tree of some leaves: its tokens are few, and the judged tree says what is written.
 use mathlib.Core.Path.{_≡_, refl, sym, ap, _∙_}
+use mathlib.Core.Logic.{_≢_}
 use mathlib.Core.Option.{none, some}
-use mathlib.Core.List.{List}
+use mathlib.Core.List.{List, [], _∷_}
 use Prim.Native.Nat.{ℕ, zero, suc, _+_, _-_, _≤_}
 use native.Mathlib.Omega.{arith}
 use lib.ListN.{length, take, drop}
-use Rattle.orders.specs.CircularOrder.{Restriction, others}
-use Rattle.orders.specs.Tree.{Forest, nil, frontier}
-use Rattle.orders.specs.Form.{InForm, nodes}
+use Rattle.orders.specs.Lists.{All, Distinct, elem, range, Perm}
+use Rattle.orders.specs.CircularOrder.{Restriction}
+use Rattle.orders.specs.Tree.{Forest, nil, items, frontier}
+use Rattle.orders.specs.Form.{Canonical, Single, InForm, nodes}
 use Rattle.orders.specs.Reduce.{reduce}
-use Rattle.orders.proofs.Perm.{perm-length, perm-trans}
-use Rattle.orders.proofs.Ranges.{range-length}
-use Rattle.orders.proofs.Forms.{form-distinct, form-forked, nodes-bound}
+use Rattle.orders.specs.Join.{join}
+use Rattle.orders.proofs.ListLaws.{all-map}
+use Rattle.orders.proofs.Perm.{perm-all, perm-distinct}
+use Rattle.orders.proofs.Ranges.{range-length, count-most, count-elem}
+use Rattle.orders.proofs.Parts.{canonical-forked}
+use Rattle.orders.proofs.Forms.{others-range, form-distinct, nodes-bound}
+use Rattle.orders.proofs.Joining.{tree-left}
 use Rattle.orders.proofs.ReduceOrders.{reduce-frontier, reduce-single}
 use Rattle.orders.proofs.ReduceForm.{reduce-canonical}
 use Rattle.tokens.specs.Tokens.{State, E, F, L, R, X, number, tree, plain, encode, Wrote}
@@ -24,28 +30,53 @@ use Rattle.judge.specs.Total.{first-reduced, totals, when}
 use Rattle.judge.proofs.Reduces.{reduce-total}
 use Rattle.parts.specs.Writers.{flat}
 use Rattle.parts.proofs.Laws.{flat-tree, flat-injective}
-use Rattle.update.specs.Update.{Published}
+use Rattle.update.specs.Update.{Published, FormWithin, Within}
 use Rattle.update.proofs.Laws.{begins, read-part}
 
--- A tree in form for at most 256 leaves has at most 510 tokens.
-others-length : (n : ℕ) → length (others n) ≤ n - 1
-others-length zero = omega arith
-others-length (suc n) = omega (arith, range-length 2 n)
+-- A tree in form for n leaves is one of leaves 2 to n.
+pub form-within : {n : ℕ} {t : Forest} → InForm n t → FormWithin n t
+form-within {n} {t} f = record {
+  single = f .single;
+  canonical = f .canonical;
+  different = form-distinct n t f;
+  in-range = perm-all (λ b. (2 ≤ b) × (b ≤ n)) (f .all-leaves) (others-range n);
+}
+
+pub published-within : {n : ℕ} {l : List ℕ} → Published n l → Within n l
+published-within p = (p .0, p .1, form-within (p .2), p .3)
+
+-- Different leaves from 2 to n are fewer than n, so the tree has at most 510 tokens.
+few-leaves : (n : ℕ) (l : List ℕ) → Distinct l → All (λ b. (2 ≤ b) × (b ≤ n)) l → length l ≤ n - 1
+few-leaves zero [] d h = omega arith
+few-leaves zero (b ∷ l) d h = absurd (omega (arith, h .0 .0, h .0 .1))
+few-leaves (suc n) l d h =
+    let one : All (λ b. 1 ≢ b) l = all-map (λ b. (2 ≤ b) × (b ≤ suc n)) (λ b. 1 ≢ b) (λ b r e. omega (arith, r .0)) l h in
+    let from : All (λ b. (1 ≤ b) × (b ≤ suc n)) l = all-map (λ b. (2 ≤ b) × (b ≤ suc n)) (λ b. (1 ≤ b) × (b ≤ suc n)) (λ b r. (omega (arith, r .0), r .1)) l h in
+    omega (
+      arith,
+      count-elem (suc n) (1 ∷ l) (one, d) ((omega arith, omega arith), from),
+      count-most (elem (1 ∷ l)) (range 1 (suc n)),
+      range-length 1 (suc n),
+    )
 
 pub flat-counts : (t : Forest) → length (flat t) ≡ length (frontier t) + nodes t
 unfolding flat
 flat-counts t = sym (leaves-and-nodes (plain t)) ∙ ap (λ (f : Forest). length (frontier f) + nodes f) (tree-plain t)
 
-pub form-short : (n : ℕ) (t : Forest) → InForm n t → n ≤ 256 → length (flat t) ≤ 510
-form-short n t f h = omega (arith, flat-counts t, nodes-bound t (form-forked n t f), perm-length (f .all-leaves), others-length n)
+pub form-short : (n : ℕ) (t : Forest) → FormWithin n t → n ≤ 256 → length (flat t) ≤ 510
+form-short n t f h = omega (arith, flat-counts t, nodes-bound t (canonical-forked t (f .canonical)), few-leaves n (frontier t) (f .different) (f .in-range))
 
--- Reducing keeps the form.
-pub reduce-form : (n : ℕ) (S : Restriction) (t u : Forest) → InForm n t → reduce S t ≡ some u → InForm n u
-reduce-form n S t u f e = record {
-  single = reduce-single S t u (f .single) (form-forked n t f) e;
-  canonical = reduce-canonical S t u (f .single) (f .canonical) e (form-distinct n t f);
-  all-leaves = perm-trans (f .all-leaves) (reduce-frontier S t u (f .single) (form-forked n t f) e);
-}
+-- Reducing keeps the form, and so does joining.
+moved : {n : ℕ} {t u : Forest} → FormWithin n t → Single (items u) → Canonical u → Perm (frontier t) (frontier u) → FormWithin n u
+moved {n} f s c p = record { single = s; canonical = c; different = perm-distinct p (f .different); in-range = perm-all (λ b. (2 ≤ b) × (b ≤ n)) p (f .in-range) }
+
+pub reduce-form : (n : ℕ) (S : Restriction) (t u : Forest) → FormWithin n t → reduce S t ≡ some u → FormWithin n u
+reduce-form n S t u f e =
+    let k = canonical-forked t (f .canonical) in
+    moved f (reduce-single S t u (f .single) k e) (reduce-canonical S t u (f .single) (f .canonical) e (f .different)) (reduce-frontier S t u (f .single) k e)
+
+pub join-form : {n : ℕ} (G : Restriction) {t u : Forest} → FormWithin n t → join G t ≡ some u → FormWithin n u
+join-form G {t} {u} f e = let r = tree-left G t (f .single) (f .canonical) u (f .different) e in moved f (r .0) (r .1) (r .2)
 
 -- No tokens; the state says that there is no tree; it says that there is one.
 pub reduce-none : (S : Restriction) (t : Forest) {l : List ℕ} → l ≡ flat t → length l ≡ 0 → (t ≡ nil) × (reduce S t ≡ some nil)
@@ -68,21 +99,21 @@ when-not-x L f h = refl
 when-not-x R f h = refl
 when-not-x X f h = absurd (h refl)
 
-pub reduce-no : (n : ℕ) (S : Restriction) (t : Forest) → InForm n t → number (state-of (judge S t)) ≡ 4 → reduce S t ≡ none
-reduce-no n S t f h = reduce-total S t (form-forked n t f) ∙ when-x (state-of (judge S t)) (first-reduced (totals (judge S t))) h
+pub reduce-no : (n : ℕ) (S : Restriction) (t : Forest) → FormWithin n t → number (state-of (judge S t)) ≡ 4 → reduce S t ≡ none
+reduce-no n S t f h = reduce-total S t (canonical-forked t (f .canonical)) ∙ when-x (state-of (judge S t)) (first-reduced (totals (judge S t))) h
 
-pub reduce-yes : (n : ℕ) (S : Restriction) (t : Forest) → InForm n t → (number (state-of (judge S t)) ≡ 4 → ⊥) → reduce S t ≡ some (first-reduced (totals (judge S t)))
-reduce-yes n S t f h = reduce-total S t (form-forked n t f) ∙ when-not-x (state-of (judge S t)) (first-reduced (totals (judge S t))) h
+pub reduce-yes : (n : ℕ) (S : Restriction) (t : Forest) → FormWithin n t → (number (state-of (judge S t)) ≡ 4 → ⊥) → reduce S t ≡ some (first-reduced (totals (judge S t)))
+reduce-yes n S t f h = reduce-total S t (canonical-forked t (f .canonical)) ∙ when-not-x (state-of (judge S t)) (first-reduced (totals (judge S t))) h
 
-pub reduced-short : (n : ℕ) (S : Restriction) (t : Forest) → InForm n t → n ≤ 256 → (number (state-of (judge S t)) ≡ 4 → ⊥)
+pub reduced-short : (n : ℕ) (S : Restriction) (t : Forest) → FormWithin n t → n ≤ 256 → (number (state-of (judge S t)) ≡ 4 → ⊥)
     → length (flat (first-reduced (totals (judge S t)))) ≤ 510
 reduced-short n S t f h z = form-short n _ (reduce-form n S t _ f (reduce-yes n S t f z)) h
 
 -- The form of every tree with these tokens.
-pub the-form : (n : ℕ) (l : List ℕ) (p : Published n l) (t : Forest) → l ≡ flat t → InForm n t
+pub the-form : (n : ℕ) (l : List ℕ) (p : Within n l) (t : Forest) → l ≡ flat t → FormWithin n t
 the-form n l p t e = let q = flat-injective (p .0) t (sym (p .1) ∙ e) in rw (← q) (p .2)
 
-pub tokens-short : (n : ℕ) (l : List ℕ) → Published n l → length l ≤ 510
+pub tokens-short : (n : ℕ) (l : List ℕ) → Within n l → length l ≤ 510
 tokens-short n l p = omega (arith, ap length (p .1), form-short n (p .0) (p .2) (p .3))
 
 -- The judged tree, as the part that is read next.

@@ -4,8 +4,9 @@ use mathlib.Core.Option.{Option, none, some}
 use mathlib.Core.List.{List}
 use Prim.Native.Nat.{ℕ, _≤_}
 use lib.ListN.{length, take}
-use Rattle.orders.specs.Tree.{Forest}
-use Rattle.orders.specs.Form.{InForm}
+use Rattle.orders.specs.Lists.{All, Distinct}
+use Rattle.orders.specs.Tree.{Forest, items, frontier}
+use Rattle.orders.specs.Form.{Canonical, Single, InForm}
 use Rattle.tokens.specs.Tokens.{Wrote}
 use Rattle.parts.specs.Writers.{flat}
 use Rattle.update.specs.declared.Updated.{Updated}
@@ -19,6 +20,17 @@ pub record Begins (xs new : List ℕ) (r : ℕ) : Type 0 where
 -- The tokens are those of a tree in form for n leaves, at most 256.
 abbrev pub Published : ℕ → List ℕ → Type 0
 Published n toks = (t : Forest) × (toks ≡ flat t) × InForm n t × (n ≤ 256)
+
+-- A tree of some of the leaves 2 to n: at most one item, in the published form, and no leaf twice.
+pub record FormWithin (n : ℕ) (t : Forest) : Type 0 where
+  pub single : Single (items t)
+  pub canonical : Canonical t
+  pub different : Distinct (frontier t)
+  pub in-range : All (λ b. (2 ≤ b) × (b ≤ n)) (frontier t)
+
+-- The tokens are those of such a tree, n at most 256.
+abbrev pub Within : ℕ → List ℕ → Type 0
+Within n toks = (t : Forest) × (toks ≡ flat t) × FormWithin n t × (n ≤ 256)
 
 -- The answer: there is no tree, and out stays as it was; or the tree is written to its start, and the answer says how many tokens.
 pub data Answers : Option Forest → List ℕ → List ℕ → Updated → Type 0 where

@@ -1,6 +1,7 @@
 use native.Mathlib.Omega.{arith}
 use borrow.Author.Tests.{not-false}
 use Rattle.parts.specs.Writers.{flat}
+use Rattle.update.proofs.Updates.{form-within}
 use borrow.Author.Needs.{needs}
 use Rattle.bench_join.proofs.step.Statement.{statement}
 use Rattle.bench_join.proofs.step.Tie as tie
@@ -42,7 +43,7 @@ join-requires : tie.Need-join-requires
 unfolding flat
 join-requires c κs =
     let p = c .before .before .before .before .before .is-tree .ensures .0 (not-false (c .before .before .before .before .before .is-tree .result) (c .before .before .before .before .if2 .left)) in
-    ((p .1 .0, p .1 .2, p .1 .1, p .0), search needs, omega arith)
+    ((p .1 .0, p .1 .2, form-within (p .1 .1), p .0), search needs, omega arith)
 
 enum-known-got : tie.Need-enum-known-got
 enum-known-got c = search needs

@@ -66,7 +66,7 @@ go-on-walk-requires : (t : ℕ) → go-on-lts.Need-walk-requires (go-on-calls t)
 go-on-walk-requires t c κs = (c .before .before .before .before .before .before .before .pre .1 .0, c .before .before .before .before .before .before .before .pre .1 .1, subst InBook (sym (part-start (c .before .before .before .before .before .before .before .args .k) (c .before .before .before .before .before .before .before .args .out .now))) (c .before .before .before .before .before .before .before .pre .1 .4), omega arith)
 
 -- The walk over the numbers kept.
-joined : {t : ℕ} (c : go-on-lts.After-walk (go-on-calls t) (go-on-at t) go-on.Post) (u : Forest) (Gs : List Restriction) → c .before .before .before .before .before .before .before .before .args .toks .now ≡ flat u → Represents (c .before .before .before .before .before .before .before .before .args .n) Gs u
+joined : {t : ℕ} (c : go-on-lts.After-walk (go-on-calls t) (go-on-at t) go-on.Post) (u : Forest) (Gs : List Restriction) → c .before .before .before .before .before .before .before .before .args .toks .now ≡ flat u → Represents (c .before .before .before .before .before .before .before .before .args .n) (group (c .before .before .before .before .before .before .before .before .args .book .now)) Gs u
     → Walked (c .before .before .before .before .before .before .before .before .args .n) (group (c .before .before .before .before .before .before .before .before .args .book .now)) Gs (take (c .before .before .before .before .before .before .before .before .args .k) (c .before .before .before .before .before .before .before .before .args .out .now)) (c .walk .result .left) (take (c .walk .result .tokens) (c .walk .last .1 .1 .1 .1 .0))
     × Stops (c .before .before .before .before .before .before .before .before .args .n) (group (c .before .before .before .before .before .before .before .before .args .book .now)) Gs (take (c .before .before .before .before .before .before .before .before .args .k) (c .before .before .before .before .before .before .before .before .args .out .now)) (c .walk .result .left)
 joined c u Gs e rep =
@@ -107,7 +107,7 @@ go-on-halves-requires : (t : ℕ) → go-on-lts.Need-halves-requires (go-on-call
 go-on-halves-requires t c κs =
     let p = c .before .before .before .before .before .before .before .before .before .before .before .before .before .pre .1 .0 in
     let w = joined (c .before .before .before .before .before) (p .0) (p .1) (p .2) (p .3) .0 in
-    (omega (arith, c .before .before .before .before .before .before .before .before .before .before .before .before .before .pre .0), (subst (Stands (c .before .before .before .before .before .before .before .before .before .before .before .before .before .args .n)) (sym (part-start (c .before .before .before .before .before .walk .result .tokens) (c .before .before .before .before .before .walk .last .1 .1 .1 .1 .0))) (walked-stands w (p .4)), c .before .before .before .before .before .before .before .before .before .before .before .before .before .pre .1 .1, c .before .before .before .before .before .before .before .before .before .before .before .before .before .pre .1 .2, omega (arith, c .before .before .before .before .before .before .before .before .before .before .before .before .before .pre .1 .3, c .halves-arg2 .given)))
+    (omega (arith, c .before .before .before .before .before .before .before .before .before .before .before .before .before .pre .0), (subst (Stands (c .before .before .before .before .before .before .before .before .before .before .before .before .before .args .n) (group (c .before .before .before .before .before .before .before .before .before .before .before .before .before .args .book .now))) (sym (part-start (c .before .before .before .before .before .walk .result .tokens) (c .before .before .before .before .before .walk .last .1 .1 .1 .1 .0))) (walked-stands w (p .4)), c .before .before .before .before .before .before .before .before .before .before .before .before .before .pre .1 .1, c .before .before .before .before .before .before .before .before .before .before .before .before .before .pre .1 .2, omega (arith, c .before .before .before .before .before .before .before .before .before .before .before .before .before .pre .1 .3, c .halves-arg2 .given)))
 
 go-on-add-result : (t : ℕ) → go-on-lts.Need-add-result (go-on-calls t) (go-on-at t) go-on.Post
 go-on-add-result t c = omega (arith, c .before .before .halves .ensures .0, c .before .before .before .before .before .before .before .before .before .before .before .before .before .before .before .before .pre .1 .3)
@@ -159,7 +159,7 @@ halves-walk-requires : (t : ℕ) → halves-lts.Need-walk-requires (halves-calls
 halves-walk-requires t c κs = (c .before .before .before .before .before .before .before .pre .1 .0, c .before .before .before .before .before .before .before .pre .1 .1, subst InBook (sym (whole (c .before .before .before .before .before .before .before .args .numbers .now) (length (c .before .before .before .before .before .before .before .args .numbers .now) / 2))) (book-drop (length (c .before .before .before .before .before .before .before .args .numbers .now) / 2) (c .before .before .before .before .before .before .before .args .numbers .now) (c .before .before .before .before .before .before .before .pre .1 .2)), omega arith)
 
 -- The walk down the second half, and how far it came.
-down : {t : ℕ} (c : halves-lts.After-walk (halves-calls t) (halves-at t) halves.Post) (u : Forest) (Gs : List Restriction) → c .before .before .before .before .before .before .before .before .args .toks .now ≡ flat u → Represents (c .before .before .before .before .before .before .before .before .args .n) Gs u
+down : {t : ℕ} (c : halves-lts.After-walk (halves-calls t) (halves-at t) halves.Post) (u : Forest) (Gs : List Restriction) → c .before .before .before .before .before .before .before .before .args .toks .now ≡ flat u → Represents (c .before .before .before .before .before .before .before .before .args .n) (group (c .before .before .before .before .before .before .before .before .args .book .now)) Gs u
     → Walked (c .before .before .before .before .before .before .before .before .args .n) (group (c .before .before .before .before .before .before .before .before .args .book .now)) Gs (drop (length (c .before .before .before .before .before .before .before .before .args .numbers .now) / 2) (c .before .before .before .before .before .before .before .before .args .numbers .now)) (c .walk .result .left) (take (c .walk .result .tokens) (c .walk .last .1 .1 .1 .1 .0)) × Stops (c .before .before .before .before .before .before .before .before .args .n) (group (c .before .before .before .before .before .before .before .before .args .book .now)) Gs (drop (length (c .before .before .before .before .before .before .before .before .args .numbers .now) / 2) (c .before .before .before .before .before .before .before .before .args .numbers .now)) (c .walk .result .left)
 down c u Gs e rep =
     subst (λ js. Walked (c .before .before .before .before .before .before .before .before .args .n) (group (c .before .before .before .before .before .before .before .before .args .book .now)) Gs js (c .walk .result .left) (take (c .walk .result .tokens) (c .walk .last .1 .1 .1 .1 .0)) × Stops (c .before .before .before .before .before .before .before .before .args .n) (group (c .before .before .before .before .before .before .before .before .args .book .now)) Gs js (c .walk .result .left))
@@ -245,10 +245,10 @@ halves-halves-requires t c κs =
     let w = down (c .before .before .before .before .before .before) (p .0) (p .1) (p .2) (p .3) .0 in
     let half = ap length (part-start (length (c .before .before .before .before .before .before .before .before .before .before .before .before .before .before .args .numbers .now) / 2) (c .before .before .before .before .before .before .before .before .before .before .before .before .before .before .args .numbers .now)) in
     let size = length-take-le (length (c .before .before .before .before .before .before .before .before .before .before .before .before .before .before .args .numbers .now) / 2) (c .before .before .before .before .before .before .before .before .before .before .before .before .before .before .args .numbers .now) (omega arith) in
-    (omega (arith, c .before .before .before .before .before .before .before .before .before .before .before .before .before .before .pre .0, half, size, c .before .before .before .before .before .before .before .before .before .if1 .left), (subst (Stands (c .before .before .before .before .before .before .before .before .before .before .before .before .before .before .args .n)) (sym (part-start (c .before .before .before .before .before .before .walk .result .tokens) (c .before .before .before .before .before .before .walk .last .1 .1 .1 .1 .0))) (walked-stands w (p .4)), c .before .before .before .before .before .before .before .before .before .before .before .before .before .before .pre .1 .1, subst InBook (sym (part-start (length (c .before .before .before .before .before .before .before .before .before .before .before .before .before .before .args .numbers .now) / 2) (c .before .before .before .before .before .before .before .before .before .before .before .before .before .before .args .numbers .now))) (book-take (length (c .before .before .before .before .before .before .before .before .before .before .before .before .before .before .args .numbers .now) / 2) (c .before .before .before .before .before .before .before .before .before .before .before .before .before .before .args .numbers .now) (c .before .before .before .before .before .before .before .before .before .before .before .before .before .before .pre .1 .2)), omega (arith, half, size, c .before .before .before .before .before .before .before .before .before .before .before .before .before .before .pre .1 .3)))
+    (omega (arith, c .before .before .before .before .before .before .before .before .before .before .before .before .before .before .pre .0, half, size, c .before .before .before .before .before .before .before .before .before .if1 .left), (subst (Stands (c .before .before .before .before .before .before .before .before .before .before .before .before .before .before .args .n) (group (c .before .before .before .before .before .before .before .before .before .before .before .before .before .before .args .book .now))) (sym (part-start (c .before .before .before .before .before .before .walk .result .tokens) (c .before .before .before .before .before .before .walk .last .1 .1 .1 .1 .0))) (walked-stands w (p .4)), c .before .before .before .before .before .before .before .before .before .before .before .before .before .before .pre .1 .1, subst InBook (sym (part-start (length (c .before .before .before .before .before .before .before .before .before .before .before .before .before .before .args .numbers .now) / 2) (c .before .before .before .before .before .before .before .before .before .before .before .before .before .before .args .numbers .now))) (book-take (length (c .before .before .before .before .before .before .before .before .before .before .before .before .before .before .args .numbers .now) / 2) (c .before .before .before .before .before .before .before .before .before .before .before .before .before .before .args .numbers .now) (c .before .before .before .before .before .before .before .before .before .before .before .before .before .before .pre .1 .2)), omega (arith, half, size, c .before .before .before .before .before .before .before .before .before .before .before .before .before .before .pre .1 .3)))
 
 -- What is kept of the first half.
-first : {t : ℕ} (c : halves-lts.After-halves (halves-calls t) (halves-at t) halves.Post) (u : Forest) (Gs : List Restriction) → c .before .before .before .before .before .before .before .before .before .before .before .before .before .before .before .args .toks .now ≡ flat u → Represents (c .before .before .before .before .before .before .before .before .before .before .before .before .before .before .before .args .n) Gs u
+first : {t : ℕ} (c : halves-lts.After-halves (halves-calls t) (halves-at t) halves.Post) (u : Forest) (Gs : List Restriction) → c .before .before .before .before .before .before .before .before .before .before .before .before .before .before .before .args .toks .now ≡ flat u → Represents (c .before .before .before .before .before .before .before .before .before .before .before .before .before .before .before .args .n) (group (c .before .before .before .before .before .before .before .before .before .before .before .before .before .before .before .args .book .now)) Gs u
     → Wrote (keeps (c .before .before .before .before .before .before .before .before .before .before .before .before .before .before .before .args .n) (group (c .before .before .before .before .before .before .before .before .before .before .before .before .before .before .before .args .book .now)) (Gs ++ map (group (c .before .before .before .before .before .before .before .before .before .before .before .before .before .before .before .args .book .now)) (drop (length (c .before .before .before .before .before .before .before .before .before .before .before .before .before .before .before .args .numbers .now) / 2) (c .before .before .before .before .before .before .before .before .before .before .before .before .before .before .before .args .numbers .now))) (take (length (c .before .before .before .before .before .before .before .before .before .before .before .before .before .before .before .args .numbers .now) / 2) (c .before .before .before .before .before .before .before .before .before .before .before .before .before .before .before .args .numbers .now))) (c .before .before .before .before .before .before .before .before .before .before .before .before .before .before .before .args .out .now) (c .halves .last .1 .1 .1 .1 .0) (c .halves .result)
 first c u Gs e rep =
     let w = down (c .before .before .before .before .before .before .before) u Gs e rep .0 in

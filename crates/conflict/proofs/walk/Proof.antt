@@ -11,8 +11,8 @@ use Rattle.parts.specs.Writers.{flat}
 use Rattle.update.proofs.Updates.{tokens-short}
 use Rattle.conflict.specs.LeavingOut.{group, Represents, Walked}
 use Rattle.conflict.proofs.Places.{part-group, part-start, book-at}
-use Rattle.conflict.proofs.Trees.{stands-published, walk-begins, walk-joins, walk-stops, walk-ends}
-use Rattle.conflict.proofs.Joined.{Next, next-tree, no-tree, next-published}
+use Rattle.conflict.proofs.Trees.{stands-within, walk-begins, walk-joins, walk-stops, walk-ends}
+use Rattle.conflict.proofs.Joined.{Next, next-tree, no-tree, next-within}
 use Rattle.conflict.proofs.walk.Statement.{statement}
 use Rattle.conflict.proofs.walk.Tie as tie
 use Rattle.conflict.proofs.walk.Reads as reads
@@ -23,13 +23,13 @@ use Rattle.update.proofs.join.Reads as join-reads
 abbrev Inv-loop : tie.InvT-loop
 Inv-loop toks book n numbers out₀ m₀ left₀ out m left =
     (left ≤ length numbers) × (length out ≡ length out₀) × (m ≤ length out)
-    × ((t : Forest) (Gs : List Restriction) → toks ≡ flat t → Represents n Gs t → Walked n (group book) Gs numbers left (take m out))
+    × ((t : Forest) (Gs : List Restriction) → toks ≡ flat t → Represents n (group book) Gs t → Walked n (group book) Gs numbers left (take m out))
 
 abbrev μ-loop : tie.MeasureT-loop
 μ-loop toks book n numbers out₀ m₀ left₀ out m left = left
 
 copy-requires : tie.Need-copy-requires Inv-loop μ-loop
-copy-requires c κs = omega (arith, tokens-short (c .before .before .before .before .before .args .n) (c .before .before .before .before .before .args .toks .now) (stands-published (c .before .before .before .before .before .pre .0)), c .before .before .before .before .before .pre .3)
+copy-requires c κs = omega (arith, tokens-short (c .before .before .before .before .before .args .n) (c .before .before .before .before .before .args .toks .now) (stands-within (c .before .before .before .before .before .pre .0)), c .before .before .before .before .before .pre .3)
 
 loop-holds : tie.Need-loop-holds Inv-loop μ-loop
 loop-holds c = (omega arith, refl, wrote-most (c .before .before .copy .ensures), λ t Gs e rep. walk-begins (c .before .before .before .before .before .before .before .before .args .numbers .now) rep (read-back (c .before .before .copy .ensures) ∙ e))
@@ -115,7 +115,7 @@ part-copy-start : tie.Need-part-copy-start Inv-loop μ-loop
 part-copy-start c = search needs
 
 -- The tree with one group more.
-after : (c : tie.After-known-told Inv-loop μ-loop) (t : Forest) (Gs : List Restriction) (e : c .before .before .before .before .before .before .before .before .before .before .before .before .before .before .before .before .before .before .before .before .args .toks .now ≡ flat t) (rep : Represents (c .before .before .before .before .before .before .before .before .before .before .before .before .before .before .before .before .before .before .before .before .args .n) Gs t)
+after : (c : tie.After-known-told Inv-loop μ-loop) (t : Forest) (Gs : List Restriction) (e : c .before .before .before .before .before .before .before .before .before .before .before .before .before .before .before .before .before .before .before .before .args .toks .now ≡ flat t) (rep : Represents (c .before .before .before .before .before .before .before .before .before .before .before .before .before .before .before .before .before .before .before .before .args .n) (group (c .before .before .before .before .before .before .before .before .before .before .before .before .before .before .before .before .before .before .before .before .args .book .now)) Gs t)
     → Next (group (c .before .before .before .before .before .before .before .before .before .before .before .before .before .before .before .before .before .before .before .before .args .book .now) (getD (c .before .before .before .before .before .before .before .before .before .before .before .before .before .before .before .before .before .before .before .before .args .numbers .now) (c .before .before .before .before .before .before .before .before .before .before .before .loop .left - 1) 0)) (c .before .before .before .before .before .before .before .before .before .before .before .loop .inv .3 t Gs e rep .tree) (c .before .before .before .before .join .last .1 .1 .1 .0) (c .before .got .given .0 .0)
 after c t Gs e rep =
     let w = c .before .before .before .before .before .before .before .before .before .before .before .loop .inv .3 t Gs e rep in
@@ -129,7 +129,7 @@ copy-requires-2 c κs =
     let p = c .before .before .before .before .before .before .before .before .before .before .before .before .before .before .before .before .before .before .before .before .before .before .before .pre .0 in
     let w = c .before .before .before .before .before .before .before .before .before .before .before .before .before .before .loop .inv .3 (p .0) (p .1) (p .2) (p .3) in
     let x = after (c .before .before .before) (p .0) (p .1) (p .2) (p .3) in
-    omega (arith, tokens-short (c .before .before .before .before .before .before .before .before .before .before .before .before .before .before .before .before .before .before .before .before .before .before .before .args .n) _ (next-published (w .tree, w .text, w .stands .form, p .4) x), c .before .before .before .before .before .before .before .before .before .before .before .before .before .before .loop .inv .1, c .before .before .before .before .before .before .before .before .before .before .before .before .before .before .before .before .before .copy .kept .1 .0, c .before .before .before .before .before .before .before .before .before .before .before .before .before .before .before .before .before .before .before .before .before .before .before .pre .3)
+    omega (arith, tokens-short (c .before .before .before .before .before .before .before .before .before .before .before .before .before .before .before .before .before .before .before .before .before .before .before .args .n) _ (next-within (w .tree, w .text, w .stands .form, p .4) x), c .before .before .before .before .before .before .before .before .before .before .before .before .before .before .loop .inv .1, c .before .before .before .before .before .before .before .before .before .before .before .before .before .before .before .before .before .copy .kept .1 .0, c .before .before .before .before .before .before .before .before .before .before .before .before .before .before .before .before .before .before .before .before .before .before .before .pre .3)
 
 sub-left : tie.Need-sub-left Inv-loop μ-loop
 sub-left c = omega (arith, c .before .before .before .before .before .before .before .before .before .before .before .before .before .before .before .before .loop-test .taken, c .before .before .before .before .before .before .before .before .before .before .before .before .before .before .before .before .before .loop .inv .0)
@@ -145,7 +145,7 @@ loop-again c = (
   λ t Gs e rep.
       let w = c .before .before .before .before .before .before .before .before .before .before .before .before .before .before .before .before .before .loop .inv .3 t Gs e rep in
       let x = after (c .before .before .before .before .before .before) t Gs e rep in
-      walk-joins w (omega (arith, c .before .before .before .before .before .before .before .before .before .before .before .before .before .before .before .before .loop-test .taken)) (c .before .before .before .before .before .before .before .before .before .before .before .before .before .before .before .before .before .loop .inv .0) (x .is) (read-back (c .before .before .copy2 .ensures) ∙ x .text),
+      walk-joins w (omega (arith, c .before .before .before .before .before .before .before .before .before .before .before .before .before .before .before .before .loop-test .taken)) (c .before .before .before .before .before .before .before .before .before .before .before .before .before .before .before .before .before .loop .inv .0) (number (c .before .before .before .before .before .before .before .before .before .before .before .before .before .before .before)) (x .is) (read-back (c .before .before .copy2 .ensures) ∙ x .text),
 )
 
 same-length-2 : tie.Need-same-length-2 Inv-loop μ-loop

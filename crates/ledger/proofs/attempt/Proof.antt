@@ -1,6 +1,7 @@
 use borrow.Author.Needs.{needs}
 use mathlib.Core.Path.{sym, _∙_}
 use denote.Ref.{now}
+use Rattle.update.proofs.Updates.{published-within}
 use Rattle.ledger.proofs.Outcomes.{tried-empty, tried-full, tried-refused, tried-kept}
 use Rattle.ledger.proofs.attempt.Statement.{statement}
 use Rattle.ledger.proofs.attempt.Tie as tie
@@ -25,7 +26,7 @@ slice-aggregate-join : tie.Need-slice-aggregate-join
 slice-aggregate-join c = search needs
 
 join-requires : tie.Need-join-requires
-join-requires c κs = search needs
+join-requires c κs = search (needs, published-within)
 
 enum-known-got : tie.Need-enum-known-got
 enum-known-got c = search needs

@@ -6,6 +6,7 @@ use Rattle.marks.specs.Marks.{marked}
 use Rattle.calls.specs.Refusals.{down, list-checks}
 use Rattle.book.specs.Lists.{verdict}
 use Rattle.update.specs.Update.{Answers}
+use Rattle.update.proofs.Updates.{published-within}
 use Rattle.planner.proofs.Laws.{list-refused, full-refused, none-joined, one-joined}
 use borrow.Author.Needs.{needs}
 use Rattle.planner.proofs.attempt_on.Statement.{statement}
@@ -44,7 +45,7 @@ slice-aggregate-join : tie.Need-slice-aggregate-join
 slice-aggregate-join c = search needs
 
 join-requires : tie.Need-join-requires
-join-requires c κs = search needs
+join-requires c κs = search (needs, published-within)
 
 enum-known-m : tie.Need-enum-known-m
 enum-known-m c = search needs
