@@ -27,10 +27,11 @@ use Rattle.book.specs.declared.Checked.the-variants.{Bad}
 use Rattle.book.specs.Lists.{verdict}
 use Rattle.book.proofs.Laws.{few-groups}
 use Rattle.tokens.specs.Tokens.{Wrote}
-use Rattle.conflict.specs.LeavingOut.{group, conflicts-among}
+use Rattle.stand_in.specs.StandIn.{group}
+use Rattle.leaving_out.specs.LeavingOut.{conflicts-among}
 use Rattle.conflict.specs.Demand.{LentBook, Named}
-use Rattle.conflict.proofs.Keeping.{rule-list}
-use Rattle.conflict.proofs.Places.{groups-numbered, groups-length}
+use Rattle.leaving_out.proofs.Keeping.{rule-list}
+use Rattle.leaving_out.proofs.Places.{groups-numbered, groups-length}
 
 module _ (n : ℕ) (book : List ℕ) (count : ℕ) (list table : List ℕ) where
   -- What passes.

@@ -19,9 +19,9 @@ use Rattle.orders.proofs.Fresh.{pack-leaves, others-rising, leaves-form}
 use Rattle.orders.proofs.Conflicts.{one-possible}
 use Rattle.orders.proofs.Unused.{filter-distinct, rising-filter, narrow-consecutive, widen, behind, widen-consecutive, behind-alike, kept, dropped, narrow-order, widen-order}
 use Rattle.update.specs.Update.{FormWithin}
-use Rattle.conflict.specs.StandIn.{Unused, Chosen, start, OrderOf, StandIn}
-use Rattle.conflict.specs.LeavingOut.{Represents}
-use Rattle.conflict.proofs.Trees.{joined-represented, joined-not}
+use Rattle.stand_in.specs.StandIn.{Unused, Chosen, start, OrderOf, StandIn}
+use Rattle.leaving_out.specs.LeavingOut.{Represents}
+use Rattle.leaving_out.proofs.Trees.{joined-represented, joined-not}
 
 others-in : (n b : ℕ) → 2 ≤ b → b ≤ n → In b (others n)
 others-in zero b h l = absurd (omega arith)

@@ -1,3 +1,1 @@
-pub mod StandIn
-pub mod LeavingOut
 pub mod Demand

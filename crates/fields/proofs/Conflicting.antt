@@ -9,7 +9,7 @@ use Rattle.orders.specs.Conflict.{conflict-list, Numbers}
 use Rattle.orders.proofs.Conflicts.{conflict-demand-3}
 use Rattle.calls.specs.Book.{groups}
 use Rattle.calls.specs.Calls.{conflicts-of}
-use Rattle.conflict.proofs.Places.{groups-length}
+use Rattle.leaving_out.proofs.Places.{groups-length}
 
 numbers-all : (k m : ℕ) (ns : List ℕ) → Numbers k (suc m) ns → 1 ≤ k → All (λ j. (1 ≤ j) × (j ≤ m)) ns
 numbers-all k m [] h l = tt

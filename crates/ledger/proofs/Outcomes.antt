@@ -23,7 +23,7 @@ use Rattle.parts.specs.Writers.{flat}
 use Rattle.update.specs.declared.Updated.{Updated}
 use Rattle.update.specs.declared.Updated.the-variants.{Impossible, Tokens}
 use Rattle.update.specs.Update.{Answers as Joined, Published}
-use Rattle.conflict.proofs.Joined.{answers-tree, no-tree}
+use Rattle.leaving_out.proofs.Joined.{answers-tree, no-tree}
 use Rattle.ledger.specs.Ledger.{Outcome, kept, refused, empty, full, State, opened, joined, outcome, next}
 use Rattle.ledger.specs.declared.Tried.{Tried}
 use Rattle.ledger.specs.declared.Tried.the-variants.{Kept, Stays}

@@ -13,10 +13,11 @@ use Rattle.tokens.proofs.Writes.{read-part, wrote-most}
 use Rattle.parts.specs.Writers.{flat}
 use Rattle.update.proofs.Updates.{wrote-as}
 use Rattle.update.proofs.Agree.{four-words}
-use Rattle.conflict.specs.StandIn.{Chosen, start}
-use Rattle.conflict.specs.LeavingOut.{group, InBook, conflicts-among}
-use Rattle.conflict.proofs.Joined.{Next, next-tree, no-tree}
-use Rattle.conflict.proofs.Places.{numbers-in-book}
+use Rattle.stand_in.specs.StandIn.{Chosen, start}
+use Rattle.stand_in.specs.StandIn.{group}
+use Rattle.leaving_out.specs.LeavingOut.{InBook, conflicts-among}
+use Rattle.leaving_out.proofs.Joined.{Next, next-tree, no-tree}
+use Rattle.leaving_out.proofs.Places.{numbers-in-book}
 use Rattle.conflict.proofs.Start.{start-form, one-represented, one-joins}
 use Rattle.conflict.proofs.Call.{list-is}
 use borrow.Author.Needs.{needs}
@@ -24,10 +25,10 @@ use Rattle.conflict.proofs.find.Statement.{statement}
 use Rattle.conflict.proofs.find.Tie as tie
 use Rattle.conflict.proofs.find.Reads as reads
 use Rattle.conflict.proofs.find.Lts as lts
-use Rattle.conflict.proofs.leave_out.Reads as leave-out-reads
+use Rattle.leaving_out.proofs.leave_out.Reads as leave-out-reads
 use Rattle.conflict.proofs.rising.Reads as rising-reads
-use Rattle.conflict.proofs.choose.Reads as choose-reads
-use Rattle.conflict.proofs.start_tree.Reads as start-tree-reads
+use Rattle.stand_in.proofs.choose.Reads as choose-reads
+use Rattle.stand_in.proofs.start_tree.Reads as start-tree-reads
 use Rattle.marks.proofs.mark_list.Reads as mark-list-reads
 use Rattle.update.proofs.join.Reads as join-reads
 

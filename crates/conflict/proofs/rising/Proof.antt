@@ -6,7 +6,7 @@ use native.Mathlib.Omega.{arith}
 use Rattle.orders.specs.Lists.{range}
 use Rattle.orders.proofs.Ranges.{range-length}
 use Rattle.tokens.proofs.Writes.{write-step}
-use Rattle.conflict.proofs.Places.{numbers-more}
+use Rattle.leaving_out.proofs.Places.{numbers-more}
 use Rattle.conflict.proofs.rising.Statement.{statement}
 use Rattle.conflict.proofs.rising.Tie as tie
 use Rattle.conflict.proofs.rising.Reads as reads

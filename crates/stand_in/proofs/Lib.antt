@@ -1,0 +1,3 @@
+-- The choice of the leaves; the tokens of the tree to start from.
+pub mod Choice
+pub mod StartTokens
