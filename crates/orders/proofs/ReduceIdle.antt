@@ -37,7 +37,7 @@ put-rises m nil u g h = subst (λ l. Rises m l) (items-put u g) h .0
 put-rises m (leaf b f) u g h = let r = put-rises b f u g (h .1) in omega (arith, h .0)
 put-rises m (node k i f) u g h = let r = put-rises (first i) f u g (h .1) in omega (arith, h .0)
 
-back : (f : Forest) (u : Item) (g : Forest) → Rising (items (append f (put u g))) → insert (one u) (append f g) ≡ append f (put u g)
+pub back : (f : Forest) (u : Item) (g : Forest) → Rising (items (append f (put u g))) → insert (one u) (append f g) ≡ append f (put u g)
 back nil u g h = back-here u g (subst Rising (items-put u g) h)
 back (leaf b f) u g h =
     let q = first-one u in
@@ -51,14 +51,14 @@ back (node k i f) u g h =
     cond-cases (ltb (first (one u)) (first i)) (append (one u) (node k i (append f g))) (node k i (insert (one u) (append f g))) (λ z. z ≡ node k i (append f (put u g)))
     (λ y. absurd (omega (arith, ltb-true (first (one u)) (first i) y))) (λ n. ap (node k i) r)
 
-orient-same : (f : Forest) → first f < first (rev f) → orient f ≡ f
+pub orient-same : (f : Forest) → first f < first (rev f) → orient f ≡ f
 orient-same f h = cond-cases (ltb (first (rev f)) (first f)) (rev f) f (λ z. z ≡ f) (λ y. absurd (omega (arith, ltb-true (first (rev f)) (first f) y))) (λ n. refl)
 
 pack-one : (t : Item) → pack (one t) ≡ one t
 pack-one (leaf-item b) = refl
 pack-one (node-item k i) = refl
 
-pack-two : (f : Forest) → TwoItems (items f) → pack f ≡ node P f nil
+pub pack-two : (f : Forest) → TwoItems (items f) → pack f ≡ node P f nil
 pack-two f h = cond-cases (ltb 1 (length (items f))) (node P f nil) f (λ z. z ≡ node P f nil) (λ y. refl) (λ n. absurd (omega (arith, ltb-false 1 (length (items f)) n)))
 
 -- A node with one item that is not empty, and that stays: the node stays.

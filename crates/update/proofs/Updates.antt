@@ -1,6 +1,7 @@
 -- The update of a tree of some leaves: its tokens are few, and the judged tree says what is written.
 use mathlib.Core.Path.{_≡_, refl, sym, ap, _∙_}
 use mathlib.Core.Logic.{_≢_}
+use mathlib.Core.Bool.{true}
 use mathlib.Core.Option.{none, some}
 use mathlib.Core.List.{List, [], _∷_}
 use Prim.Native.Nat.{ℕ, zero, suc, _+_, _-_, _≤_}
@@ -20,16 +21,19 @@ use Rattle.orders.proofs.Forms.{others-range, form-distinct, nodes-bound}
 use Rattle.orders.proofs.Joining.{tree-left}
 use Rattle.orders.proofs.ReduceOrders.{reduce-frontier, reduce-single}
 use Rattle.orders.proofs.ReduceForm.{reduce-canonical}
-use Rattle.tokens.specs.Tokens.{State, E, F, L, R, X, number, tree, plain, encode, Wrote}
-use Rattle.tokens.specs.Views.{state-of}
+use Rattle.tokens.specs.Tokens.{State, E, F, L, R, X, number, Judged, j-nil, j-leaf, j-node, tree, plain, encode, Wrote}
+use Rattle.tokens.specs.Views.{state-of, first-of}
 use Rattle.tokens.proofs.Laws.{at-end}
 use Rattle.tokens.proofs.Counts.{leaves-and-nodes}
 use Rattle.tokens.proofs.Sequences.{tree-plain}
 use Rattle.judge.specs.Judge.{can-reduce, judge}
 use Rattle.judge.specs.Total.{first-reduced, totals, when}
+use Rattle.judge.proofs.Judged.{tree-judge}
 use Rattle.judge.proofs.Reduces.{reduce-total}
 use Rattle.parts.specs.Writers.{flat}
 use Rattle.parts.proofs.Laws.{flat-tree, flat-injective}
+use Rattle.idle.specs.Stays.{stays}
+use Rattle.idle.proofs.Same.{stays-same}
 use Rattle.update.specs.Update.{Published, FormWithin, Within}
 use Rattle.update.proofs.Laws.{begins, read-part}
 
@@ -104,6 +108,24 @@ reduce-no n S t f h = reduce-total S t (canonical-forked t (f .canonical)) ∙ w
 
 pub reduce-yes : (n : ℕ) (S : Restriction) (t : Forest) → FormWithin n t → (number (state-of (judge S t)) ≡ 4 → ⊥) → reduce S t ≡ some (first-reduced (totals (judge S t)))
 reduce-yes n S t f h = reduce-total S t (canonical-forked t (f .canonical)) ∙ when-not-x (state-of (judge S t)) (first-reduced (totals (judge S t))) h
+
+-- Where the item stays, the tree does.
+first-only : (j : Judged) → Single (items (tree j)) → tree (first-of j) ≡ tree j
+unfolding first-of
+first-only j-nil h = refl
+first-only (j-leaf s b j-nil) h = refl
+first-only (j-leaf s b (j-leaf r a j)) h = absurd h
+first-only (j-leaf s b (j-node r k i j)) h = absurd h
+first-only (j-node s k i j-nil) h = refl
+first-only (j-node s k i (j-leaf r a j)) h = absurd h
+first-only (j-node s k i (j-node r m l j)) h = absurd h
+
+pub reduce-stays : (n : ℕ) (S : Restriction) (t : Forest) → FormWithin n t → (number (state-of (judge S t)) ≡ 4 → ⊥) → true ≡ stays (judge S t) → reduce S t ≡ some t
+reduce-stays n S t f z h =
+    let e = tree-judge S t in
+    let c : Canonical (tree (judge S t)) = rw e (f .canonical) in
+    let o : Single (items (tree (judge S t))) = rw e (f .single) in
+    reduce-yes n S t f z ∙ ap some (stays-same (judge S t) c (sym h) ∙ first-only (judge S t) o ∙ e)
 
 pub reduced-short : (n : ℕ) (S : Restriction) (t : Forest) → FormWithin n t → n ≤ 256 → (number (state-of (judge S t)) ≡ 4 → ⊥)
     → length (flat (first-reduced (totals (judge S t)))) ≤ 510

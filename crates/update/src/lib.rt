@@ -120,6 +120,9 @@ pub fn update(toks: &[u16], marks: &[u64], out: &mut [u16]) -> Updated
     if tokens::state(&judged[0..m]) == 4 {
         return Updated::Impossible;
     }
+    if idle::stays(&judged[0..m]) {
+        return Updated::Tokens(tokens::copy(toks, out));
+    }
     let mut tree = [0u16; 512];
     let mut spare = [0u16; 512];
     let k = reduced(&judged[0..m], &mut tree, &mut spare);

@@ -1,0 +1,3 @@
+-- What the proofs of several functions use, here and in the crates above.
+pub mod Same
+pub mod Laws
