@@ -8,7 +8,7 @@ use borrow.Author.Tests.{lt-ltb, le-ltb}
 use lib.Dec.{eqb}
 use lib.ListN.{length}
 use Rattle.orders.specs.Tree.{Kind, P, C}
-use Rattle.tokens.specs.Tokens.{State, number, Judged, j-nil, j-leaf, j-node, encode}
+use Rattle.tokens.specs.Tokens.{number, Judged, j-nil, j-leaf, j-node, encode}
 use Rattle.tokens.specs.Views.{shape-of, state-of, items-of, rest-of}
 use Rattle.spans.specs.Spans.{is, beyond, Parted}
 use Rattle.spans.proofs.Laws.{beyond-same, beyond-stops}

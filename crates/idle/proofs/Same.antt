@@ -1,20 +1,19 @@
 -- An item that stays is the same when it is reduced.
 use mathlib.Core.Path.{_≡_, refl, sym, ap, ap₂, _∙_, subst}
 use mathlib.Core.Bool.{Bool, true, false, cond, true≢false}
-use mathlib.Core.List.{List, [], _∷_}
+use mathlib.Core.List.{[]}
 use Prim.Native.Nat.{ℕ, _<_}
 use native.Mathlib.Omega.{arith}
 use borrow.Author.Tests.{eqb-true}
-use lib.Dec.{eqb, ltb}
+use lib.Dec.{ltb}
 use lib.ListN.{length}
 use Rattle.orders.specs.Tree.{Kind, P, C, Forest, nil, leaf, node, Item, leaf-item, node-item, items, append}
 use Rattle.orders.specs.Form.{TwoItems, Sorted, Rising, Canonical}
-use Rattle.orders.specs.Reduce.{put, one, insert, orient, pack}
+use Rattle.orders.specs.Reduce.{put, one, insert, pack}
 use Rattle.orders.proofs.ReduceIdle.{back, orient-same, pack-two}
 use Rattle.tokens.specs.Tokens.{State, E, F, L, R, X, number, Judged, j-nil, j-leaf, j-node, tree, encode}
 use Rattle.tokens.specs.Views.{first-of}
-use Rattle.judge.specs.Judge.{all-empty}
-use Rattle.judge.specs.Total.{Total, states-of, whole-of, only-of, partial-of, first-reduced, mirrored-lines, c-node-of, middle-of, gather-of, reduced-of, total-by, totals}
+use Rattle.judge.specs.Total.{whole-of, only-of, partial-of, first-reduced, mirrored-lines, c-node-of, middle-of, gather-of, reduced-of, total-by, totals}
 use Rattle.parts.specs.Writers.{all-with-state, from-partial}
 use Rattle.parts.proofs.Laws.{whole-totals, all-empty-is}
 use Rattle.idle.specs.Stays.{unmixed, stays-in, stays}

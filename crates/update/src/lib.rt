@@ -116,7 +116,7 @@ pub fn update(toks: &[u16], marks: &[u64], out: &mut [u16]) -> Updated
         return Updated::Tokens(0);
     }
     let mut judged = [0u16; 512];
-    judge::judge(toks, marks, 0, &mut judged);
+    judge::judge(toks, marks, &mut judged);
     if tokens::state(&judged[0..m]) == 4 {
         return Updated::Impossible;
     }

@@ -1,8 +1,8 @@
-use mathlib.Core.Path.{_≡_, sym, ap, _∙_}
+-- Each answer is the one that the definition gives.
+use mathlib.Core.Path.{_≡_, sym, _∙_}
 use lib.ListN.{length, take, drop, length-drop}
-use Prim.Native.Nat.{_+_, _-_, _≤_}
+use Prim.Native.Nat.{_-_}
 use native.Mathlib.Omega.{arith}
-use borrow.Author.Needs.{needs}
 use Rattle.tokens.specs.Tokens.{Judged, encode}
 use Rattle.tokens.specs.Views.{items-of}
 use Rattle.tokens.proofs.Laws.{whole}

@@ -8,9 +8,7 @@ use Rattle.tokens.specs.Tokens.{number, plain, encode}
 use Rattle.tokens.specs.Views.{state-of}
 use Rattle.tokens.proofs.Writes.{wrote-none}
 use Rattle.judge.specs.Judge.{judge}
-use Rattle.judge.specs.Automaton.{p0}
 use Rattle.judge.specs.Total.{first-reduced, totals}
-use Rattle.judge.proofs.Pass.{zero-start}
 use Rattle.parts.specs.Writers.{flat}
 use Rattle.parts.proofs.Laws.{flat-nil, flat-tree}
 use Rattle.update.specs.Update.{impossible, written}
@@ -38,8 +36,8 @@ judge-requires c κs = ((_, flat-tree (c .before .before .before .before .before
 
 -- The judged tree.
 text : (c : tie.After-judged2) (t : Forest) → c .before .before .before .before .before .before .before .args .toks .now ≡ flat t
-    → take (length (c .before .before .before .before .before .before .before .args .toks .now) - 0) (drop 0 (c .before .judge .last .1 .1 .1 .0)) ≡ encode (judge (marked (c .before .before .before .before .before .before .before .args .marks .now)) t)
-text c t e = judged-part (marked (c .before .before .before .before .before .before .before .args .marks .now)) t (c .before .judge .ensures (plain t) p0 (flat-tree t e) zero-start .1)
+    → take (length (c .before .before .before .before .before .before .before .args .toks .now) - 0) (drop 0 (c .before .judge .last .1 .1 .0)) ≡ encode (judge (marked (c .before .before .before .before .before .before .before .args .marks .now)) t)
+text c t e = judged-part (marked (c .before .before .before .before .before .before .before .args .marks .now)) t (c .before .judge .ensures (plain t) (flat-tree t e))
 
 sub-state : tie.Need-sub-state
 sub-state c = search needs
@@ -48,10 +46,10 @@ part-state-start : tie.Need-part-state-start
 part-state-start c = search needs
 
 part-state-end : tie.Need-part-state-end
-part-state-end c = omega (arith, tokens-short (c .before .before .before .before .before .before .before .before .pre .0) (c .before .before .before .before .before .before .before .before .args .toks .now) (c .before .before .before .before .before .before .before .before .pre .1), c .before .before .judge .kept .1 .1 .1 .0)
+part-state-end c = omega (arith, tokens-short (c .before .before .before .before .before .before .before .before .pre .0) (c .before .before .before .before .before .before .before .before .args .toks .now) (c .before .before .before .before .before .before .before .before .pre .1), c .before .before .judge .kept .1 .1 .0)
 
 state-requires : tie.Need-state-requires
-state-requires c κs = let x = text (c .before .before) (c .before .before .before .before .before .before .before .before .before .pre .1 .0) (c .before .before .before .before .before .before .before .before .before .pre .1 .1) in ((_, x), omega (arith, tokens-short (c .before .before .before .before .before .before .before .before .before .pre .0) (c .before .before .before .before .before .before .before .before .before .args .toks .now) (c .before .before .before .before .before .before .before .before .before .pre .1), c .before .before .before .judge .kept .1 .1 .1 .0, c .state-arg .given))
+state-requires c κs = let x = text (c .before .before) (c .before .before .before .before .before .before .before .before .before .pre .1 .0) (c .before .before .before .before .before .before .before .before .before .pre .1 .1) in ((_, x), omega (arith, tokens-short (c .before .before .before .before .before .before .before .before .before .pre .0) (c .before .before .before .before .before .before .before .before .before .args .toks .now) (c .before .before .before .before .before .before .before .before .before .pre .1), c .before .before .before .judge .kept .1 .1 .0, c .state-arg .given))
 
 returns-2 : tie.Need-returns-2
 returns-2 c = λ t e. rw (reduce-no (c .before .before .before .before .before .before .before .before .before .before .before .pre .0) (marked (c .before .before .before .before .before .before .before .before .before .before .before .args .marks .now)) t (the-form (c .before .before .before .before .before .before .before .before .before .before .before .pre .0) (c .before .before .before .before .before .before .before .before .before .before .before .args .toks .now) (c .before .before .before .before .before .before .before .before .before .before .before .pre .1) t e) (sym (c .before .state .ensures _ (text (c .before .before .before .before) t e)) ∙ c .if2 .taken)) (impossible refl)
@@ -63,10 +61,10 @@ part-stays-start : tie.Need-part-stays-start
 part-stays-start c = search needs
 
 part-stays-end : tie.Need-part-stays-end
-part-stays-end c = omega (arith, tokens-short (c .before .before .before .before .before .before .before .before .before .before .before .before .pre .0) (c .before .before .before .before .before .before .before .before .before .before .before .before .args .toks .now) (c .before .before .before .before .before .before .before .before .before .before .before .before .pre .1), c .before .before .before .before .before .before .judge .kept .1 .1 .1 .0)
+part-stays-end c = omega (arith, tokens-short (c .before .before .before .before .before .before .before .before .before .before .before .before .pre .0) (c .before .before .before .before .before .before .before .before .before .before .before .before .args .toks .now) (c .before .before .before .before .before .before .before .before .before .before .before .before .pre .1), c .before .before .before .before .before .before .judge .kept .1 .1 .0)
 
 stays-requires : tie.Need-stays-requires
-stays-requires c κs = ((_, text (c .before .before .before .before .before .before) (c .before .before .before .before .before .before .before .before .before .before .before .before .before .pre .1 .0) (c .before .before .before .before .before .before .before .before .before .before .before .before .before .pre .1 .1)), omega (arith, tokens-short (c .before .before .before .before .before .before .before .before .before .before .before .before .before .pre .0) (c .before .before .before .before .before .before .before .before .before .before .before .before .before .args .toks .now) (c .before .before .before .before .before .before .before .before .before .before .before .before .before .pre .1), c .before .before .before .before .before .before .before .judge .kept .1 .1 .1 .0, c .stays-arg .given))
+stays-requires c κs = ((_, text (c .before .before .before .before .before .before) (c .before .before .before .before .before .before .before .before .before .before .before .before .before .pre .1 .0) (c .before .before .before .before .before .before .before .before .before .before .before .before .before .pre .1 .1)), omega (arith, tokens-short (c .before .before .before .before .before .before .before .before .before .before .before .before .before .pre .0) (c .before .before .before .before .before .before .before .before .before .before .before .before .before .args .toks .now) (c .before .before .before .before .before .before .before .before .before .before .before .before .before .pre .1), c .before .before .before .before .before .before .before .judge .kept .1 .1 .0, c .stays-arg .given))
 
 copy-requires : tie.Need-copy-requires
 copy-requires c κs = omega (arith, tokens-short (c .before .before .before .before .before .before .before .before .before .before .before .before .before .before .before .before .pre .0) (c .before .before .before .before .before .before .before .before .before .before .before .before .before .before .before .before .args .toks .now) (c .before .before .before .before .before .before .before .before .before .before .before .before .before .before .before .before .pre .1), c .before .before .before .before .before .before .before .before .before .before .before .before .before .before .before .before .pre .2)
@@ -94,7 +92,7 @@ part-reduced-start : tie.Need-part-reduced-start
 part-reduced-start c = search needs
 
 part-reduced-end : tie.Need-part-reduced-end
-part-reduced-end c = omega (arith, tokens-short (c .before .before .before .before .before .before .before .before .before .before .before .before .before .before .before .before .pre .0) (c .before .before .before .before .before .before .before .before .before .before .before .before .before .before .before .before .args .toks .now) (c .before .before .before .before .before .before .before .before .before .before .before .before .before .before .before .before .pre .1), c .before .before .before .before .before .before .before .before .before .before .judge .kept .1 .1 .1 .0)
+part-reduced-end c = omega (arith, tokens-short (c .before .before .before .before .before .before .before .before .before .before .before .before .before .before .before .before .pre .0) (c .before .before .before .before .before .before .before .before .before .before .before .before .before .before .before .before .args .toks .now) (c .before .before .before .before .before .before .before .before .before .before .before .before .before .before .before .before .pre .1), c .before .before .before .before .before .before .before .before .before .before .judge .kept .1 .1 .0)
 
 slice-aggregate-reduced : tie.Need-slice-aggregate-reduced
 slice-aggregate-reduced c = search needs
@@ -103,7 +101,7 @@ slice-aggregate-reduced-2 : tie.Need-slice-aggregate-reduced-2
 slice-aggregate-reduced-2 c = search needs
 
 reduced-requires : tie.Need-reduced-requires
-reduced-requires c κs = let x = text (c .before .before .before .before .before .before .before .before .before .before .before .before) (c .before .before .before .before .before .before .before .before .before .before .before .before .before .before .before .before .before .before .before .pre .1 .0) (c .before .before .before .before .before .before .before .before .before .before .before .before .before .before .before .before .before .before .before .pre .1 .1) in let s = short (c .before .before .before .before .before .before .before .before) in ((_, x, omega (arith, s), omega (arith, s)), omega (arith, tokens-short (c .before .before .before .before .before .before .before .before .before .before .before .before .before .before .before .before .before .before .before .pre .0) (c .before .before .before .before .before .before .before .before .before .before .before .before .before .before .before .before .before .before .before .args .toks .now) (c .before .before .before .before .before .before .before .before .before .before .before .before .before .before .before .before .before .before .before .pre .1), c .before .before .before .before .before .before .before .before .before .before .before .before .before .judge .kept .1 .1 .1 .0, c .before .before .reduced-arg .given), omega arith, omega arith)
+reduced-requires c κs = let x = text (c .before .before .before .before .before .before .before .before .before .before .before .before) (c .before .before .before .before .before .before .before .before .before .before .before .before .before .before .before .before .before .before .before .pre .1 .0) (c .before .before .before .before .before .before .before .before .before .before .before .before .before .before .before .before .before .before .before .pre .1 .1) in let s = short (c .before .before .before .before .before .before .before .before) in ((_, x, omega (arith, s), omega (arith, s)), omega (arith, tokens-short (c .before .before .before .before .before .before .before .before .before .before .before .before .before .before .before .before .before .before .before .pre .0) (c .before .before .before .before .before .before .before .before .before .before .before .before .before .before .before .before .before .before .before .args .toks .now) (c .before .before .before .before .before .before .before .before .before .before .before .before .before .before .before .before .before .before .before .pre .1), c .before .before .before .before .before .before .before .before .before .before .before .before .before .judge .kept .1 .1 .0, c .before .before .reduced-arg .given), omega arith, omega arith)
 
 sub-copy : tie.Need-sub-copy
 sub-copy c = search needs
