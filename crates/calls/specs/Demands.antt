@@ -6,7 +6,8 @@ use mathlib.Core.Bool.{true}
 use mathlib.Core.List.{List}
 use Prim.Native.Nat.{ℕ, _≤_, _<_}
 use lib.ListN.{length, take}
-use Rattle.orders.specs.CircularOrder.{Restriction, Consecutive}
+use Rattle.orders.specs.Lists.{elem}
+use Rattle.orders.specs.CircularOrder.{Restriction, WellFormed, Consecutive}
 use Rattle.orders.specs.Tree.{Forest, Allowed}
 use Rattle.orders.specs.Form.{standard, StandardOrder}
 use Rattle.calls.specs.declared.Refusal.the-variants.{Impossible}
@@ -44,3 +45,14 @@ pub record NewTree (n : ℕ) (G : Restriction) (t : Forest) (nodes : List ℕ) :
 pub record Joins (n : ℕ) (G : Restriction) (t : Forest) (answer : Answer) (nodes : List ℕ) : Type 0 where
   pub impossible : ImpossibleIff G t answer
   pub otherwise : answer ≢ Refused Impossible → NewTree n G t nodes
+
+-- The demand on a call: on joining, whose answer this is and which leaves the node table `new`; on trial; on the standard order, which leaves the
+-- lent order as `new`.
+abbrev pub JoinDemand : ℕ → ℕ → List ℕ → List ℕ → ℕ → List ℕ → Answer → List ℕ → Type 0
+JoinDemand n have nodes book count list answer new = (t : Forest) → LentRing n have nodes book count t → WellFormed n list → Joins n (elem list) t answer new
+
+abbrev pub TrialDemand : ℕ → ℕ → List ℕ → List ℕ → ℕ → List ℕ → Answer → Type 0
+TrialDemand n have nodes book count list answer = (t : Forest) → LentRing n have nodes book count t → WellFormed n list → ImpossibleIff (elem list) t answer
+
+abbrev pub OrderDemand : ℕ → ℕ → List ℕ → List ℕ → List ℕ → Type 0
+OrderDemand n have nodes order new = (t : Forest) → LentTree n have nodes t → n ≤ length order → StandardOrder t (take n new)

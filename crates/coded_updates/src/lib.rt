@@ -3,11 +3,8 @@
 ghost use mathlib.Core.Path.{_≡_};
 ghost use Prim.Native.Nat.{_/_};
 ghost use lib.ListN.{length};
-ghost use Rattle.orders.specs.Lists.{elem};
-ghost use Rattle.orders.specs.CircularOrder.{WellFormed};
-ghost use Rattle.orders.specs.Tree.{Forest};
 ghost use Rattle.calls.specs.Calls.{ring, open-call, join-call, trial-call};
-ghost use Rattle.calls.specs.Demands.{LentRing, ImpossibleIff, Joins};
+ghost use Rattle.calls.specs.Demands.{JoinDemand, TrialDemand};
 ghost use Rattle.calls.specs.Codes.{answer-of, Coded};
 
 // Opens a ring of n leaves: its node table gets the fresh tree, and its book is emptied. The value is the count of groups, 0.
@@ -32,8 +29,7 @@ pub fn join(
 ) -> u8
     ensures { λ r. ⌜ ((ring (answer-of r (now (value .exit))) (now (nodes .exit)) (now (book .exit))
         ≡ join-call n (length (now (nodes .entry)) / 257) (now (nodes .entry)) (now (book .entry)) count (now (list .entry)))
-        × ((t : Forest) → LentRing n (length (now (nodes .entry)) / 257) (now (nodes .entry)) (now (book .entry)) count t
-        → WellFormed n (now (list .entry)) → Joins n (elem (now (list .entry))) t (answer-of r (now (value .exit))) (now (nodes .exit))))
+        × JoinDemand n (length (now (nodes .entry)) / 257) (now (nodes .entry)) (now (book .entry)) count (now (list .entry)) (answer-of r (now (value .exit))) (now (nodes .exit)))
         × Coded r (now (value .exit)) ⌝ }
 {
     let have = coding::records(nodes);
@@ -52,8 +48,7 @@ pub fn trial(
 ) -> u8
     ensures { λ r. ⌜ ((answer-of r (now (value .exit))
         ≡ trial-call n (length (now (nodes .entry)) / 257) (now (nodes .entry)) (now (book .entry)) count (now (list .entry)))
-        × ((t : Forest) → LentRing n (length (now (nodes .entry)) / 257) (now (nodes .entry)) (now (book .entry)) count t
-        → WellFormed n (now (list .entry)) → ImpossibleIff (elem (now (list .entry))) t (answer-of r (now (value .exit)))))
+        × TrialDemand n (length (now (nodes .entry)) / 257) (now (nodes .entry)) (now (book .entry)) count (now (list .entry)) (answer-of r (now (value .exit))))
         × Coded r (now (value .exit)) ⌝ }
 {
     let answer = planner::trial(n, nodes, coding::records(nodes), book, count, list);

@@ -28,3 +28,7 @@ pub record Named (n : ℕ) (book : List ℕ) (count : ℕ) (list : List ℕ) (an
   pub answered : answer ≡ Done (length numbers)
   pub places : take 96 conflicts ≡ padded 96 numbers
   pub demand : Demand-3 n (groups book count) (elem list) numbers
+
+-- The demand on the call, which answers this and leaves the lent places as `new`.
+abbrev pub ConflictDemand : ℕ → List ℕ → ℕ → List ℕ → List ℕ → Answer → List ℕ → Type 0
+ConflictDemand n book count list conflicts answer new = LentBook n book count list conflicts → Named n book count list answer new

@@ -8,7 +8,7 @@ ghost use Rattle.orders.specs.CircularOrder.{WellFormed};
 ghost use Rattle.tokens.specs.Tokens.{Wrote};
 ghost use Rattle.calls.specs.Calls.{filled-as, conflict-refusal, conflicts-of, conflict-call};
 ghost use Rattle.book.specs.Lists.{verdict};
-ghost use Rattle.conflict.specs.Demand.{LentBook, Named};
+ghost use Rattle.conflict.specs.Demand.{ConflictDemand};
 use book::Checked;
 use calls::Answer;
 use calls::Refusal;
@@ -76,8 +76,7 @@ fn check(n: usize, book: &[u64], count: usize, list: &[u16], places: usize) -> C
 // why the call is refused.
 pub fn conflict(n: usize, book: &[u64], count: usize, list: &[u16], conflicts: &mut [u16]) -> Answer
     ensures { λ r. ⌜ (filled-as r (now (conflicts .exit)) ≡ conflict-call n (now (book .entry)) count (now (list .entry)) (now (conflicts .entry)))
-        × (LentBook n (now (book .entry)) count (now (list .entry)) (now (conflicts .entry))
-        → Named n (now (book .entry)) count (now (list .entry)) r (now (conflicts .exit))) ⌝ }
+        × ConflictDemand n (now (book .entry)) count (now (list .entry)) (now (conflicts .entry)) r (now (conflicts .exit)) ⌝ }
 {
     let checked = check(n, book, count, list, conflicts.len());
     if let Checked::Bad(why) = checked {

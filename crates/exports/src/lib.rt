@@ -4,14 +4,10 @@
 ghost use mathlib.Core.Path.{_≡_};
 ghost use mathlib.Core.List.{List, []};
 ghost use Prim.Native.Nat.{ℕ, _+_, _/_, _≤_, _<_};
-ghost use lib.ListN.{length, take, getD};
-ghost use Rattle.orders.specs.Lists.{elem};
-ghost use Rattle.orders.specs.CircularOrder.{WellFormed};
-ghost use Rattle.orders.specs.Tree.{Forest};
-ghost use Rattle.orders.specs.Form.{StandardOrder};
+ghost use lib.ListN.{length, getD};
 ghost use Rattle.calls.specs.Calls.{ring, filled-as, open-call, join-call, trial-call, order-call, aim-call, write-call, ReadCall, conflict-call};
-ghost use Rattle.calls.specs.Demands.{LentTree, LentRing, ImpossibleIff, Joins};
-ghost use Rattle.conflict.specs.Demand.{LentBook, Named};
+ghost use Rattle.calls.specs.Demands.{JoinDemand, TrialDemand, OrderDemand};
+ghost use Rattle.conflict.specs.Demand.{ConflictDemand};
 ghost use Rattle.tokens.specs.Tokens.{Wrote};
 ghost use Rattle.ringfile.specs.RingFile.{Value, line, file-bytes, NameAt, leaves-on, Rules, Says};
 ghost use Rattle.calls.specs.Codes.{answer-of, Coded};
@@ -44,8 +40,7 @@ pub extern "C" fn tokuwhape_join(
 ) -> u8
     ensures { λ r. ⌜ ((ring (answer-of r (now (value .exit))) (now (nodes .exit)) (now (book .exit))
         ≡ join-call n (length (now (nodes .entry)) / 257) (now (nodes .entry)) (now (book .entry)) count (now (list .entry)))
-        × ((t : Forest) → LentRing n (length (now (nodes .entry)) / 257) (now (nodes .entry)) (now (book .entry)) count t
-        → WellFormed n (now (list .entry)) → Joins n (elem (now (list .entry))) t (answer-of r (now (value .exit))) (now (nodes .exit))))
+        × JoinDemand n (length (now (nodes .entry)) / 257) (now (nodes .entry)) (now (book .entry)) count (now (list .entry)) (answer-of r (now (value .exit))) (now (nodes .exit)))
         × Coded r (now (value .exit)) ⌝ }
 {
     coded_updates::join(n, nodes, book, count, list, value)
@@ -63,8 +58,7 @@ pub extern "C" fn tokuwhape_trial(
 ) -> u8
     ensures { λ r. ⌜ ((answer-of r (now (value .exit))
         ≡ trial-call n (length (now (nodes .entry)) / 257) (now (nodes .entry)) (now (book .entry)) count (now (list .entry)))
-        × ((t : Forest) → LentRing n (length (now (nodes .entry)) / 257) (now (nodes .entry)) (now (book .entry)) count t
-        → WellFormed n (now (list .entry)) → ImpossibleIff (elem (now (list .entry))) t (answer-of r (now (value .exit)))))
+        × TrialDemand n (length (now (nodes .entry)) / 257) (now (nodes .entry)) (now (book .entry)) count (now (list .entry)) (answer-of r (now (value .exit))))
         × Coded r (now (value .exit)) ⌝ }
 {
     coded_updates::trial(n, nodes, book, count, list, value)
@@ -80,8 +74,7 @@ pub extern "C" fn tokuwhape_order(
 ) -> u8
     ensures { λ r. ⌜ ((filled-as (answer-of r (now (value .exit))) (now (order .exit))
         ≡ order-call n (length (now (nodes .entry)) / 257) (now (nodes .entry)) (now (order .entry)))
-        × ((t : Forest) → LentTree n (length (now (nodes .entry)) / 257) (now (nodes .entry)) t → n ≤ length (now (order .entry))
-        → StandardOrder t (take n (now (order .exit)))))
+        × OrderDemand n (length (now (nodes .entry)) / 257) (now (nodes .entry)) (now (order .entry)) (now (order .exit)))
         × Coded r (now (value .exit)) ⌝ }
 {
     coded_orders::order(n, nodes, order, value)
@@ -147,8 +140,7 @@ pub extern "C" fn tokuwhape_conflict(
 ) -> u8
     ensures { λ r. ⌜ ((filled-as (answer-of r (now (value .exit))) (now (conflicts .exit))
         ≡ conflict-call n (now (book .entry)) count (now (list .entry)) (now (conflicts .entry)))
-        × (LentBook n (now (book .entry)) count (now (list .entry)) (now (conflicts .entry))
-        → Named n (now (book .entry)) count (now (list .entry)) (answer-of r (now (value .exit))) (now (conflicts .exit))))
+        × ConflictDemand n (now (book .entry)) count (now (list .entry)) (now (conflicts .entry)) (answer-of r (now (value .exit))) (now (conflicts .exit)))
         × Coded r (now (value .exit)) ⌝ }
 {
     coded_conflict::conflict(n, book, count, list, conflicts, value)

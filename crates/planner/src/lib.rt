@@ -2,13 +2,10 @@
 // 257 numbers, with the number of records that they are.
 ghost use mathlib.Core.Path.{_≡_};
 ghost use Prim.Native.Nat.{_≤_};
-ghost use lib.ListN.{length, take};
-ghost use Rattle.orders.specs.Lists.{elem};
-ghost use Rattle.orders.specs.CircularOrder.{WellFormed};
+ghost use lib.ListN.{length};
 ghost use Rattle.orders.specs.Tree.{Forest};
-ghost use Rattle.orders.specs.Form.{StandardOrder};
 ghost use Rattle.calls.specs.Calls.{ring, filled-as, open-call, join-call, trial-call, order-call};
-ghost use Rattle.calls.specs.Demands.{LentTree, LentRing, ImpossibleIff, Joins};
+ghost use Rattle.calls.specs.Demands.{JoinDemand, TrialDemand, OrderDemand};
 ghost use Rattle.parts.specs.Writers.{flat};
 ghost use Rattle.update.specs.Update.{Published};
 ghost use Rattle.planner.specs.Attempts.{AttemptsOn, Attempts};
@@ -90,8 +87,7 @@ pub fn join(
     list: &[u16],
 ) -> Answer
     ensures { λ r. ⌜ (ring r (now (nodes .exit)) (now (book .exit)) ≡ join-call n have (now (nodes .entry)) (now (book .entry)) count (now (list .entry)))
-        × ((t : Forest) → LentRing n have (now (nodes .entry)) (now (book .entry)) count t → WellFormed n (now (list .entry))
-        → Joins n (elem (now (list .entry))) t r (now (nodes .exit))) ⌝ }
+        × JoinDemand n have (now (nodes .entry)) (now (book .entry)) count (now (list .entry)) r (now (nodes .exit)) ⌝ }
 {
     let mut toks = [0u16; 512];
     let tried = attempt(n, nodes, have, book, count, list, &mut toks);
@@ -115,8 +111,7 @@ pub fn trial(
     list: &[u16],
 ) -> Answer
     ensures { λ r. ⌜ (r ≡ trial-call n have (now (nodes .entry)) (now (book .entry)) count (now (list .entry)))
-        × ((t : Forest) → LentRing n have (now (nodes .entry)) (now (book .entry)) count t → WellFormed n (now (list .entry))
-        → ImpossibleIff (elem (now (list .entry))) t r) ⌝ }
+        × TrialDemand n have (now (nodes .entry)) (now (book .entry)) count (now (list .entry)) r ⌝ }
 {
     let mut toks = [0u16; 512];
     let tried = attempt(n, nodes, have, book, count, list, &mut toks);
@@ -129,7 +124,7 @@ pub fn trial(
 // Writes the standard order to the first n places of order. Answers n; or refuses (1, 2, 3), and leaves them as they were.
 pub fn order(n: usize, nodes: &[u16], have: usize, order: &mut [u16]) -> Answer
     ensures { λ r. ⌜ (filled-as r (now (order .exit)) ≡ order-call n have (now (nodes .entry)) (now (order .entry)))
-        × ((t : Forest) → LentTree n have (now (nodes .entry)) t → n ≤ length (now (order .entry)) → StandardOrder t (take n (now (order .exit)))) ⌝ }
+        × OrderDemand n have (now (nodes .entry)) (now (order .entry)) (now (order .exit)) ⌝ }
 {
     let mut toks = [0u16; 512];
     let found = checks::lent_tree(n, nodes, have, order.len() < n, &mut toks);

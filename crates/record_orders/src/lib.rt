@@ -1,11 +1,8 @@
 // The calls that answer from the standard order, on a node table of records: the order itself, and the aim of a group.
 ghost use mathlib.Core.Path.{_≡_};
-ghost use Prim.Native.Nat.{_≤_};
-ghost use lib.ListN.{length, take};
-ghost use Rattle.orders.specs.Tree.{Forest};
-ghost use Rattle.orders.specs.Form.{StandardOrder};
+ghost use lib.ListN.{length};
 ghost use Rattle.calls.specs.Calls.{filled-as, order-call, aim-call};
-ghost use Rattle.calls.specs.Demands.{LentTree};
+ghost use Rattle.calls.specs.Demands.{OrderDemand};
 ghost use Rattle.lent.specs.Rows.{node-rows};
 use calls::Answer;
 use lent::Node;
@@ -14,8 +11,7 @@ use lent::Node;
 pub fn order(n: usize, nodes: &[Node], order: &mut [u16]) -> Answer
     ensures { λ r. ⌜ (filled-as r (now (order .exit))
         ≡ order-call n (length (now (nodes .entry))) (node-rows (now (nodes .entry))) (now (order .entry)))
-        × ((t : Forest) → LentTree n (length (now (nodes .entry))) (node-rows (now (nodes .entry))) t → n ≤ length (now (order .entry))
-        → StandardOrder t (take n (now (order .exit)))) ⌝ }
+        × OrderDemand n (length (now (nodes .entry))) (node-rows (now (nodes .entry))) (now (order .entry)) (now (order .exit)) ⌝ }
 {
     let mut flat = [0u16; 65792];
     let have = lent::load(nodes, &mut flat);

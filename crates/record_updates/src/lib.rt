@@ -1,11 +1,8 @@
 // The calls that open a ring, join a group and try one, on a node table of records.
 ghost use mathlib.Core.Path.{_≡_};
 ghost use lib.ListN.{length};
-ghost use Rattle.orders.specs.Lists.{elem};
-ghost use Rattle.orders.specs.CircularOrder.{WellFormed};
-ghost use Rattle.orders.specs.Tree.{Forest};
 ghost use Rattle.calls.specs.Calls.{ring, open-call, join-call, trial-call};
-ghost use Rattle.calls.specs.Demands.{LentRing, ImpossibleIff, Joins};
+ghost use Rattle.calls.specs.Demands.{JoinDemand, TrialDemand};
 ghost use Rattle.lent.specs.Rows.{node-rows};
 ghost use Rattle.node_records.specs.Records.{Left};
 use calls::Answer;
@@ -30,8 +27,7 @@ pub fn open(n: usize, nodes: &mut [Node], book: &mut [u64]) -> Answer
 pub fn join(n: usize, nodes: &mut [Node], book: &mut [u64], count: usize, list: &[u16]) -> Answer
     ensures { λ r. ⌜ (ring r (node-rows (now (nodes .exit))) (now (book .exit))
         ≡ join-call n (length (now (nodes .entry))) (node-rows (now (nodes .entry))) (now (book .entry)) count (now (list .entry)))
-        × ((t : Forest) → LentRing n (length (now (nodes .entry))) (node-rows (now (nodes .entry))) (now (book .entry)) count t
-        → WellFormed n (now (list .entry)) → Joins n (elem (now (list .entry))) t r (node-rows (now (nodes .exit))))
+        × JoinDemand n (length (now (nodes .entry))) (node-rows (now (nodes .entry))) (now (book .entry)) count (now (list .entry)) r (node-rows (now (nodes .exit)))
         × Left r (now (nodes .entry)) (now (nodes .exit)) ⌝ }
 {
     let mut flat = [0u16; 65792];
@@ -44,8 +40,7 @@ pub fn join(n: usize, nodes: &mut [Node], book: &mut [u64], count: usize, list: 
 // Answers as joining the list's group would, and changes nothing.
 pub fn trial(n: usize, nodes: &[Node], book: &[u64], count: usize, list: &[u16]) -> Answer
     ensures { λ r. ⌜ (r ≡ trial-call n (length (now (nodes .entry))) (node-rows (now (nodes .entry))) (now (book .entry)) count (now (list .entry)))
-        × ((t : Forest) → LentRing n (length (now (nodes .entry))) (node-rows (now (nodes .entry))) (now (book .entry)) count t
-        → WellFormed n (now (list .entry)) → ImpossibleIff (elem (now (list .entry))) t r) ⌝ }
+        × TrialDemand n (length (now (nodes .entry))) (node-rows (now (nodes .entry))) (now (book .entry)) count (now (list .entry)) r ⌝ }
 {
     let mut flat = [0u16; 65792];
     let have = lent::load(nodes, &mut flat);

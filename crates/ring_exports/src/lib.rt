@@ -1,15 +1,10 @@
 // The calls of crate `ring` on node records, for tests from C and Rust. Each returns 0, or the number of its refusal, and writes one number through
 // `value`: its own answer; or the place or byte of the refusal, 0 where the table names none.
 ghost use mathlib.Core.Path.{_≡_};
-ghost use Prim.Native.Nat.{_≤_};
-ghost use lib.ListN.{length, take};
-ghost use Rattle.orders.specs.Lists.{elem};
-ghost use Rattle.orders.specs.CircularOrder.{WellFormed};
-ghost use Rattle.orders.specs.Tree.{Forest};
-ghost use Rattle.orders.specs.Form.{StandardOrder};
+ghost use lib.ListN.{length};
 ghost use Rattle.calls.specs.Calls.{ring, filled-as, open-call, join-call, trial-call, order-call, aim-call, write-call, ReadCall};
 ghost use Rattle.calls.specs.Codes.{answer-of, Coded};
-ghost use Rattle.calls.specs.Demands.{LentTree, LentRing, ImpossibleIff, Joins};
+ghost use Rattle.calls.specs.Demands.{JoinDemand, TrialDemand, OrderDemand};
 ghost use Rattle.lent.specs.Rows.{node-rows};
 ghost use Rattle.node_records.specs.Records.{Left};
 use lent::Node;
@@ -38,8 +33,7 @@ pub extern "C" fn ring_join(
 ) -> u8
     ensures { λ r. ⌜ ((ring (answer-of r (now (value .exit))) (node-rows (now (nodes .exit))) (now (book .exit))
         ≡ join-call n (length (now (nodes .entry))) (node-rows (now (nodes .entry))) (now (book .entry)) count (now (list .entry)))
-        × ((t : Forest) → LentRing n (length (now (nodes .entry))) (node-rows (now (nodes .entry))) (now (book .entry)) count t
-        → WellFormed n (now (list .entry)) → Joins n (elem (now (list .entry))) t (answer-of r (now (value .exit))) (node-rows (now (nodes .exit))))
+        × JoinDemand n (length (now (nodes .entry))) (node-rows (now (nodes .entry))) (now (book .entry)) count (now (list .entry)) (answer-of r (now (value .exit))) (node-rows (now (nodes .exit)))
         × Left (answer-of r (now (value .exit))) (now (nodes .entry)) (now (nodes .exit)))
         × Coded r (now (value .exit)) ⌝ }
 {
@@ -59,8 +53,7 @@ pub extern "C" fn ring_trial(
 ) -> u8
     ensures { λ r. ⌜ ((answer-of r (now (value .exit))
         ≡ trial-call n (length (now (nodes .entry))) (node-rows (now (nodes .entry))) (now (book .entry)) count (now (list .entry)))
-        × ((t : Forest) → LentRing n (length (now (nodes .entry))) (node-rows (now (nodes .entry))) (now (book .entry)) count t
-        → WellFormed n (now (list .entry)) → ImpossibleIff (elem (now (list .entry))) t (answer-of r (now (value .exit)))))
+        × TrialDemand n (length (now (nodes .entry))) (node-rows (now (nodes .entry))) (now (book .entry)) count (now (list .entry)) (answer-of r (now (value .exit))))
         × Coded r (now (value .exit)) ⌝ }
 {
     let answer = ring::trial(n, nodes, book, count, list);
@@ -72,8 +65,7 @@ pub extern "C" fn ring_trial(
 pub extern "C" fn ring_order(n: usize, nodes: &[Node], order: &mut [u16], value: &mut usize) -> u8
     ensures { λ r. ⌜ ((filled-as (answer-of r (now (value .exit))) (now (order .exit))
         ≡ order-call n (length (now (nodes .entry))) (node-rows (now (nodes .entry))) (now (order .entry)))
-        × ((t : Forest) → LentTree n (length (now (nodes .entry))) (node-rows (now (nodes .entry))) t → n ≤ length (now (order .entry))
-        → StandardOrder t (take n (now (order .exit)))))
+        × OrderDemand n (length (now (nodes .entry))) (node-rows (now (nodes .entry))) (now (order .entry)) (now (order .exit)))
         × Coded r (now (value .exit)) ⌝ }
 {
     let answer = ring::order(n, nodes, order);
