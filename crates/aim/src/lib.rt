@@ -69,7 +69,7 @@ pub fn middle(words: &[u64], order: &[u16]) -> usize
 {
     let last = order[order.len() - 1];
     let start = first_start(words, last, 0, order);
-    let size = marks::size(words);
+    let size = mark_sets::size(words);
     order[(start + (size - 1) / 2) % order.len()] as usize
 }
 

@@ -19,7 +19,7 @@ use Rattle.orders.proofs.Members.{both, false-if}
 use Rattle.marks.specs.Marks.{words-of, leaves-of, no-leaf}
 use Rattle.marks.proofs.Words.{Words}
 use Rattle.marks.proofs.Word.{word-none}
-use Rattle.marks.proofs.Steps.{empty-all, empty-not}
+use Rattle.mark_sets.proofs.Steps.{empty-all, empty-not}
 use Rattle.calls.specs.Tables.{over}
 use Rattle.calls.specs.Book.{group-words, group-in-form?, book-in-form?, booked, emptied}
 use Rattle.book.specs.Groups.{groups-in-form?}

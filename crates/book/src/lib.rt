@@ -20,10 +20,10 @@ pub enum Checked {
 fn group_in_form(words: &[u64], n: usize) -> bool
     ensures { λ r. ⌜ r ≡ group-in-form? n (now (words .entry)) ⌝ }
 {
-    if marks::is_empty(words) {
+    if mark_sets::is_empty(words) {
         return false;
     }
-    marks::within(words, n)
+    mark_sets::within(words, n)
 }
 
 // Whether the groups from place k up to the count are in form.
@@ -54,7 +54,7 @@ pub fn in_form(book: &[u64], n: usize, count: usize) -> bool
         return false;
     }
     let at = 4 * count;
-    marks::is_empty(&book[at..384])
+    mark_sets::is_empty(&book[at..384])
 }
 
 // Writes the group of the list to place k of the book.

@@ -1,24 +1,19 @@
 -- The list of marks, and how many there are.
-use mathlib.Core.Path.{_≡_, refl, sym, ap, ap₂, _∙_}
+use mathlib.Core.Path.{_≡_, refl, sym, ap, _∙_}
 use mathlib.Core.Bool.{Bool, true, false, true≢false}
-use mathlib.Core.List.{List, [], _∷_}
-use Prim.Native.Nat.{ℕ, zero, suc, _+_, _*_, _/_, _%_, _^_, _≤_, _<_}
-use native.Mathlib.Nat.{mod-lt, add-zero, add-suc, suc-add, mul-zero}
-use native.Mathlib.Numerals.{add-one}
+use mathlib.Core.List.{List}
+use Prim.Native.Nat.{ℕ, zero, suc, _+_, _*_, _/_, _%_, _≤_, _<_}
+use native.Mathlib.Nat.{mod-lt}
 use native.Mathlib.Decide.{decLe}
 use native.Mathlib.Omega.{arith}
 use lib.ListN.{length, getD}
-use lib.Arith.{lt-one}
-use lib.Pow.{shr-lt}
-use lib.Count.{ones, ones-step, ones-ones}
 use Rattle.orders.specs.Lists.{All, Distinct, In, filter, elem, range}
 use Rattle.orders.specs.CircularOrder.{Restriction, WellFormed}
 use Rattle.marks.specs.Marks.{bit, marked, words-of, leaves-of}
 use Rattle.orders.proofs.ListLaws.{all-map}
 use Rattle.orders.proofs.Members.{false-if, elem-in, in-elem, all-in, in-all}
-use Rattle.orders.proofs.Ranges.{filter-different, in-filter, filter-in, in-range, range-in, range-append, filter-agree, count, count-cons, count-append, count-elem}
-use Rattle.marks.proofs.Word.{digit-times, bit-zero, bit-half}
-use Rattle.marks.proofs.Words.{Words, words-agree, words-of-marked, length-words, leaf-at, marked-at, marked-none, marked-past, marked-words}
+use Rattle.orders.proofs.Ranges.{filter-different, in-filter, filter-in, in-range, range-in, filter-agree, count-elem}
+use Rattle.marks.proofs.Words.{Words, words-agree, words-of-marked, length-words, leaf-at, marked-none, marked-past, marked-words}
 
 -- A leaf stands in the list of marks just when it is marked, and then it is one of the words' leaves.
 pub leaf-marked : (ws : List ℕ) (x : ℕ) → In x (leaves-of ws) → marked ws x ≡ true
@@ -73,46 +68,6 @@ leaves-of-words k G =
     rw (length-words k G) (filter-agree (marked (words-of k G)) G 1 (64 * k) (λ x l m. marked-words k G x l (omega arith)))
 
 -- ---- sizes
-
--- The marks of one word, and of all of them.
-count-word : (k w a : ℕ) (p : ℕ → Bool) → w < 2 ^ k → ((j : ℕ) → j < k → p (a + j) ≡ bit w j) → ones w ≡ count p (range a k)
-count-word zero w a p l h = ap ones (lt-one l) ∙ ones-ones 0
-count-word (suc k) w a p l h =
-    omega (
-      arith,
-      ones-step w,
-      digit-times (w % 2) 1 (p a) (mod-lt w (omega arith)) (sym (bit-zero w) ∙ sym (h 0 (omega arith)) ∙ ap p (add-zero a)),
-      count-cons p a (range (suc a) k),
-      count-word k (w / 2) (suc a) p (shr-lt k 1 (rw add-one l)) (λ j m. ap p (suc-add a j ∙ sym (add-suc a j)) ∙ h (suc j) (omega arith) ∙ sym (bit-half w j)),
-    )
-
-abbrev pub sum-ones : List ℕ → ℕ
-sum-ones [] = 0
-sum-ones (w ∷ ws) = ones w + sum-ones ws
-
--- (For words of any width: at 64 the range would be written out.)
-count-words : (width : ℕ) (ws : List ℕ) (a : ℕ) (p : ℕ → Bool) → ((i : ℕ) → getD ws i 0 < 2 ^ width)
-    → ((i j : ℕ) → j < width → p (a + (width * i + j)) ≡ bit (getD ws i 0) j) → sum-ones ws ≡ count p (range a (width * length ws))
-count-words width [] a p v h = rw mul-zero
-count-words width (w ∷ ws) a p v h =
-    ap₂ (λ (x y : ℕ). x + y) (count-word width w a p (v 0) (λ j m. ap p (first j) ∙ h 0 j m))
-    (count-words width ws (a + width) p (λ i. v (suc i)) (λ i j m. ap p (next i j) ∙ h (suc i) j m))
-    ∙ sym (count-append p (range a width) (range (a + width) (width * length ws)))
-    ∙ ap (count p) (sym (range-append a width (width * length ws)) ∙ ap (range a) (all (length ws)))
-  where
-    first : (j : ℕ) → a + j ≡ a + (width * 0 + j)
-    first j = omega arith
-
-    next : (i j : ℕ) → a + width + (width * i + j) ≡ a + (width * suc i + j)
-    next i j = omega arith
-
-    all : (n : ℕ) → width + width * n ≡ width * suc n
-    all n = omega arith
-
--- The size is the count of marks set in the words.
-pub size-is : (ws : List ℕ) → Words ws → sum-ones ws ≡ length (leaves-of ws)
-unfolding leaves-of
-size-is ws v = count-words 64 ws 1 (marked ws) v (λ i j l. ap (marked ws) (omega arith) ∙ marked-at ws i j l)
 
 -- A list of different leaves of the words has as many as its words have marks.
 pub size-of-list : (k : ℕ) (l : List ℕ) → Distinct l → All (λ b. (1 ≤ b) × (b ≤ 64 * k)) l → length (leaves-of (words-of k (elem l))) ≡ length l

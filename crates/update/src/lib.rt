@@ -137,7 +137,7 @@ pub fn join(toks: &[u16], group: &[u64], n: usize, out: &mut [u16]) -> Updated
 {
     if marks::test(group, 1) {
         let mut side = [group[0], group[1], group[2], group[3]];
-        marks::complement(&mut side, n);
+        mark_sets::complement(&mut side, n);
         return update(toks, &side, out);
     }
     update(toks, group, out)

@@ -4,8 +4,8 @@ use Rattle.book.proofs.group_in_form.Statement.{statement}
 use Rattle.book.proofs.group_in_form.Tie as tie
 use Rattle.book.proofs.group_in_form.Reads as reads
 use Rattle.book.proofs.group_in_form.Lts as lts
-use Rattle.marks.proofs.is_empty.Reads as is-empty-reads
-use Rattle.marks.proofs.within.Reads as within-reads
+use Rattle.mark_sets.proofs.is_empty.Reads as is-empty-reads
+use Rattle.mark_sets.proofs.within.Reads as within-reads
 
 is-empty-requires : tie.Need-is-empty-requires
 is-empty-requires c κs = search needs

@@ -10,7 +10,7 @@ use Rattle.book.proofs.in_form.Tie as tie
 use Rattle.book.proofs.in_form.Reads as reads
 use Rattle.book.proofs.in_form.Lts as lts
 use Rattle.book.proofs.groups_in_form.Reads as groups-in-form-reads
-use Rattle.marks.proofs.is_empty.Reads as is-empty-reads
+use Rattle.mark_sets.proofs.is_empty.Reads as is-empty-reads
 
 returns : tie.Need-returns
 unfolding book-in-form?

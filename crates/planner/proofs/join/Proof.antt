@@ -5,7 +5,7 @@ use denote.Ref.{now}
 use lib.ListN.{replicate}
 use Rattle.tokens.proofs.Writes.{read-part, wrote-most}
 use Rattle.rows.specs.Rows.{Formed}
-use Rattle.planner.specs.Attempts.{JoinedRing, Attempts}
+use Rattle.attempts.specs.Attempts.{JoinedRing, Attempts}
 use Rattle.planner.proofs.Laws.{join-refused, join-done, join-demand}
 use borrow.Author.Needs.{needs}
 use Rattle.planner.proofs.join.Statement.{statement}
@@ -13,7 +13,7 @@ use Rattle.planner.proofs.join.Tie as tie
 use Rattle.planner.proofs.join.Reads as reads
 use Rattle.planner.proofs.join.Lts as lts
 use Rattle.book.proofs.put.Reads as put-reads
-use Rattle.planner.proofs.attempt.Reads as attempt-reads
+use Rattle.attempts.proofs.attempt.Reads as attempt-reads
 use Rattle.records.proofs.store.Reads as store-reads
 
 slice-aggregate-attempt : tie.Need-slice-aggregate-attempt

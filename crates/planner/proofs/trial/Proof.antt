@@ -2,14 +2,14 @@ use mathlib.Core.Path.{subst}
 use native.Mathlib.Omega.{arith}
 use denote.Ref.{now}
 use lib.ListN.{replicate}
-use Rattle.planner.specs.Attempts.{JoinedRing, Attempts}
+use Rattle.attempts.specs.Attempts.{JoinedRing, Attempts}
 use Rattle.planner.proofs.Laws.{trial-refused, trial-done, trial-demand}
 use borrow.Author.Needs.{needs}
 use Rattle.planner.proofs.trial.Statement.{statement}
 use Rattle.planner.proofs.trial.Tie as tie
 use Rattle.planner.proofs.trial.Reads as reads
 use Rattle.planner.proofs.trial.Lts as lts
-use Rattle.planner.proofs.attempt.Reads as attempt-reads
+use Rattle.attempts.proofs.attempt.Reads as attempt-reads
 
 slice-aggregate-attempt : tie.Need-slice-aggregate-attempt
 slice-aggregate-attempt c = search needs

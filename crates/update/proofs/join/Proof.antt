@@ -6,7 +6,7 @@ use Rattle.update.proofs.join.Statement.{statement}
 use Rattle.update.proofs.join.Tie as tie
 use Rattle.update.proofs.join.Reads as reads
 use Rattle.update.proofs.join.Lts as lts
-use Rattle.marks.proofs.complement.Reads as complement-reads
+use Rattle.mark_sets.proofs.complement.Reads as complement-reads
 use Rattle.marks.proofs.test.Reads as test-reads
 use Rattle.update.proofs.update.Reads as update-reads
 

@@ -3,11 +3,11 @@ use Prim.Native.Nat.{ℕ, _^_, min, _-_, _*_}
 use native.Mathlib.Omega.{arith}
 use mathlib.Core.Path.{_≡_, ap, _∙_}
 use lib.ListN.{length}
 use Rattle.marks.specs.Marks.{marked, outside}
 use Rattle.marks.proofs.Words.{Written, written-none, written-read, written-one, written-all}
-use Rattle.marks.proofs.Steps.{outside-word}
-use Rattle.marks.proofs.complement.Statement.{statement}
-use Rattle.marks.proofs.complement.Tie as tie
+use Rattle.mark_sets.proofs.Steps.{outside-word}
+use Rattle.mark_sets.proofs.complement.Statement.{statement}
+use Rattle.mark_sets.proofs.complement.Tie as tie
 
 abbrev Inv-loop : tie.InvT-loop
 Inv-loop words₀ n left₀ i₀ words left i = Written (outside n (marked words₀)) i words₀ words × (left ≡ n - 64 * i)

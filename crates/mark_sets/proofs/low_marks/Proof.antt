@@ -3,10 +3,10 @@ use mathlib.Core.Path.{_≡_, ap}
 use Prim.Native.Nat.{ℕ, _^_, _-_, min}
 use native.Mathlib.Omega.{arith}
 use lib.Pow.{pow-pos}
 use Rattle.marks.proofs.Word.{one-shifted}
 use borrow.Author.Needs.{needs}
-use Rattle.marks.proofs.low_marks.Statement.{statement}
-use Rattle.marks.proofs.low_marks.Tie as tie
+use Rattle.mark_sets.proofs.low_marks.Statement.{statement}
+use Rattle.mark_sets.proofs.low_marks.Tie as tie
 
 returns : tie.Need-returns
 returns c = let e : 64 ≡ min (c .before .args .k) 64 = omega arith in ap (λ (x : ℕ). 2 ^ x - 1) e

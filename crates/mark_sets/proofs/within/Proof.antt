@@ -5,9 +5,9 @@ use mathlib.Core.Path.{_≡_, sym, ap, _∙_}
 use lib.ListN.{length, getD}
 use lib.Bits.{bitAnd}
 use borrow.Author.Count.{below-more}
-use Rattle.marks.proofs.Steps.{low, within-all, within-not}
-use Rattle.marks.proofs.within.Statement.{statement}
-use Rattle.marks.proofs.within.Tie as tie
+use Rattle.mark_sets.proofs.Steps.{low, within-all, within-not}
+use Rattle.mark_sets.proofs.within.Statement.{statement}
+use Rattle.mark_sets.proofs.within.Tie as tie
 
 abbrev Inv-loop : tie.InvT-loop
 Inv-loop words n rest₀ i₀ rest i = (i ≤ length words) × (rest ≡ n - 64 * i) × ((k : ℕ) → k < i → bitAnd (getD words k 0) (low n k) ≡ getD words k 0)

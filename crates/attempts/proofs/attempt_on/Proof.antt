@@ -7,12 +7,12 @@ use Rattle.calls.specs.Refusals.{down, list-checks}
 use Rattle.book.specs.Lists.{verdict}
 use Rattle.update.specs.Update.{Answers}
 use Rattle.update.proofs.Updates.{published-within}
-use Rattle.planner.proofs.Laws.{list-refused, full-refused, none-joined, one-joined}
+use Rattle.attempts.proofs.Laws.{list-refused, full-refused, none-joined, one-joined}
 use borrow.Author.Needs.{needs}
-use Rattle.planner.proofs.attempt_on.Statement.{statement}
-use Rattle.planner.proofs.attempt_on.Tie as tie
-use Rattle.planner.proofs.attempt_on.Reads as reads
-use Rattle.planner.proofs.attempt_on.Lts as lts
+use Rattle.attempts.proofs.attempt_on.Statement.{statement}
+use Rattle.attempts.proofs.attempt_on.Tie as tie
+use Rattle.attempts.proofs.attempt_on.Reads as reads
+use Rattle.attempts.proofs.attempt_on.Lts as lts
 use Rattle.book.proofs.check_list.Reads as check-list-reads
 use Rattle.marks.proofs.mark_list.Reads as mark-list-reads
 use Rattle.update.proofs.join.Reads as join-reads

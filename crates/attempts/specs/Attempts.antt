@@ -16,8 +16,8 @@ use Rattle.calls.specs.declared.Refusal.{Refusal}
 use Rattle.calls.specs.declared.Refusal.the-variants.{BookFull, Impossible}
 use Rattle.calls.specs.Refusals.{refuse, down, list-checks}
 use Rattle.calls.specs.Calls.{is-none, joined-tree, join-refusal}
-use Rattle.planner.specs.declared.Tried.{Tried}
-use Rattle.planner.specs.declared.Tried.the-variants.{Joined, Refused}
+use Rattle.attempts.specs.declared.Tried.{Tried}
+use Rattle.attempts.specs.declared.Tried.the-variants.{Joined, Refused}
 
 -- Checks 4 to 8, for a tree t.
 unfoldable pub group-refusal : Forest → ℕ → ℕ → List ℕ → Option Refusal

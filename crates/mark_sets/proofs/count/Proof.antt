@@ -2,8 +2,8 @@
 use mathlib.Core.Path.{refl}
 use native.Mathlib.Omega.{arith}
 use lib.Count.{ones-le}
-use Rattle.marks.proofs.count.Statement.{statement}
-use Rattle.marks.proofs.count.Tie as tie
+use Rattle.mark_sets.proofs.count.Statement.{statement}
+use Rattle.mark_sets.proofs.count.Tie as tie
 
 cast-result : tie.Need-cast-result
 cast-result c = record { fits = omega (arith, ones-le 64 (c .args .word) (c .fits .word .fits)) }

@@ -5,14 +5,14 @@ use denote.Ref.{now}
 use lib.ListN.{replicate}
 use Rattle.tokens.proofs.Writes.{read-part, wrote-most}
 use Rattle.checks.specs.Lent.{RingLent, LendsRing}
-use Rattle.planner.proofs.Laws.{ring-refused, attempt-is}
+use Rattle.attempts.proofs.Laws.{ring-refused, attempt-is}
 use borrow.Author.Needs.{needs}
-use Rattle.planner.proofs.attempt.Statement.{statement}
-use Rattle.planner.proofs.attempt.Tie as tie
-use Rattle.planner.proofs.attempt.Reads as reads
-use Rattle.planner.proofs.attempt.Lts as lts
+use Rattle.attempts.proofs.attempt.Statement.{statement}
+use Rattle.attempts.proofs.attempt.Tie as tie
+use Rattle.attempts.proofs.attempt.Reads as reads
+use Rattle.attempts.proofs.attempt.Lts as lts
 use Rattle.checks.proofs.lent_ring.Reads as lent-ring-reads
-use Rattle.planner.proofs.attempt_on.Reads as attempt-on-reads
+use Rattle.attempts.proofs.attempt_on.Reads as attempt-on-reads
 
 slice-aggregate-lent-ring : tie.Need-slice-aggregate-lent-ring
 slice-aggregate-lent-ring c = search needs

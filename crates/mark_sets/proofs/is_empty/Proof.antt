@@ -4,9 +4,9 @@ use native.Mathlib.Omega.{arith}
 use mathlib.Core.Path.{_≡_, sym}
 use lib.ListN.{length, getD}
 use borrow.Author.Count.{below-more}
-use Rattle.marks.proofs.Steps.{empty-all, empty-not}
-use Rattle.marks.proofs.is_empty.Statement.{statement}
-use Rattle.marks.proofs.is_empty.Tie as tie
+use Rattle.mark_sets.proofs.Steps.{empty-all, empty-not}
+use Rattle.mark_sets.proofs.is_empty.Statement.{statement}
+use Rattle.mark_sets.proofs.is_empty.Tie as tie
 
 abbrev Inv-loop : tie.InvT-loop
 Inv-loop words i₀ i = (i ≤ length words) × ((k : ℕ) → k < i → getD words k 0 ≡ 0)

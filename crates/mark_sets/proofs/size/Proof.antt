@@ -5,9 +5,9 @@ use mathlib.Core.Path.{_≡_, ap}
 use native.Mathlib.Numerals.{add-one}
 use lib.ListN.{length, drop, drop-of-length-le}
 use lib.Seq.{drop-cons}
-use Rattle.marks.proofs.Leaves.{sum-ones, size-is}
-use Rattle.marks.proofs.size.Statement.{statement}
-use Rattle.marks.proofs.size.Tie as tie
+use Rattle.mark_sets.proofs.Sizes.{sum-ones, size-is}
+use Rattle.mark_sets.proofs.size.Statement.{statement}
+use Rattle.mark_sets.proofs.size.Tie as tie
 
 abbrev Inv-loop : tie.InvT-loop
 Inv-loop words sum₀ i₀ sum i = (i ≤ length words) × (sum + sum-ones (drop i words) ≡ sum-ones words) × (sum ≤ 64 * i)
