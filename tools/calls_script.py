@@ -3,7 +3,8 @@
 
     tools/calls_script.py [ORACLE]      ORACLE: the folder of oracle.py (../shared/oracle beside the repository)
 
-Every answer, and what every table holds afterwards, is the oracle's. crates/vectors_calls/src/script.rt says what a command is.
+Every answer, and what every table holds afterwards, is the oracle's. crates/vector_commands/src/lib.rt and
+crates/vectors_calls/src/main.rt say what a command is.
 """
 import itertools
 import os

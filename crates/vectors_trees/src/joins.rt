@@ -1,38 +1,25 @@
 // One line of joins.txt: n, a tree text, a group and the tree text after joining, or 8, with tabs between them.
 ghost use Prim.Native.Nat.{_≤_};
-use crate::fields;
 use crate::tables;
 use calls::Answer;
 
-// 4n + 1 where the answer is the tree of the file, 4n + 2 where it is impossible and the file has 8, 4n + 3 where it is another or the line is
-// no case; 0 for a comment.
-pub fn outcome(line: &[u8]) -> usize {
-    if line.len() == 0 {
-        return 0;
-    }
-    if line[0] == b'#' {
-        return 0;
-    }
-    let a = fields::find(line, 0, b'\t');
-    if a >= line.len() {
+// 1 where the answer is the tree of the file, 2 where it is impossible and the file has 8, 3 where it is another or there is no tab behind the
+// group.
+pub fn outcome(n: usize, tree: &[u8], rest: &[u8]) -> usize
+    ensures { λ r. ⌜ r ≤ 3 ⌝ }
+{
+    let c = vector_fields::find(rest, 0, b'\t');
+    if c >= rest.len() {
         return 3;
     }
-    let tree = a + 1;
-    let b = fields::find(line, tree, b'\t');
-    if b >= line.len() {
-        return 3;
-    }
-    let group = b + 1;
-    let c = fields::find(line, group, b'\t');
-    if c >= line.len() {
-        return 3;
-    }
-    let answer = c + 1;
-    let n = fields::number(&line[0..a]);
-    if n > 256 {
-        return 3;
-    }
-    4 * n + run(n, &line[tree..b], &line[group..c], &line[answer..])
+    run(n, tree, &rest[0..c], &rest[c + 1..])
+}
+
+// Joins the group to the tree of the tables.
+fn join(n: usize, nodes: &mut [u16], book: &mut [u64], group: &[u8]) -> Answer {
+    let mut list = [0u16; 256];
+    let k = vector_fields::group(group, &mut list);
+    planner::join(n, nodes, 256, book, 0, &list[0..k])
 }
 
 // Reads the tree, joins the group, and compares the new tree's text with the file's.
@@ -44,12 +31,17 @@ fn run(n: usize, tree: &[u8], group: &[u8], want: &[u8]) -> usize
     let Answer::Done(_) = text::read(n, &mut nodes, 256, &mut book, tree) else {
         return 3;
     };
-    let mut list = [0u16; 256];
-    let k = fields::group(group, &mut list);
-    let joined = planner::join(n, &mut nodes, 256, &mut book, 0, &list[0..k]);
+    let joined = join(n, &mut nodes, &mut book, group);
+    compared(n, joined, &nodes, want)
+}
+
+// 1, 2 or 3, of the answer and the node table after it.
+fn compared(n: usize, joined: Answer, nodes: &[u16], want: &[u8]) -> usize
+    ensures { λ r. ⌜ r ≤ 3 ⌝ }
+{
     match joined {
         Answer::Done(_) => {
-            if tables::is_text(n, &nodes, want) {
+            if tables::is_text(n, nodes, want) {
                 return 1;
             }
             3

@@ -1,20 +1,10 @@
 // Runs the cases of joins.txt (a tree text, a group, the text after joining) and of texts.txt (a text, accepted or refused at a byte) through the
 // calls, compares each answer with the file's, and counts the cases by n.
-ghost use mathlib.Core.Path.{_≡_};
-ghost use lib.ListN.{length};
+ghost use Prim.Native.Nat.{_≤_};
 
-mod counts;
-mod fields;
 mod joins;
 mod tables;
 mod texts;
-
-// 262,144 zeros: more than either file has.
-fn buffer() -> [u8; 262144]
-    ensures { λ r. ⌜ 262144 ≡ length r ⌝ }
-{
-    [0; 262144]
-}
 
 fn main() {
     io::write_all(1, b"joins\n");
@@ -25,33 +15,57 @@ fn main() {
 
 // Reads a file, counts the outcome of each line, and prints the counts.
 fn file(name: &[u8], joins: bool) {
-    let mut bytes = buffer();
-    let fd = os::open_read(name);
-    if fd < 0 {
-        os::fail(name);
-        return;
-    }
-    let n = io::read_full(fd, &mut bytes);
-    libc::close(fd);
+    let mut bytes = vector_fields::buffer();
+    let n = vector_fields::read_file(name, &mut bytes);
     let mut sums = [0u64; 1028];
     run(&bytes[..n], joins, &mut sums);
-    counts::print(&sums);
-}
-
-// The outcome of one line.
-fn outcome(line: &[u8], joins: bool) -> usize {
-    if joins {
-        return joins::outcome(line);
-    }
-    texts::outcome(line)
+    vector_sums::print(&sums);
 }
 
 // Counts the outcome of each line.
 fn run(text: &[u8], joins: bool, sums: &mut [u64]) {
     let mut at = 0;
     while at < text.len() {
-        let end = fields::find(text, at, b'\n');
-        counts::add(sums, outcome(&text[at..end], joins));
+        let end = vector_fields::find(text, at, b'\n');
+        vector_sums::add(sums, outcome(&text[at..end], joins));
         at = end + 1;
     }
+}
+
+// 4n + 1 where the answer is done as in the file, 4n + 2 where it is refused as in the file, 4n + 3 where it is another or the line is no case;
+// 0 for a comment. A line is n, another field and the rest, with tabs between them.
+fn outcome(line: &[u8], joins: bool) -> usize {
+    if vector_fields::letter(line) == b'#' {
+        return 0;
+    }
+    let a = vector_fields::find(line, 0, b'\t');
+    if a >= line.len() {
+        return 3;
+    }
+    let n = vector_fields::number(&line[0..a]);
+    if n > 256 {
+        return 3;
+    }
+    4 * n + case(n, &line[a + 1..], joins)
+}
+
+// 1, 2 or 3, as above, of what is behind n.
+fn case(n: usize, text: &[u8], joins: bool) -> usize
+    ensures { λ r. ⌜ r ≤ 3 ⌝ }
+{
+    let b = vector_fields::find(text, 0, b'\t');
+    if b >= text.len() {
+        return 3;
+    }
+    fields(n, &text[0..b], &text[b + 1..], joins)
+}
+
+// The same, of the field behind n and the rest of the line.
+fn fields(n: usize, first: &[u8], rest: &[u8], joins: bool) -> usize
+    ensures { λ r. ⌜ r ≤ 3 ⌝ }
+{
+    if joins {
+        return joins::outcome(n, first, rest);
+    }
+    texts::outcome(n, first, rest)
 }

@@ -1,42 +1,23 @@
 // One line of texts.txt: n, a text in hexadecimal and `ok`, or 12 and the byte, with tabs between them.
 ghost use Prim.Native.Nat.{_≤_};
-use crate::fields;
 use crate::tables;
 use calls::Answer;
 
-// 4n + 1 where the text is accepted, as in the file, and written again is the same; 4n + 2 where it is refused at the file's byte; 4n + 3 where
-// the answer is another or the line is no case; 0 for a comment.
-pub fn outcome(line: &[u8]) -> usize {
-    if line.len() == 0 {
-        return 0;
-    }
-    if line[0] == b'#' {
-        return 0;
-    }
-    let a = fields::find(line, 0, b'\t');
-    if a >= line.len() {
-        return 3;
-    }
-    let text = a + 1;
-    let b = fields::find(line, text, b'\t');
-    if b >= line.len() {
-        return 3;
-    }
-    let answer = b + 1;
-    let c = fields::find(line, answer, b'\t');
-    let n = fields::number(&line[0..a]);
-    if n > 256 {
-        return 3;
-    }
-    4 * n + run(n, &line[text..b], &line[answer..c])
+// 1 where the text is accepted, as in the file, and written again is the same; 2 where it is refused at the file's byte; 3 where the answer is
+// another.
+pub fn outcome(n: usize, hex: &[u8], rest: &[u8]) -> usize
+    ensures { λ r. ⌜ r ≤ 3 ⌝ }
+{
+    let c = vector_fields::find(rest, 0, b'\t');
+    run(n, hex, &rest[0..c])
 }
 
-// The byte of an answer `12 byte`; 10,000 where it is another.
+// The byte of an answer `12 byte`; the largest usize where it is another.
 fn byte(answer: &[u8]) -> usize {
     if answer.len() < 4 {
-        return 10000;
+        return 18446744073709551615;
     }
-    fields::number(&answer[3..])
+    vector_fields::number(&answer[3..])
 }
 
 // Reads the text, and compares with what the file has.
@@ -44,16 +25,23 @@ fn run(n: usize, hex: &[u8], answer: &[u8]) -> usize
     ensures { λ r. ⌜ r ≤ 3 ⌝ }
 {
     let mut bytes = [0u8; 4096];
-    let k = fields::bytes(hex, &mut bytes);
+    let k = vector_fields::hex_bytes(hex, &mut bytes);
     let mut nodes = [0u16; 65792];
     let mut book = [0u64; 384];
     let got = text::read(n, &mut nodes, 256, &mut book, &bytes[0..k]);
+    compared(n, got, &nodes, &bytes[0..k], answer)
+}
+
+// 1, 2 or 3, of what reading the text answered and the node table after it.
+fn compared(n: usize, got: Answer, nodes: &[u16], text: &[u8], answer: &[u8]) -> usize
+    ensures { λ r. ⌜ r ≤ 3 ⌝ }
+{
     match got {
         Answer::Done(_) => {
             if answer.len() != 2 {
                 return 3;
             }
-            if tables::is_text(n, &nodes, &bytes[0..k]) {
+            if tables::is_text(n, nodes, text) {
                 return 1;
             }
             3
