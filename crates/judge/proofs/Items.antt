@@ -4,21 +4,22 @@ use mathlib.Core.List.{List, _∷_}
 use Prim.Native.Nat.{ℕ, _+_, _-_, _<_}
 use native.Mathlib.Omega.{arith}
 use borrow.Author.Tests.{eqb-true, eq-eqb}
-use Rattle.orders.proofs.ListLaws.{cond-cases}
 use lib.Dec.{eqb}
 use lib.ListN.{length, take, drop, length-drop}
 use lib.Seq.{drop-drop, drop-append-seam}
 use Rattle.tokens.specs.Tokens.{State, E, F, L, R, X, number, Judged, j-nil, j-leaf, j-node, encode}
 use Rattle.tokens.specs.Views.{state-of, first-of, rest-of}
-use Rattle.tokens.proofs.Laws.{number-injective, encode-split, whole}
+use Rattle.tokens.proofs.Laws.{number-injective, encode-split}
 use Rattle.spans.specs.Spans.{is, beyond}
 use Rattle.spans.proofs.Laws.{beyond-first}
 use Rattle.judge.specs.Judge.{states}
 use Rattle.judge.specs.Automaton.{Run, p0, pE, pF, pM, p1, p2, pR, pX, c0, cE, cF, cL, cEL, cU, cD, cR, cX, step, runs}
+use Rattle.orders.proofs.Tests.{cond-cases}
+use Rattle.orders.proofs.ListLaws.{part-to-end}
 
 -- They are a part of the slice, and there are some before its end.
 pub from-items : (k : Judged) (x : List ℕ) (i : ℕ) → drop i x ≡ encode k → take (length x - i) (drop i x) ≡ encode k
-from-items k x i e = whole x i ∙ e
+from-items k x i e = part-to-end x i ∙ e
 
 pub some-items : (k : Judged) (x : List ℕ) (i : ℕ) → drop i x ≡ encode k → i < length x → 0 < length (encode k)
 some-items k x i e h = omega (arith, ap length e, length-drop i x)

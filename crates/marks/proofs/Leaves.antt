@@ -15,8 +15,9 @@ use Rattle.orders.specs.Lists.{All, Distinct, In, filter, elem, range}
 use Rattle.orders.specs.CircularOrder.{Restriction, WellFormed}
 use Rattle.marks.specs.Marks.{bit, marked, words-of, leaves-of}
 use Rattle.orders.proofs.ListLaws.{all-map}
-use Rattle.orders.proofs.Members.{false-if, elem-in, in-elem, all-in, in-all}
+use Rattle.orders.proofs.Members.{elem-in, in-elem, all-in, in-all}
 use Rattle.orders.proofs.Ranges.{filter-different, in-filter, filter-in, in-range, range-in, range-append, filter-agree, count, count-cons, count-append, count-elem}
+use Rattle.orders.proofs.Tests.{false-if}
 use Rattle.marks.proofs.Word.{digit-times, bit-zero, bit-half}
 use Rattle.marks.proofs.Words.{Words, words-agree, words-of-marked, length-words, leaf-at, marked-at, marked-none, marked-past, marked-words}
 
@@ -37,6 +38,9 @@ marked-leaf ws (suc m) e = go (decLe (suc m) (64 * length ws))
     go : Dec (suc m ≤ 64 * length ws) → In (suc m) (filter (marked ws) (range 1 (64 * length ws)))
     go (yes l) = filter-in (marked ws) (range 1 (64 * length ws)) (suc m) e (range-in 1 (64 * length ws) (suc m) (omega arith) (omega arith))
     go (no l) = absurd (true≢false (sym e ∙ marked-past ws (suc m) (omega arith)))
+
+pub marked-range : (ws : List ℕ) (x : ℕ) → marked ws x ≡ true → (1 ≤ x) × (x ≤ 64 * length ws)
+marked-range ws x e = leaf-range ws x (marked-leaf ws x e)
 
 -- So the list is one of different leaves, and the words are those of the list.
 pub leaves-different : (ws : List ℕ) → Distinct (leaves-of ws)
@@ -133,6 +137,6 @@ marked-list k l r = λ i x. at x i
         go (yes h) = marked-words k (elem l) (suc x) (omega arith) h
         go (no h) = marked-past (words-of k (elem l)) (suc x) (omega (arith, length-words k (elem l))) ∙ sym (out (suc x) (λ p. h (p .1)))
 
--- Four words hold a well-formed group of at most 256 leaves.
-pub marked-group : (n : ℕ) (l : List ℕ) → n ≤ 256 → WellFormed n l → marked (words-of 4 (elem l)) ≡ elem l
-marked-group n l h w = marked-list 4 l (all-map (λ b. (1 ≤ b) × (b ≤ n)) (λ b. (1 ≤ b) × (b ≤ 256)) (λ b r. (r .0, omega (arith, r .1))) l (w .in-range))
+-- k words hold a well-formed group of at most 64 * k leaves.
+pub marked-group : (k n : ℕ) (l : List ℕ) → n ≤ 64 * k → WellFormed n l → marked (words-of k (elem l)) ≡ elem l
+marked-group k n l h w = marked-list k l (all-map (λ b. (1 ≤ b) × (b ≤ n)) (λ b. (1 ≤ b) × (b ≤ 64 * k)) (λ b r. (r .0, omega (arith, r .1))) l (w .in-range))

@@ -6,7 +6,8 @@ use lib.Seq.{drop-drop}
 use borrow.Author.Tests.{eq-eqb}
 use Rattle.tokens.specs.Tokens.{number, Judged, encode}
 use Rattle.tokens.specs.Views.{state-of, rest-of}
-use Rattle.tokens.proofs.Laws.{number-small, at-end, whole}
+use Rattle.orders.proofs.ListLaws.{part-to-end}
+use Rattle.tokens.proofs.Laws.{number-small, at-end}
 use Rattle.spans.specs.Spans.{is, beyond, Parted}
 use Rattle.spans.proofs.Laws.{parted-some}
 use Rattle.tokens.proofs.Sequences.{encode-injective}
@@ -100,7 +101,7 @@ loop-again c =
       omega (arith, length-drop (c .before .before .before .before .before .before .loop .i) x),
       c .before .before .before .before .before .before .before .before .pre .2 (c .before .before .before .before .before .before .loop .at) (c .before .before .before .state .result),
       beyond (is (c .before .before .before .state .result)) (v .2),
-      sym (drop-drop (c .span .result) (c .before .before .before .before .before .before .loop .i) x) ∙ ap (drop (c .span .result)) (sym (whole x (c .before .before .before .before .before .before .loop .i))) ∙ passed c .back,
+      sym (drop-drop (c .span .result) (c .before .before .before .before .before .before .loop .i) x) ∙ ap (drop (c .span .result)) (sym (part-to-end x (c .before .before .before .before .before .before .loop .i))) ∙ passed c .back,
       λ j q ej ea.
           let w = v .4 j q ej ea in (
             step (w .0) (state-of (v .2)),
