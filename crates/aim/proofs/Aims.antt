@@ -4,6 +4,7 @@ use mathlib.Core.Bool.{Bool, true, false, not, _||_, true≢false}
 use mathlib.Core.Option.{Option, none, some}
 use mathlib.Core.List.{List, [], _∷_}
 use Prim.Native.Nat.{ℕ, _-_, _≤_, _<_}
+use native.Mathlib.Nat.{pos-of-ne-zero}
 use native.Mathlib.Omega.{arith}
 use borrow.Author.Tests.{ltb-false, eqb-false, not-false}
 use lib.Dec.{eqb, ltb}
@@ -12,6 +13,7 @@ use Rattle.orders.specs.Tree.{Forest, frontier}
 use Rattle.orders.specs.Form.{standard}
 use Rattle.orders.specs.Conflict.{consecutive?}
 use Rattle.orders.specs.Aim.{aim-of}
+use Rattle.orders.proofs.Tests.{or-neither}
 use Rattle.calls.specs.declared.Refusal.{Refusal}
 use Rattle.calls.specs.declared.Refusal.the-variants.{RingSize, ShortTable, NotInForm, NoSuchGroup, NotConsecutive}
 use Rattle.calls.specs.declared.Answer.the-variants.{Done}
@@ -20,7 +22,6 @@ use Rattle.calls.specs.NodeTable.{tree-in}
 use Rattle.calls.specs.Refusals.{refuse, down, bad-size, short, short-nodes}
 use Rattle.calls.specs.Calls.{is-none, of-tree, group-numbered, answered, aim-refusal, aim-call}
 use Rattle.calls.proofs.NodeTables.{tree-in-holds}
-use Rattle.checks.proofs.Laws.{pos}
 use Rattle.aim.specs.Aims.{AimsInside}
 use Rattle.aim.proofs.Sizes.{group-within}
 use Rattle.aim.proofs.Runs.{aim-inside}
@@ -35,10 +36,6 @@ all-passed false false false true f e = absurd (let z : _≡_ {A = ℕ} 0 1 = cc
 all-passed false false false false true e = absurd (let z : _≡_ {A = ℕ} 0 1 = cc in omega arith)
 all-passed false false false false false e = (refl, refl, refl, refl, refl)
 
-neither : (a b : Bool) → (a || b) ≡ false → (a ≡ false) × (b ≡ false)
-neither true b e = absurd (let z : _≡_ {A = ℕ} 0 1 = cc in omega arith)
-neither false b e = (refl, e)
-
 done-none : (r : Option Refusal) (v b : ℕ) → answered r v ≡ Done b → (r ≡ none) × (v ≡ b)
 done-none none v b e = (refl, cc)
 done-none (some r) v b e = absurd (let z : _≡_ {A = ℕ} 0 1 = cc in omega arith)
@@ -48,11 +45,11 @@ module _ (n have : ℕ) (nodes book : List ℕ) (count k : ℕ) where
   inside : (t : Forest) → tree-in n nodes ≡ some t → bad-size n ≡ false → short 384 book ≡ false → book-in-form? n book count ≡ true → (eqb k 0 || ltb count k) ≡ false
       → consecutive? (group-numbered book k) (standard t) ≡ true → group-numbered book k (aim-of (group-numbered book k) (standard t)) ≡ true
   inside t e size long form number hangs =
-      let s = neither (eqb n 0) (ltb 256 n) size in
+      let s = or-neither (eqb n 0) (ltb 256 n) size in
       let few : n ≤ 256 = ltb-false 256 n (s .1) in
-      let some-leaf : 1 ≤ n = pos (eqb-false n 0 (s .0)) in
-      let m = neither (eqb k 0) (ltb count k) number in
-      let there : k - 1 < count = omega (arith, pos (eqb-false k 0 (m .0)), ltb-false count k (m .1)) in
+      let some-leaf : 1 ≤ n = pos-of-ne-zero (eqb-false n 0 (s .0)) in
+      let m = or-neither (eqb k 0) (ltb count k) number in
+      let there : k - 1 < count = omega (arith, pos-of-ne-zero (eqb-false k 0 (m .0)), ltb-false count k (m .1)) in
       let w = group-within n t book count (k - 1) (tree-in-holds n nodes t few .0 e .in-form) some-leaf few (ltb-false (length book) 384 long) form there in
       aim-inside (group-numbered book k) 1 (frontier t) hangs (omega (arith, w .some-leaf, w .all-leaves))
 
@@ -66,5 +63,5 @@ module _ (n have : ℕ) (nodes book : List ℕ) (count k : ℕ) where
       go none q d = absurd (true≢false (all-passed (bad-size n) (short-nodes have nodes || short 384 book) true (eqb k 0 || ltb count k) (not (consecutive? (group-numbered book k) [])) (d .0) .2))
       go (some t) q d =
           let p = all-passed (bad-size n) (short-nodes have nodes || short 384 book) (not (book-in-form? n book count)) (eqb k 0 || ltb count k) (not (consecutive? (group-numbered book k) (standard t))) (d .0) in
-          let long = neither (short-nodes have nodes) (short 384 book) (p .1) .1 in
+          let long = or-neither (short-nodes have nodes) (short 384 book) (p .1) .1 in
           ap (group-numbered book k) (sym (d .1)) ∙ inside t q (p .0) long (not-false (book-in-form? n book count) (p .2)) (p .3) (not-false (consecutive? (group-numbered book k) (standard t)) (p .4))

@@ -14,6 +14,7 @@ use Rattle.orders.specs.Aim.{last-of}
 use Rattle.orders.proofs.Contiguous.{L, Early, Contiguous, sided-before, sided-last, con-out, early-con}
 use Rattle.orders.proofs.CircleAndLine.{consecutive-side}
 use Rattle.orders.proofs.Decide.{consecutive-decides}
+use Rattle.orders.proofs.Tests.{same-tests}
 use Rattle.aim.specs.Starts.{starts}
 
 module _ (G : Restriction) where
@@ -117,11 +118,6 @@ side-out G x = go (G x) refl
     go : (b : Bool) → G x ≡ b → cond b (complement G) G x ≡ false
     go true e = ap not e
     go false e = e
-
-same-tests : (a b : Bool) → (a ≡ true → b ≡ true) → (b ≡ true → a ≡ true) → a ≡ b
-same-tests true b f g = sym (f refl)
-same-tests false true f g = g refl
-same-tests false false f g = refl
 
 -- The test by starts.
 pub consecutive-starts : (G : Restriction) (x : ℕ) (xs : L) → leb (starts G (last-of x xs) (x ∷ xs)) 1 ≡ consecutive? G (x ∷ xs)

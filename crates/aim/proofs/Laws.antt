@@ -6,24 +6,15 @@ use Prim.Native.Nat.{ℕ, suc, _+_, _-_, _/_, _%_, _<_}
 use native.Mathlib.Omega.{arith}
 use native.Mathlib.Numerals.{add-one}
 use lib.Dec.{leb}
-use lib.ListN.{length, take, drop, getD}
-use lib.Seq.{take-length}
+use lib.ListN.{length, getD}
 use Rattle.orders.specs.CircularOrder.{Restriction}
 use Rattle.orders.specs.Conflict.{consecutive?}
 use Rattle.orders.specs.Aim.{count-in, last-of, start-after, run-start, aim-of}
+use Rattle.orders.proofs.ListLaws.{tail, tail-is}
 use Rattle.calls.specs.declared.Refusal.the-variants.{NotConsecutive}
 use Rattle.calls.specs.declared.Answer.the-variants.{Done, Refused}
 use Rattle.aim.specs.Starts.{enters, starts, aim-in}
 use Rattle.aim.proofs.Circle.{consecutive-starts}
-
--- What stands after the first leaf.
-abbrev pub tail : List ℕ → List ℕ
-tail l = take (length l - 1) (drop 1 l)
-
-tail-is : (x : ℕ) (xs : List ℕ) → tail (x ∷ xs) ≡ xs
-tail-is x xs =
-    let e : suc (length xs) - 1 ≡ length xs = omega arith in
-    ap (λ (n : ℕ). take n xs) e ∙ take-length xs
 
 module _ (G : Restriction) (b : ℕ) where
   pub starts-none : (l : List ℕ) → length l ≡ 0 → starts G b l ≡ 0

@@ -4,6 +4,7 @@ use mathlib.Core.Path.{_≡_, refl, sym, _∙_, ap, subst}
 use mathlib.Core.Bool.{Bool, true, false, cond}
 use mathlib.Core.List.{[], _∷_, _++_, append-assoc, append-nil}
 use Prim.Native.Nat.{ℕ, zero, suc, _+_, _-_, _*_, _/_, _%_, _≤_, _<_}
+use native.Mathlib.Nat.{mod-eq-of-lt}
 use native.Mathlib.Omega.{arith}
 use native.Mathlib.Decide.{decLe}
 use borrow.Author.Tests.{not-true}
@@ -173,9 +174,6 @@ module _ (G : Restriction) where
 mod-once : (m r : ℕ) → r < m → (m + r) % m ≡ r
 mod-once m r l = let e : m + r ≡ 1 * m + r = omega arith in ap (λ k. k % m) e ∙ digits-mod 1 l
 
-mod-none : (m r : ℕ) → r < m → r % m ≡ r
-mod-none m r l = let e : r ≡ 0 * m + r = omega arith in ap (λ k. k % m) e ∙ digits-mod 0 l
-
 turned-place : (a c : L) (j : ℕ) → j < length (a ++ c) → getD (a ++ c) ((length a + j) % length (a ++ c)) 0 ≡ getD (c ++ a) j 0
 turned-place a c j l = go (decLe (length c) j)
   where
@@ -195,7 +193,7 @@ turned-place a c j l = go (decLe (length c) j)
         ∙ ap (λ k. getD (c ++ a) k 0) f
     go (no h) =
         let m : j < length c = omega arith in
-        ap (λ k. getD (a ++ c) k 0) (mod-none (length (a ++ c)) (length a + j) (omega (arith, long)))
+        ap (λ k. getD (a ++ c) k 0) (mod-eq-of-lt {n = length a + j} {m = length (a ++ c)} (omega (arith, long)))
         ∙ getD-append-add a c j 0
         ∙ sym (List·getD-append c a 0 j m)
 

@@ -14,12 +14,14 @@ use Rattle.orders.specs.Tree.{Forest}
 use Rattle.orders.specs.Form.{InForm, standard}
 use Rattle.orders.specs.Aim.{count-in}
 use Rattle.orders.proofs.Perm.{perm-skip}
-use Rattle.orders.proofs.Members.{both, all-passed, false-if}
+use Rattle.orders.proofs.Members.{all-passed}
 use Rattle.orders.proofs.Ranges.{count, count-cons, count-append, range-append, range-in}
 use Rattle.orders.proofs.TextTree.{form-length}
+use Rattle.orders.proofs.Tests.{both, false-if}
 use Rattle.marks.specs.Marks.{marked, leaves-of}
 use Rattle.marks.proofs.Leaves.{marked-leaf}
 use Rattle.calls.specs.Book.{group-words, group-in-form?, book-in-form?}
+use Rattle.book.proofs.Laws.{few-groups}
 use Rattle.aim.specs.Starts.{Within}
 
 module _ (G : Restriction) where
@@ -69,10 +71,6 @@ some-leaf : (l : List ℕ) → not (same l []) ≡ true → 1 ≤ length l
 some-leaf [] e = absurd (true≢false (sym e))
 some-leaf (x ∷ l) e = omega arith
 
-pub book-few : (n : ℕ) (book : List ℕ) (count : ℕ) → book-in-form? n book count ≡ true → count ≤ 96
-unfolding book-in-form?
-book-few n book count e = leb-true count 96 (both {a = leb count 96} Iff·rfl Iff·rfl .0 e .0)
-
 group-form : (n : ℕ) (book : List ℕ) (count k : ℕ) → book-in-form? n book count ≡ true → k < count → group-in-form? n (group-words book k) ≡ true
 unfolding book-in-form?
 group-form n book count k e l =
@@ -82,7 +80,7 @@ group-form n book count k e l =
 pub group-within : (n : ℕ) (t : Forest) (book : List ℕ) (count k : ℕ) → InForm n t → 1 ≤ n → n ≤ 256 → 384 ≤ length book
     → book-in-form? n book count ≡ true → k < count → Within (group-words book k) (standard t)
 group-within n t book count k f h l w e m =
-    let c = book-few n book count e in
+    let c = few-groups n book count e in
     let g = both {a = not (same (leaves-of (group-words book k)) [])} Iff·rfl Iff·rfl .0 (group-form n book count k e m) in
     let four : length (group-words book k) ≡ 4 = omega (arith, length-take 4 (drop (4 * k) book), length-drop (4 * k) book) in
     record {

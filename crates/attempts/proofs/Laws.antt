@@ -47,7 +47,7 @@ module _ (t : Forest) (n count : ℕ) (list : List ℕ) where
 
     -- The marks of the list are its leaves.
     marks-are : (words : List ℕ) → n ≤ 256 → words ≡ words-of 4 (elem list) → marked words ≡ elem list
-    marks-are words h w = ap marked w ∙ marked-group n list h (passes-iff n list .0 e)
+    marks-are words h w = ap marked w ∙ marked-group 4 n list h (passes-iff n list .0 e)
 
     pub none-joined : (words old new : List ℕ) → n ≤ 256 → words ≡ words-of 4 (elem list) → (count ≡ 96 → ⊥) → Answers (join (marked words) t) old new Impossible
         → group-refusal t n count list ≡ some Not-possible

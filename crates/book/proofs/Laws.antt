@@ -1,5 +1,5 @@
 -- The groups of a book one after another, a group's four words as a part of the book, and words without a mark.
-use mathlib.Core.Path.{_≡_, refl, sym, ap, _∙_}
+use mathlib.Core.Path.{_≡_, refl, sym, _∙_}
 use mathlib.Core.Logic.{Iff·rfl}
 use mathlib.Core.Bool.{Bool, true, false, _&&_, true≢false}
 use mathlib.Core.List.{List, [], _∷_, _++_}
@@ -15,14 +15,13 @@ use lib.ListN.{length, getD, take, drop, replicate, length-take, length-drop, le
 use lib.Seq.{getD-take, getD-drop, drop-drop}
 use Rattle.orders.specs.Lists.{range, same, all-of}
 use Rattle.orders.specs.CircularOrder.{Restriction}
-use Rattle.orders.proofs.Members.{both, false-if}
 use Rattle.marks.specs.Marks.{words-of, leaves-of, no-leaf}
-use Rattle.marks.proofs.Words.{Words}
-use Rattle.marks.proofs.Word.{word-none}
+use Rattle.marks.proofs.Words.{Words, no-words}
 use Rattle.mark_sets.proofs.Steps.{empty-all, empty-not}
 use Rattle.calls.specs.Tables.{over}
 use Rattle.calls.specs.Book.{group-words, group-in-form?, book-in-form?, booked, emptied}
 use Rattle.book.specs.Groups.{groups-in-form?}
+use Rattle.orders.proofs.Tests.{both, false-if}
 
 pub groups-done : (n : ℕ) (book : List ℕ) (k count : ℕ) → count ≤ k → groups-in-form? n book k count ≡ true
 unfolding groups-in-form?
@@ -57,16 +56,6 @@ empty-zero ws v = go (same (leaves-of ws) []) refl
     go : (b : Bool) → same (leaves-of ws) [] ≡ b → b ≡ all-of (eqb 0) ws
     go true q = sym (all-zero ws (λ k l. zero-word q k (ℕ-discrete (getD ws k 0) 0)))
     go false q = sym (false-if (all-of (eqb 0) ws) (λ e. true≢false (sym (empty-all ws (zero-at ws e)) ∙ q)))
-
--- The words of no leaf are zero.
-pub no-words : (k : ℕ) → words-of k no-leaf ≡ replicate k 0
-unfolding words-of
-no-words zero = refl
-no-words (suc k) = rw (no-words k, ← word-none (64 * k) 64) (snoc k)
-  where
-    snoc : (k : ℕ) → _++_ {A = ℕ} (replicate k 0) (0 ∷ []) ≡ replicate (suc k) 0
-    snoc zero = refl
-    snoc (suc k) = ap (λ l. 0 ∷ l) (snoc k)
 
 -- A part of words, each below 2^64.
 pub part-words : (m d : ℕ) (ws : List ℕ) → Words ws → Words (take m (drop d ws))

@@ -4,21 +4,20 @@ use mathlib.Core.Logic.{_≢_}
 use mathlib.Core.Bool.{Bool, true, false, cond, _||_}
 use mathlib.Core.Option.{Option, none, some}
 use mathlib.Core.List.{List, [], _∷_}
-use Prim.Native.Nat.{ℕ, suc, _+_, _-_, _≤_, _<_}
+use Prim.Native.Nat.{ℕ, suc, _+_, _≤_, _<_, _*_}
 use native.Mathlib.Omega.{arith}
 use native.Mathlib.Numerals.{add-one}
 use borrow.Author.Tests.{eq-eqb, ne-eqb, lt-ltb, le-ltb}
 use lib.Dec.{eqb, ltb}
-use lib.ListN.{length, getD, take, drop, replicate}
-use lib.Seq.{take-all}
+use lib.ListN.{length, getD, replicate}
 use Rattle.orders.specs.Lists.{elem}
+use Rattle.orders.proofs.ListLaws.{tail, tail-is}
 use Rattle.marks.specs.Marks.{marked, words-of, with-leaf, no-leaf}
-use Rattle.marks.proofs.Words.{marked-words}
+use Rattle.marks.proofs.Words.{marked-words, no-words}
 use Rattle.calls.specs.declared.Refusal.{Refusal}
 use Rattle.calls.specs.declared.Refusal.the-variants.{EmptyGroup, OutsideRing, Repeated}
 use Rattle.calls.specs.Refusals.{down, bad-leaf, list-checks}
 use Rattle.book.specs.Lists.{Seen}
-use Rattle.book.proofs.Laws.{no-words}
 
 pub leaf-none : (n : ℕ) (s : List ℕ) (k : ℕ) (l : List ℕ) → length l ≡ 0 → none ≡ bad-leaf n s k l
 unfolding bad-leaf
@@ -42,23 +41,23 @@ leaf-earlier n s k [] h z m e = absurd (h refl)
 leaf-earlier n s k (b ∷ l) h z m e = rw (ne-eqb b 0 z, le-ltb n b m, e)
 
 pub leaf-new : (n : ℕ) (s : List ℕ) (k : ℕ) (l : List ℕ) → length l ≢ 0 → getD l 0 0 ≢ 0 → getD l 0 0 ≤ n → elem s (getD l 0 0) ≡ false
-    → bad-leaf n s k l ≡ bad-leaf n (getD l 0 0 ∷ s) (k + 1) (take (length l - 1) (drop 1 l))
+    → bad-leaf n s k l ≡ bad-leaf n (getD l 0 0 ∷ s) (k + 1) (tail l)
 unfolding bad-leaf
 leaf-new n s k [] h z m e = absurd (h refl)
-leaf-new n s k (b ∷ l) h z m e = rw (ne-eqb b 0 z, le-ltb n b m, e, add-one, take-all (length (b ∷ l) - 1) l (omega arith))
+leaf-new n s k (b ∷ l) h z m e = rw (ne-eqb b 0 z, le-ltb n b m, e, add-one, tail-is b l)
 
 -- The marks with one leaf more.
 or-elem : (b a : Bool) → (b || a) ≡ cond b true a
 or-elem true a = refl
 or-elem false a = refl
 
-pub seen-more : (n : ℕ) (words s : List ℕ) (b : ℕ) → n ≤ 256 → Seen n words s → Seen n (words-of 4 (with-leaf b (marked words))) (b ∷ s)
-seen-more n words s b h f x l m =
-    marked-words 4 (with-leaf b (marked words)) x l (omega arith) ∙ or-elem (eqb x b) (marked words x) ∙ ap (cond (eqb x b) true) (f x l m)
+pub seen-more : (k n : ℕ) (words s : List ℕ) (b : ℕ) → n ≤ 64 * k → Seen n words s → Seen n (words-of k (with-leaf b (marked words))) (b ∷ s)
+seen-more k n words s b h f x l m =
+    marked-words k (with-leaf b (marked words)) x l (omega arith) ∙ or-elem (eqb x b) (marked words x) ∙ ap (cond (eqb x b) true) (f x l m)
 
--- No leaf is marked in four empty words.
-pub seen-none : (n : ℕ) → n ≤ 256 → Seen n (replicate 4 0) []
-seen-none n h x l m = subst (λ ws. marked ws x ≡ false) (no-words 4) (marked-words 4 no-leaf x l (omega arith))
+-- No leaf is marked in empty words.
+pub seen-none : (k n : ℕ) → n ≤ 64 * k → Seen n (replicate k 0) []
+seen-none k n h x l m = subst (λ ws. marked ws x ≡ false) (no-words k) (marked-words k no-leaf x l (omega arith))
 
 -- Checks 4, 5 and 6 together.
 pub checks-empty : (n : ℕ) (l : List ℕ) → length l ≡ 0 → some EmptyGroup ≡ down (list-checks n l)

@@ -5,6 +5,7 @@ use mathlib.Core.Bool.{Bool, true, false, not, cond, _||_, true≢false}
 use mathlib.Core.Option.{Option, none, some}
 use mathlib.Core.List.{List, [], _∷_, _++_}
 use Prim.Native.Nat.{ℕ, suc, _≤_, _<_}
+use native.Mathlib.Nat.{pos-of-ne-zero}
 use native.Mathlib.Omega.{arith}
 use borrow.Author.Tests.{ne-eqb, le-ltb, eqb-false, ltb-false}
 use lib.Dec.{eqb, ltb}
@@ -15,10 +16,10 @@ use Rattle.orders.specs.CircularOrder.{Restriction, WellFormed}
 use Rattle.orders.specs.Tree.{Forest}
 use Rattle.orders.specs.Form.{InForm, standard, StandardOrder}
 use Rattle.orders.specs.Join.{join}
-use Rattle.orders.proofs.Members.{false-if}
 use Rattle.orders.proofs.StandardOrders.{standard-is}
 use Rattle.orders.proofs.TextTree.{form-length}
 use Rattle.orders.proofs.Joining.{join-none, join-some}
+use Rattle.orders.proofs.Tests.{false-if}
 use Rattle.calls.specs.declared.Refusal.{Refusal}
 use Rattle.calls.specs.declared.Refusal.the-variants.{OutsideRing, Repeated, BookFull, Impossible}
 use Rattle.calls.specs.declared.Answer.the-variants.{Done, Refused}
@@ -69,10 +70,7 @@ Fine n seen l = All (λ b. (1 ≤ b) × (b ≤ n)) l × Distinct l × New seen l
 pub fine-more : (n : ℕ) (seen : List ℕ) (b : ℕ) (l : List ℕ) → eqb b 0 ≡ false → ltb n b ≡ false → elem seen b ≡ false → Fine n (b ∷ seen) l → Fine n seen (b ∷ l)
 fine-more n seen b l z q r m =
     let f = new-less seen b l (m .2) in
-    (((pos b (eqb-false b 0 z), ltb-false n b q), m .0), (f .1, m .1), (r, f .0))
-  where
-    pos : (b : ℕ) → b ≢ 0 → 1 ≤ b
-    pos b h = omega arith
+    (((pos-of-ne-zero (eqb-false b 0 z), ltb-false n b q), m .0), (f .1, m .1), (r, f .0))
 
 leaves-are : (n : ℕ) (seen : List ℕ) (k : ℕ) (l : List ℕ) → bad-leaf n seen k l ≡ none → Fine n seen l
 unfolding bad-leaf

@@ -6,7 +6,7 @@ use mathlib.Core.Option.{Option, none, some}
 use mathlib.Core.List.{List, [], _∷_, _++_}
 use Prim.Native.Nat.{ℕ, suc, _+_, _≤_, _<_}
 use native.Mathlib.Omega.{arith}
-use native.Mathlib.Nat.{add-zero, zero-add}
+use native.Mathlib.Nat.{add-zero, zero-add, pos-of-ne-zero}
 use borrow.Author.Tests.{eqb-true, eqb-false, ltb-true, ltb-false}
 use lib.Dec.{eqb, ltb}
 use lib.ListN.{length}
@@ -127,10 +127,7 @@ find-bad n seen k (b ∷ l) r e = go (find-bad n (b ∷ seen) (suc k) l r) (eqb 
         → cond (z || p) (some (OutsideRing k)) (cond s (some (Repeated k)) (bad-leaf n (b ∷ seen) (suc k) l)) ≡ some r → Found-bad n seen k (b ∷ l) r
     go more true z p q s w e = record { before = []; at = b; after = l; is = refl; fine = (tt, tt, tt); cause = inl (same-refusal e ∙ ap OutsideRing (sym (add-zero k)), leaf-outside n b true p z q refl) }
     go more false z true q s w e = record { before = []; at = b; after = l; is = refl; fine = (tt, tt, tt); cause = inl (same-refusal e ∙ ap OutsideRing (sym (add-zero k)), leaf-outside n b false true z q refl) }
-    go more false z false q true w e = record { before = []; at = b; after = l; is = refl; fine = (tt, tt, tt); cause = inr (same-refusal e ∙ ap Repeated (sym (add-zero k)), pos (eqb-false b 0 z), ltb-false n b q, inl w) }
-      where
-        pos : (b ≡ 0 → ⊥) → 1 ≤ b
-        pos h = omega arith
+    go more false z false q true w e = record { before = []; at = b; after = l; is = refl; fine = (tt, tt, tt); cause = inr (same-refusal e ∙ ap Repeated (sym (add-zero k)), pos-of-ne-zero (eqb-false b 0 z), ltb-false n b q, inl w) }
     go more false z false q false w e = later n seen k b l r z q w (more e)
 
 pub earlier-place : (n : ℕ) (l : List ℕ) (r : Refusal) → bad-leaf n [] 0 l ≡ some r → Fault n l r

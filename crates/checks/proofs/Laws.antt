@@ -1,10 +1,10 @@
 -- The checks of a lent node table and a book, down the table.
 use mathlib.Core.Path.{_≡_, refl, sym, _∙_, ap, subst}
-use mathlib.Core.Logic.{_≢_}
 use mathlib.Core.Bool.{Bool, true, false, not, _||_}
 use mathlib.Core.Option.{Option, none, some}
 use mathlib.Core.List.{List, [], _∷_, _++_}
 use Prim.Native.Nat.{ℕ, _≤_, _<_}
+use native.Mathlib.Nat.{pos-of-ne-zero}
 use native.Mathlib.Omega.{arith}
 use borrow.Author.Tests.{eq-eqb, ne-eqb, lt-ltb, le-ltb, ltb-false, eqb-false}
 use lib.Dec.{eqb, ltb}
@@ -34,9 +34,6 @@ pub down-none : (xs ys : List (Option Refusal)) → down xs ≡ none → down (x
 down-none [] ys e = refl
 down-none (none ∷ xs) ys e = down-none xs ys e
 down-none (some x ∷ xs) ys e = absurd (let z : _≡_ {A = ℕ} 0 1 = cc in omega arith)
-
-pub pos : {n : ℕ} → n ≢ 0 → 1 ≤ n
-pos h = omega arith
 
 -- 1 and 2.
 module _ (n have : ℕ) (nodes : List ℕ) (other : Bool) where
@@ -70,7 +67,7 @@ module _ (n have : ℕ) (nodes : List ℕ) (other : Bool) where
       go false p false q false r true s o t e = absurd (let z : _≡_ {A = ℕ} 0 1 = cc in omega arith)
       go false p false q false r false s true t e = absurd (let z : _≡_ {A = ℕ} 0 1 = cc in omega arith)
       go false p false q false r false s false t e = record {
-        some-leaf = pos (eqb-false n 0 p);
+        some-leaf = pos-of-ne-zero (eqb-false n 0 p);
         few-leaves = ltb-false 256 n q;
         all-records = ltb-false have 256 r;
         all-rows = ltb-false (length nodes) 65792 s;

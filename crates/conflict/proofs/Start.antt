@@ -13,11 +13,11 @@ use Rattle.orders.specs.Tree.{Forest, Allowed}
 use Rattle.orders.specs.Join.{join}
 use Rattle.orders.proofs.Perm.{perm-all, perm-distinct}
 use Rattle.orders.proofs.Members.{in-all, all-in}
-use Rattle.orders.proofs.Ranges.{in-filter, filter-in, range-in}
+use Rattle.orders.proofs.Ranges.{in-filter, filter-in, range-in, filter-distinct}
 use Rattle.orders.proofs.Forms.{others-range, others-distinct}
 use Rattle.orders.proofs.Fresh.{pack-leaves, others-rising, leaves-form}
 use Rattle.orders.proofs.Conflicts.{one-possible}
-use Rattle.orders.proofs.Unused.{filter-distinct, rising-filter, narrow-consecutive, widen, behind, widen-consecutive, behind-alike, kept, dropped, narrow-order, widen-order}
+use Rattle.orders.proofs.Unused.{rising-filter, narrow-consecutive, widen, behind, widen-consecutive, behind-alike, kept, dropped, narrow-order, widen-order}
 use Rattle.update.specs.Update.{FormWithin}
 use Rattle.stand_in.specs.StandIn.{Unused, Chosen, start, OrderOf, StandIn}
 use Rattle.leaving_out.specs.LeavingOut.{Represents}

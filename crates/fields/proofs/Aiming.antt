@@ -10,7 +10,7 @@ use Rattle.orders.specs.CircularOrder.{Restriction, WellFormed}
 use Rattle.orders.specs.Tree.{frontier}
 use Rattle.orders.specs.Form.{standard}
 use Rattle.orders.specs.Aim.{count-in, run-start, aim-of}
-use Rattle.orders.proofs.ListLaws.{all-map}
+use Rattle.orders.proofs.ListLaws.{all-map, all-at}
 use Rattle.orders.proofs.Members.{in-all}
 use Rattle.orders.proofs.Perm.{perm-all}
 use Rattle.orders.proofs.Ranges.{in-range, count, count-elem}
@@ -21,7 +21,6 @@ use Rattle.marks.proofs.Leaves.{marked-group, size-of-list}
 use Rattle.aim.specs.Starts.{Within}
 use Rattle.aim.proofs.Sizes.{count-in-is, perm-count, all-standard}
 use Rattle.fields.specs.Ordered.{Ordered}
-use Rattle.series.proofs.Words.{all-at}
 
 module _ {n : ℕ} {order : List ℕ} (o : Ordered n order) where
   pub order-length : length order ≡ n
@@ -41,7 +40,7 @@ module _ {n : ℕ} {order : List ℕ} (o : Ordered n order) where
 
   module _ (list words : List ℕ) (g : WellFormed n list) (w : words ≡ words-of 4 (elem list)) where
     pub same-group : marked words ≡ elem list
-    same-group = ap marked w ∙ marked-group n list (o .few-leaves) g
+    same-group = ap marked w ∙ marked-group 4 n list (o .few-leaves) g
 
     size : length (leaves-of words) ≡ length list
     size =

@@ -7,15 +7,16 @@ use Prim.Native.Nat.{ℕ, zero, suc, _-_, _*_, _≤_, _<_}
 use native.Mathlib.Omega.{arith}
 use borrow.Author.Tests.{ne-eqb, eqb-false, le-leb, lt-leb, leb-true, not-true}
 use lib.Dec.{eqb}
-use lib.ListN.{length, getD}
+use lib.ListN.{length}
 use Rattle.orders.specs.Lists.{All, Distinct, In, range, Perm, done, next, rearranged?}
 use Rattle.orders.specs.CircularOrder.{Restriction, others}
 use Rattle.orders.proofs.Perm.{pick-length, perm-length, perm-distinct, perm-all}
-use Rattle.orders.proofs.Members.{both, false-if, all-in, in-all, pick-in, in-pick}
+use Rattle.orders.proofs.Members.{all-in, in-all, pick-in, in-pick}
 use Rattle.orders.proofs.Ranges.{range-length, range-distinct, in-range, range-in}
 use Rattle.orders.proofs.FormTests.{rearranged-decides}
-use Rattle.marks.specs.Marks.{word-of, words-of, marked, no-leaf, with-leaf}
-use Rattle.marks.proofs.Words.{length-words, marked-words, words-agree, words-are}
+use Rattle.orders.proofs.Tests.{both, false-if, same-tests}
+use Rattle.marks.specs.Marks.{words-of, marked, no-leaf, with-leaf}
+use Rattle.marks.proofs.Words.{length-words, marked-words, words-agree}
 use Rattle.form.specs.Tests.{new-leaf?, new-leaves?, with-leaves, Marked}
 
 -- ---- one leaf
@@ -28,30 +29,14 @@ pub leaf-high : (n : ℕ) (G : Restriction) (b : ℕ) → 2 ≤ b → n < b → 
 unfolding new-leaf?
 leaf-high n G b h l = rw (le-leb 2 b h, lt-leb b n l)
 
-pub leaf-within : (n : ℕ) (G : Restriction) (b : ℕ) {ws : List ℕ} → 2 ≤ b → b ≤ n → n ≤ 256 → ws ≡ words-of 4 G → not (marked ws b) ≡ new-leaf? n G b
+pub leaf-within : (k n : ℕ) (G : Restriction) (b : ℕ) {ws : List ℕ} → 2 ≤ b → b ≤ n → n ≤ 64 * k → ws ≡ words-of k G → not (marked ws b) ≡ new-leaf? n G b
 unfolding new-leaf?
-leaf-within n G b h l m e = rw (le-leb 2 b h, le-leb b n l, e, marked-words 4 G b (omega arith) (omega arith))
+leaf-within k n G b h l m e = rw (le-leb 2 b h, le-leb b n l, e, marked-words k G b (omega arith) (omega arith))
 
-pub leaf-marks : (G : Restriction) (b : ℕ) {ws : List ℕ} → ws ≡ words-of 4 G → words-of (length ws) (with-leaf b (marked ws)) ≡ words-of 4 (with-leaf b G)
-leaf-marks G b e =
+pub leaf-marks : (k : ℕ) (G : Restriction) (b : ℕ) {ws : List ℕ} → ws ≡ words-of k G → words-of (length ws) (with-leaf b (marked ws)) ≡ words-of k (with-leaf b G)
+leaf-marks k G b e =
     rw (e, length-words)
-    (words-agree 4 (with-leaf b (marked (words-of 4 G))) (with-leaf b G) (λ x l m. ap (λ (t : Bool). eqb x b || t) (marked-words 4 G x l m)))
-
--- No marks at first.
-none-marked : (base k : ℕ) → word-of no-leaf base k ≡ 0
-unfolding word-of
-none-marked base zero = refl
-none-marked base (suc k) = omega (arith, none-marked base k)
-
-pub words-none : _≡_ {A = List ℕ} (0 ∷ (0 ∷ (0 ∷ (0 ∷ [])))) (words-of 4 no-leaf)
-words-none = words-are (0 ∷ (0 ∷ (0 ∷ (0 ∷ [])))) no-leaf (λ i l. zeros i ∙ sym (none-marked (64 * i) 64))
-  where
-    zeros : (i : ℕ) → _≡_ {A = ℕ} (getD (0 ∷ (0 ∷ (0 ∷ (0 ∷ [])))) i 0) 0
-    zeros zero = refl
-    zeros (suc zero) = refl
-    zeros (suc (suc zero)) = refl
-    zeros (suc (suc (suc zero))) = refl
-    zeros (suc (suc (suc (suc i)))) = refl
+    (words-agree k (with-leaf b (marked (words-of k G))) (with-leaf b G) (λ x l m. ap (λ (t : Bool). eqb x b || t) (marked-words k G x l m)))
 
 -- ---- one leaf after another
 
@@ -71,7 +56,7 @@ pub going-leaf : {n : ℕ} {G : Restriction} {l ws vs m m' : List ℕ} (b : ℕ)
 unfolding new-leaves? with-leaves
 going-leaf b g h e w = record {
   group = with-leaf b (g .group);
-  words = w ∙ leaf-marks (g .group) b (g .words);
+  words = w ∙ leaf-marks 4 (g .group) b (g .words);
   answer = g .answer ∙ rw (h, ← e);
   marks = g .marks ∙ rw h;
 }
@@ -143,12 +128,8 @@ all-there m (a ∷ l) d h n =
 -- So n − 1 leaves that are new one after the other are the leaves from 2 to n, and those are.
 pub all-new : (n : ℕ) (l : List ℕ) → 0 < n → length l ≡ n - 1 → new-leaves? n no-leaf l ≡ rearranged? (others n) l
 all-new zero l ne e = absurd (omega arith)
-all-new (suc k) l ne e = alike (λ t. rearranged-decides (others (suc k)) l .1 (to (new-decides (suc k) no-leaf l .0 t))) (λ t. new-decides (suc k) no-leaf l .1 (from (rearranged-decides (others (suc k)) l .0 t)))
+all-new (suc k) l ne e = same-tests _ _ (λ t. rearranged-decides (others (suc k)) l .1 (to (new-decides (suc k) no-leaf l .0 t))) (λ t. new-decides (suc k) no-leaf l .1 (from (rearranged-decides (others (suc k)) l .0 t)))
   where
-    alike : {a b : Bool} → (a ≡ true → b ≡ true) → (b ≡ true → a ≡ true) → a ≡ b
-    alike {a = true} f g = sym (f refl)
-    alike {a = false} {b} f g = sym (false-if b (λ t. true≢false (sym (g t))))
-
     to : Fresh (suc k) no-leaf l → Perm (others (suc k)) l
     to h = all-there (others (suc k)) l (h .1) (λ y i. let r = all-in (λ b. (2 ≤ b) × (b ≤ suc k)) y l (h .0) i in range-in 2 k y (r .0) (omega arith)) (omega (arith, range-length 2 k))
 

@@ -1,7 +1,7 @@
 -- What the first number says of numbers that are the tokens of a forest without states.
 use mathlib.Core.Path.{_≡_, refl, sym, ap, ap₂, subst, _∙_}
 use mathlib.Core.Logic.{_↔_}
-use mathlib.Core.Bool.{Bool, true, false, true≢false}
+use mathlib.Core.Bool.{Bool, true, false}
 use mathlib.Core.List.{List, [], _∷_, _++_}
 use Prim.Native.Nat.{ℕ, _+_, _-_, _/_, _%_, _≤_, _<_}
 use native.Mathlib.Omega.{arith}
@@ -15,12 +15,10 @@ use Rattle.tokens.specs.Tokens.{E, number, Judged, tree, plain, leaf-token, nod
 use Rattle.tokens.specs.Views.{state-of, items-of, rest-of}
 use Rattle.orders.specs.Form.{in-form?}
 use Rattle.orders.proofs.FormTests.{form-decides}
+use Rattle.orders.proofs.ListLaws.{part-to-end}
 use Rattle.tokens.proofs.Sequences.{tree-plain}
-use Rattle.tokens.proofs.Laws.{first-state, size-leaf, size-node, sizes, part-items, part-rest, whole}
+use Rattle.tokens.proofs.Laws.{first-state, size-leaf, size-node, sizes, part-items, part-rest}
 use Rattle.form.specs.Trees.{Plain, TreeFor}
-
-pub refuted : {Q : Type 0} → (Q → ⊥) → (false ≡ true) ↔ Q
-refuted h = ((λ e. absurd (true≢false (sym e))), (λ q. absurd (h q)))
 
 -- A state, or more tokens than there are: not plain.
 plain-state : (f : Forest) → number (state-of (plain f)) ≡ 0
@@ -75,7 +73,7 @@ leaf-then [] ne h g p = absurd (omega arith)
 leaf-then (t ∷ l) ne h g p = (leaf (t / 16) (p .0), ap₂ _∷_ (leaf-by t h g) (p .1))
 
 leaf-on : (l : List ℕ) → 0 < length l → getD l 0 0 / 8 % 2 ≡ 0 → Plain l → Plain (drop 1 l)
-leaf-on l ne g p = subst Plain (sym (part-rest (plain (p .0)) (p .1) (size-leaf (plain (p .0)) (p .1) ne g)) ∙ whole l 1) (plain-rest (p .0))
+leaf-on l ne g p = subst Plain (sym (part-rest (plain (p .0)) (p .1) (size-leaf (plain (p .0)) (p .1) ne g)) ∙ part-to-end l 1) (plain-rest (p .0))
 
 -- A node's token, its items, then a forest.
 node-cons : (t : ℕ) (l : List ℕ) → t % 8 ≡ 0 → (t / 8 % 2 ≡ 0 → ⊥) → t / 32 ≤ length l → Plain (take (t / 32) l) → Plain (drop (t / 32) l) → Plain (t ∷ l)
@@ -104,7 +102,7 @@ plain-items-of l ne g p =
 
 node-on : (l : List ℕ) → 0 < length l → (getD l 0 0 / 8 % 2 ≡ 0 → ⊥) → Plain l → Plain (drop (getD l 0 0 / 32 + 1) l)
 node-on l ne g p =
-    subst Plain (sym (part-rest (plain (p .0)) (p .1) (node-size-is l ne g p ∙ size-node (plain (p .0)) (p .1) ne g)) ∙ whole l (getD l 0 0 / 32 + 1)) (plain-rest (p .0))
+    subst Plain (sym (part-rest (plain (p .0)) (p .1) (node-size-is l ne g p ∙ size-node (plain (p .0)) (p .1) ne g)) ∙ part-to-end l (getD l 0 0 / 32 + 1)) (plain-rest (p .0))
 
 -- The numbers are plain just when those from index i on are.
 pub record PlainFrom (l : List ℕ) (i : ℕ) : Type 0 where

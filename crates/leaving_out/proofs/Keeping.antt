@@ -12,8 +12,8 @@ use Rattle.orders.specs.CircularOrder.{Restriction, AllConsecutive, Possible}
 use Rattle.orders.specs.Conflict.{possible?, leave-out, conflict-list}
 use Rattle.orders.proofs.ListLaws.{all-append, all-left, all-right}
 use Rattle.orders.proofs.Decide.{possible-decides}
-use Rattle.orders.proofs.Members.{false-if}
 use Rattle.orders.proofs.Conflicts.{fewer, not-possible}
+use Rattle.orders.proofs.Tests.{false-if}
 use Rattle.leaving_out.specs.LeavingOut.{keeps, goes-on, conflicts-among}
 
 -- Groups that hang together in the same orders.

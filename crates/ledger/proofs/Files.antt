@@ -1,34 +1,26 @@
 -- The group lines of an accepted file.
 use mathlib.Core.Path.{_≡_, refl, sym, ap, subst, _∙_}
-use mathlib.Core.List.{List, [], _∷_, map}
-use Prim.Native.Nat.{ℕ, zero, suc, _+_, _-_, _≤_, _<_}
+use mathlib.Core.List.{List, [], map}
+use Prim.Native.Nat.{ℕ, _+_, _≤_, _<_}
 use native.Mathlib.Omega.{arith}
 use lib.ListN.{length, getD, length-map, List·getD-map}
-use Rattle.orders.specs.Lists.{All, range}
-use Rattle.orders.proofs.Members.{in-all}
-use Rattle.orders.proofs.Ranges.{in-filter, in-range, filter-different}
-use Rattle.ringfile.specs.RingFile.{Value, off, in-group, leaves-on, Holds}
+use Rattle.orders.specs.Lists.{All}
+use Rattle.ringfile.specs.RingFile.{Value, leaves-on, Holds}
+use Rattle.ringfile.proofs.Groups.{leaves-different, leaves-within, line-length}
 use Rattle.ledger.specs.Ledger.{State, opened, outcome, next, state-at}
 use Rattle.ledger.specs.Stands.{Stands, Line, lists-of, StandsAt}
 use Rattle.ledger.proofs.Runs.{state-none, state-more}
 
 -- The leaves of a line of values.
 leaves-line : (n : ℕ) (vs : List Value) → length vs ≡ n → n ≤ 256 → Line n (leaves-on vs)
-unfolding leaves-on
 leaves-line n vs e h = record {
   few-leaves = h;
   group = λ l. record {
     some-leaf = l;
-    in-range = in-all (λ b. (1 ≤ b) × (b ≤ n)) (leaves-on vs)
-        (λ x i. let r = in-range 1 (length vs) x (in-filter (λ b. in-group (getD vs (b - 1) off)) (range 1 (length vs)) x i .1) in (r .0, omega (arith, r .1)));
-    different = filter-different (λ b. in-group (getD vs (b - 1) off)) 1 (length vs);
+    in-range = subst (λ k. All (λ b. (1 ≤ b) × (b ≤ k)) (leaves-on vs)) e (leaves-within vs);
+    different = leaves-different vs;
   };
 }
-
-all-at : (P : List Value → Type 0) (vss : List (List Value)) (l : ℕ) → All P vss → l < length vss → P (getD vss l [])
-all-at P [] l h m = absurd (omega arith)
-all-at P (vs ∷ vss) zero h m = h .0
-all-at P (vs ∷ vss) (suc l) h m = all-at P vss l (h .1) (omega arith)
 
 module _ {x : List ℕ} {n h k : ℕ} (f : Holds x n h k) where
   pub few-names : n ≤ 256
@@ -44,7 +36,7 @@ module _ {x : List ℕ} {n h k : ℕ} (f : Holds x n h k) where
   pub file-line : (l : ℕ) → l < k → Line n (leaves-on (getD (f .vss) l []))
   file-line l m =
       leaves-line n (getD (f .vss) l [])
-      (all-at (λ vs. length vs ≡ length (f .ns)) (f .vss) l (f .rules .values) (omega (arith, f .lines)) ∙ sym (f .leaves)) few-names
+      (line-length (f .ns) (f .vss) l (f .rules) (omega (arith, f .lines)) ∙ sym (f .leaves)) few-names
 
   -- The ring after one line more; before the first.
   pub stands-more : (l : ℕ) {list toks book table : List ℕ} {m count : ℕ} → l < k → list ≡ leaves-on (getD (f .vss) l [])

@@ -67,7 +67,7 @@ module _ (n : ℕ) (s : State) where
 
   module _ (list words : List ℕ) (old new : List ℕ) (line : Line n list) (some-leaf : length list ≡ 0 → ⊥) (w : words ≡ words-of 4 (elem list)) where
     same-group : marked words ≡ elem list
-    same-group = ap marked w ∙ marked-group n list (line .few-leaves) (line .group (omega (arith, some-leaf)))
+    same-group = ap marked w ∙ marked-group 4 n list (line .few-leaves) (line .group (omega (arith, some-leaf)))
 
     pub tried-refused : {r : Updated} → (length (s .groups) ≡ 96 → ⊥) → r ≡ Impossible → Joined (join (marked words) (s .tree)) old new r
         → Answers (outcome n s list) old new Stays
@@ -143,7 +143,7 @@ module _ (n : ℕ) (s : State) (line : ℕ) (list : List ℕ) {toks book table :
         let o = outcome-kept n s list t (x .1) in
         let v : Wrote (flat t) toks toks′ j = subst (λ (u : List ℕ). Wrote u toks toks′ j) (read-part (x .2)) w in
         let q : j ≡ k = v .many ∙ sym (x .2 .many) in
-        let same : marked (words-of 4 (elem list)) ≡ elem list = marked-group n list (l .few-leaves) (l .group (o .0)) in
+        let same : marked (words-of 4 (elem list)) ≡ elem list = marked-group 4 n list (l .few-leaves) (l .group (o .0)) in
         rw (x .1)
         (record {
           form = join-some n (elem list) (s .tree) t (h .form) (o .2) .form;

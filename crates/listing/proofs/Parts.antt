@@ -1,34 +1,23 @@
 -- The lines of a part, one after another.
 use mathlib.Core.Path.{_≡_, refl, sym, ap, subst, _∙_}
-use mathlib.Core.List.{List, [], _∷_, _++_, map, append-assoc}
+use mathlib.Core.List.{List, [], _∷_, _++_, append-assoc}
 use Prim.Native.Nat.{ℕ, suc, _+_, _-_, _≤_, _<_}
 use native.Mathlib.Omega.{arith}
 use lib.ListN.{length, getD, take, drop, length-append}
 use Rattle.tokens.specs.Tokens.{Wrote}
 use Rattle.tokens.proofs.Writes.{wrote-none}
 use Rattle.output.specs.Appends.{Appends}
-use Rattle.ringfile.specs.RingFile.{Value, value-word, further, line, value-lines, file-bytes, Holds}
+use Rattle.ringfile.specs.RingFile.{line, value-lines, file-bytes, Holds}
+use Rattle.ringfile.proofs.Values.{lines-long}
 use Rattle.listing.specs.declared.Piece.{Piece}
 use Rattle.printing.specs.Listing.{printed}
 use Rattle.listing.specs.Parts.{Parts}
 use Rattle.printing.proofs.Lines.{printed-none, printed-more}
 
 -- A file has fewer group lines than bytes.
-further-some : (ws : List (List ℕ)) → 1 ≤ length (further ws)
-further-some [] = omega arith
-further-some (w ∷ ws) = omega arith
-
-line-some : (ws : List (List ℕ)) → 1 ≤ length (line ws)
-line-some [] = omega arith
-line-some (w ∷ ws) = omega (arith, length-append w (further ws), further-some ws)
-
-lines-some : (vss : List (List Value)) → length vss ≤ length (value-lines vss)
-lines-some [] = omega arith
-lines-some (vs ∷ vss) = omega (arith, length-append (line (map value-word vs)) (value-lines vss), line-some (map value-word vs), lines-some vss)
-
 pub lines-few : {x : List ℕ} {n h k : ℕ} → Holds x n h k → k ≤ 65536
 lines-few f =
-    omega (arith, f .lines, f .size, ap length (f .bytes), length-append (line (f .ns)) (value-lines (f .vss)), lines-some (f .vss))
+    omega (arith, f .lines, f .size, ap length (f .bytes), length-append (line (f .ns)) (value-lines (f .vss)), lines-long (f .vss))
 
 module _ (ls : List (List ℕ)) (from : ℕ) where
   abbrev pub Shown : ℕ → List ℕ → List ℕ → ℕ → Type 0

@@ -14,7 +14,8 @@ use lib.Bits.{bitAnd, bitXor, and-lt, xor-lt}
 use borrow.Author.Tests.{lt-ltb, le-ltb, le-leb, lt-leb}
 use Rattle.orders.specs.Lists.{In, all-of, same}
 use Rattle.marks.specs.Marks.{bit, marked, word-of, leaves-of, outside}
-use Rattle.orders.proofs.Members.{both, false-if, all-passed}
+use Rattle.orders.proofs.Members.{all-passed}
+use Rattle.orders.proofs.Tests.{both, false-if}
 use Rattle.orders.proofs.FormTests.{same-decides}
 use Rattle.marks.proofs.Word.{word-is, word-ext, no-marks, bit-and, bit-xor, bit-ones, bit-past}
 use Rattle.marks.proofs.Words.{Words, marked-at}

@@ -2,13 +2,13 @@
 use mathlib.Core.Path.{_∙_, _≡_, ap, refl, sym}
 use mathlib.Core.Logic.{_↔_, _⊎_, inl, inr}
 use mathlib.Core.Bool.{Bool, Bool·not-not, cond, false, not, true, true≢false}
-use mathlib.Core.List.{[], _++_, _∷_, append-assoc, append-nil}
+use mathlib.Core.List.{[], _++_, _∷_, append-assoc, append-nil, head-eq-of-cons-eq}
 use Prim.Native.Nat.{ℕ}
 use Rattle.orders.specs.Lists.{All}
 use Rattle.orders.specs.CircularOrder.{Restriction, Inside, Outside, Consecutive}
 use Rattle.orders.specs.Reduce.{complement}
 use Rattle.orders.specs.Join.{side}
-use Rattle.orders.proofs.ListLaws.{all-append, all-map, cons-head}
+use Rattle.orders.proofs.ListLaws.{all-append, all-map}
 use Rattle.orders.proofs.Members.{Later, cut}
 use Rattle.orders.proofs.Contiguous.{L, front-all, back-all, Contiguous, con, con-cut, con-back}
 
@@ -30,7 +30,7 @@ to-line G x xs n t = con-back G (x ∷ []) xs (con-cut G (x ∷ []) xs refl (go 
   where
     wrap : (w : L) → x ∷ xs ≡ w ++ (t .rest ++ t .after) → Inside G w → Inside G (t .after) → Contiguous G (x ∷ xs)
     wrap [] e i j = con G (t .rest) (t .after) [] (e ∙ ap (_++_ (t .rest)) (sym (append-nil (t .after)))) (t .out-rest) j tt
-    wrap (y ∷ w) e i j = absurd (true≢false (sym (i .0) ∙ ap G (sym (cons-head e)) ∙ n))
+    wrap (y ∷ w) e i j = absurd (true≢false (sym (i .0) ∙ ap G (sym (head-eq-of-cons-eq e)) ∙ n))
 
     go : Later (t .after) (t .before) (t .run) (t .rest) ⊎ Later (t .run) (t .rest) (t .after) (t .before) → Contiguous G (x ∷ xs)
     go (inl k) =

@@ -2,7 +2,7 @@
 -- else those it names are impossible with the new one, and without any one of them they are possible.
 use mathlib.Core.Path.{_∙_, _≡_, ap, ap₂, refl, subst, sym}
 use mathlib.Core.Bool.{Bool, cond, false, true, true≢false}
-use mathlib.Core.List.{List, [], _++_, _∷_, append-assoc}
+use mathlib.Core.List.{List, [], _++_, _∷_, append-assoc, head-eq-of-cons-eq, tail-eq-of-cons-eq}
 use Prim.Native.Nat.{_+_, _<_, _≤_, suc, ℕ}
 use native.Mathlib.Omega.{arith}
 use borrow.Author.Tests.{eq-eqb, ne-eqb}
@@ -11,9 +11,9 @@ use Rattle.orders.specs.Lists.{All, elem, Perm, done}
 use Rattle.orders.specs.CircularOrder.{others, Restriction, AllConsecutive, Possible}
 use Rattle.orders.specs.Join.{side}
 use Rattle.orders.specs.Conflict.{possible?, leave-out, conflict-list, named, Numbers, Demand-3}
-use Rattle.orders.proofs.ListLaws.{all-append, all-left, all-right, all-map, cons-head, cons-tail}
+use Rattle.orders.proofs.ListLaws.{all-append, all-left, all-right, all-map}
 use Rattle.orders.proofs.Perm.{perm-insert, perm-skip, pick-middle}
-use Rattle.orders.proofs.Members.{NonEmpty, all-in, elem-in}
+use Rattle.orders.proofs.Members.{all-in, elem-in, nil-not}
 use Rattle.orders.proofs.Contiguous.{Early, sided-before, sided-last, early-con}
 use Rattle.orders.proofs.CircleAndLine.{consecutive-side}
 use Rattle.orders.proofs.Decide.{possible-decides}
@@ -81,10 +81,6 @@ record Kept (n : ℕ) (new : Restriction) (kept : List Restriction) (k : ℕ) (r
   impossible : (Possible n (new ∷ (kept ++ rest)) → ⊥) → Possible n (new ∷ (kept ++ named k rest ns)) → ⊥
   smallest : (a : List ℕ) (j : ℕ) (b : List ℕ) → ns ≡ a ++ (j ∷ b) → Possible n (new ∷ (kept ++ named k rest (a ++ b)))
 
-no-number : (a : List ℕ) (j : ℕ) (b : List ℕ) → [] ≡ a ++ (j ∷ b) → ⊥
-no-number [] j b e = subst NonEmpty (sym e) tt
-no-number (x ∷ a) j b e = subst NonEmpty (sym e) tt
-
 module _ (n : ℕ) (new : Restriction) (kept : List Restriction) (k : ℕ) (G : Restriction) (rest : List Restriction) (ns : List ℕ) where
   -- The first restriction is left out; it is kept.
   leave-one : (Possible n (new ∷ (kept ++ rest)) → ⊥) → Kept n new kept (suc k) rest ns → Kept n new kept k (G ∷ rest) ns
@@ -109,19 +105,19 @@ module _ (n : ℕ) (new : Restriction) (kept : List Restriction) (k : ℕ) (G : 
     where
       least : (a : List ℕ) (j : ℕ) (b : List ℕ) → k ∷ ns ≡ a ++ (j ∷ b) → Possible n (new ∷ (kept ++ named k (G ∷ rest) (a ++ b)))
       least [] j b e =
-          let h : All (λ i. suc k ≤ i) b = subst (All (λ i. suc k ≤ i)) (cons-tail e) (numbers-above (suc k) (suc k + length rest) ns (s .rise)) in
+          let h : All (λ i. suc k ≤ i) b = subst (All (λ i. suc k ≤ i)) (tail-eq-of-cons-eq e) (numbers-above (suc k) (suc k + length rest) ns (s .rise)) in
           subst (λ l. Possible n (new ∷ (kept ++ l))) (sym (named-skip k G rest b h)) (fewer n (new ∷ (kept ++ rest)) (new ∷ (kept ++ named (suc k) rest b))
           (λ ord w. (w .0, all-append _ kept (named (suc k) rest b) (all-left _ kept rest (w .1)) (named-all _ (suc k) rest b (all-right _ kept rest (w .1))))) q)
       least (x ∷ a) j b e =
-          subst (λ z. Possible n (new ∷ (kept ++ named k (G ∷ rest) (z ∷ (a ++ b))))) (cons-head e) (subst (λ l. Possible n (new ∷ (kept ++ l))) (sym (named-here k G rest (a ++ b)))
-          (subst (λ l. Possible n (new ∷ l)) (append-assoc kept (G ∷ []) (named (suc k) rest (a ++ b))) (s .smallest a j b (cons-tail e))))
+          subst (λ z. Possible n (new ∷ (kept ++ named k (G ∷ rest) (z ∷ (a ++ b))))) (head-eq-of-cons-eq e) (subst (λ l. Possible n (new ∷ (kept ++ l))) (sym (named-here k G rest (a ++ b)))
+          (subst (λ l. Possible n (new ∷ l)) (append-assoc kept (G ∷ []) (named (suc k) rest (a ++ b))) (s .smallest a j b (tail-eq-of-cons-eq e))))
 
 pub not-possible : (n : ℕ) (Gs : List Restriction) → possible? n Gs ≡ false → Possible n Gs → ⊥
 not-possible n Gs e p = true≢false (sym (possible-decides n Gs .1 p) ∙ e)
 
 leave-out-kept : (n : ℕ) (new : Restriction) (kept : List Restriction) (k : ℕ) (rest : List Restriction) → Kept n new kept k rest (leave-out n new kept k rest)
 unfolding leave-out
-leave-out-kept n new kept k [] = record { rise = tt; impossible = λ u p. u p; smallest = λ a j b e. absurd (no-number a j b e) }
+leave-out-kept n new kept k [] = record { rise = tt; impossible = λ u p. u p; smallest = λ a j b e. absurd (nil-not a j b e) }
 leave-out-kept n new kept k (G ∷ rest) = go (possible? n (new ∷ (kept ++ rest))) refl (leave-out-kept n new (kept ++ (G ∷ [])) (suc k) rest) (leave-out-kept n new kept (suc k) rest)
   where
     go : (b : Bool) → possible? n (new ∷ (kept ++ rest)) ≡ b
@@ -136,7 +132,7 @@ conflict-demand-3 n book new = go (possible? n (new ∷ book)) refl
   where
     go : (b : Bool) → possible? n (new ∷ book) ≡ b → Demand-3 n book new (elim b [ true ↦ [] | false ↦ leave-out n new [] 1 book ])
     go true q =
-        record { empty-iff = ((λ e. possible-decides n (new ∷ book) .0 q), (λ p. refl)); impossible = λ h. absurd (h refl); smallest = λ a j b e. absurd (no-number a j b e); numbers = tt }
+        record { empty-iff = ((λ e. possible-decides n (new ∷ book) .0 q), (λ p. refl)); impossible = λ h. absurd (h refl); smallest = λ a j b e. absurd (nil-not a j b e); numbers = tt }
     go false q =
         let s = leave-out-kept n new [] 1 book in
         let u = not-possible n (new ∷ book) q in

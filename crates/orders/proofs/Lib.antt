@@ -1,4 +1,5 @@
--- Laws of lists.
+-- Laws of tests, and of lists.
+pub mod Tests
 pub mod ListLaws
 pub mod Perm
 pub mod Members

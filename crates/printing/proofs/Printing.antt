@@ -9,9 +9,8 @@ use Rattle.orders.specs.Form.{InForm, standard}
 use Rattle.orders.specs.TreeText.{digits, tree-text}
 use Rattle.orders.specs.Circles.{bytes}
 use Rattle.orders.proofs.TextTree.{text-length}
-use Rattle.tokens.specs.Tokens.{tree, plain, encode}
+use Rattle.tokens.specs.Tokens.{tree, plain}
 use Rattle.tokens.proofs.Sequences.{tree-plain}
-use Rattle.parts.specs.Writers.{flat}
 use Rattle.update.specs.Update.{Published}
 use Rattle.output.specs.Appends.{Appends}
 use Rattle.output.proofs.Laws.{appends-then, appends-as}
@@ -54,11 +53,7 @@ module _ (names : List (List ℕ)) (t : Forest) {j : ℕ} where
   unfolding ending
   end-text e = rw e (ap tree-text (tree-plain t))
 
--- A tree's tokens, and the length of its text.
-pub flat-encode : {toks : List ℕ} (t : Forest) → toks ≡ flat t → toks ≡ encode (plain t)
-unfolding flat
-flat-encode t e = e
-
+-- The length of a tree's text.
 pub short-text : {n : ℕ} {toks : List ℕ} (p : Published n toks) → length (tree-text (tree (plain (p .0)))) ≤ 2048
 short-text {n} p = rw (tree-plain (p .0)) (text-length n (p .0) (p .2) (p .3))
 

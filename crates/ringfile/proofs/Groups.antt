@@ -2,7 +2,7 @@
 use mathlib.Core.Path.{_≡_, refl, sym, _∙_, ap, ap₂}
 use mathlib.Core.Bool.{Bool, true, false, cond}
 use mathlib.Core.List.{List, [], _∷_, _++_, append-nil}
-use Prim.Native.Nat.{ℕ, zero, suc, _+_, _-_, _≤_, _<_}
+use Prim.Native.Nat.{ℕ, suc, _+_, _-_, _≤_, _<_}
 use native.Mathlib.Omega.{arith}
 use native.Mathlib.Numerals.{add-one}
 use lib.ListN.{length, length-append, drop, getD, set}
@@ -10,6 +10,7 @@ use lib.Seq.{append-snoc}
 use Rattle.orders.specs.Lists.{All, Distinct, filter, range}
 use Rattle.orders.proofs.Members.{in-all}
 use Rattle.orders.proofs.Ranges.{filter-different, in-filter, in-range}
+use Rattle.orders.proofs.ListLaws.{all-at}
 use Rattle.tokens.specs.Tokens.{Wrote}
 use Rattle.tokens.proofs.Writes.{write-step}
 use Rattle.ringfile.specs.RingFile.{Value, off, in-group, leaves-on, Rules}
@@ -52,13 +53,8 @@ leaves-next i vs h =
     later s = filter on? (range (suc s) (length vs - (i + 1)))
 
 -- Every line has a value for each name.
-all-at : (P : List Value → Type 0) (vss : List (List Value)) (l : ℕ) → All P vss → l < length vss → P (getD vss l [])
-all-at P [] l h k = absurd (omega arith)
-all-at P (vs ∷ vss) zero h k = h .0
-all-at P (vs ∷ vss) (suc l) h k = all-at P vss l (h .1) (omega arith)
-
 pub line-length : (ns : List (List ℕ)) (vss : List (List Value)) (l : ℕ) → Rules ns vss → l < length vss → length (getD vss l []) ≡ length ns
-line-length ns vss l r = all-at (λ vs. length vs ≡ length ns) vss l (r .values)
+line-length ns vss l r = all-at (λ vs. length vs ≡ length ns) [] vss l (r .values)
 
 -- The group, written up to the leaf i.
 pub record Upto (vs : List Value) (old : List ℕ) (i k : ℕ) (new : List ℕ) : Type 0 where

@@ -57,11 +57,12 @@ mark-is hyphen = refl
 pub small : (l m : ℕ) → l ≤ 65536 → m ≤ 256 → l * (2 * m) ≤ 33554432
 small l m h k = omega (arith, mul-le-mul-right (2 * m) h, mul-le-mul-left 65536 k)
 
+-- No more lines than bytes.
 line-some : (vs : List Value) → 1 ≤ length (line (map value-word vs))
 line-some [] = omega arith
 line-some (v ∷ vs) = omega arith
 
-lines-long : (vss : List (List Value)) → length vss ≤ length (value-lines vss)
+pub lines-long : (vss : List (List Value)) → length vss ≤ length (value-lines vss)
 lines-long [] = omega arith
 lines-long (vs ∷ vss) = omega (arith, length-append (line (map value-word vs)) (value-lines vss), lines-long vss, line-some vs)
 

@@ -1,9 +1,9 @@
 -- One byte: the step stops where no text goes on with it, and leads to a state with the same texts after it.
 use mathlib.Core.Path.{_≡_, refl, sym, _∙_, ap, ap₂, subst}
 use mathlib.Core.Logic.{_⊎_, inl, inr}
-use mathlib.Core.Bool.{Bool, true, false, _||_, _&&_}
+use mathlib.Core.Bool.{Bool, true, false, _&&_}
 use mathlib.Core.Option.{Option, none, some}
-use mathlib.Core.List.{List, [], _∷_, _++_, append-assoc, append-nil}
+use mathlib.Core.List.{List, [], _∷_, _++_, append-assoc, append-nil, head-eq-of-cons-eq, tail-eq-of-cons-eq}
 use Prim.Native.Nat.{ℕ, suc, _+_, _-_, _≤_, _<_}
 use native.Mathlib.Omega.{arith}
 use borrow.Author.Tests.{eqb-true, eqb-false, eq-eqb, leb-true, leb-false}
@@ -12,11 +12,11 @@ use lib.ListN.{length}
 use Rattle.orders.specs.Lists.{All, Perm, next, Pick}
 use Rattle.orders.specs.Tree.{Kind, P, C, Forest, nil, leaf, node, items, frontier}
 use Rattle.orders.specs.TreeText.{digits, letter, text, more}
-use Rattle.orders.proofs.ListLaws.{cons-head, cons-tail, cond-cases}
 use Rattle.orders.proofs.Perm.{perm-trans, perm-length, pick-length}
 use Rattle.orders.proofs.Members.{NonEmpty}
 use Rattle.orders.proofs.Laws.{Forked}
 use Rattle.orders.proofs.Digits.{Digit, digits-all, digits-nonempty}
+use Rattle.orders.proofs.Tests.{cond-cases, and-both, or-either, or-neither}
 use Rattle.scanner.specs.Scan.{State, lit, pre, open-due, due, num, after, need, closes, begun, seek, letter?, sep?, step, step-after, step-leaf}
 use Rattle.scanner.proofs.Words.{begun-of, Seek, miss, hit, seek-view}
 use Rattle.scanner.proofs.Language.{bytes, frontiers, Fits, Tail, Due, Num, Open, Lang, Viable, due-need, open-need, more-text}
@@ -29,51 +29,39 @@ pub data Deriv (s : State) (b : ℕ) : Option State → Type 0 where
 abbrev Letter : ℕ → Type 0
 Letter b = (k : Kind) × (b ≡ letter k)
 
-or-cases : (a b : Bool) → a || b ≡ true → (a ≡ true) ⊎ (b ≡ true)
-or-cases true b e = inl refl
-or-cases false b e = inr e
-
-or-none : (a b : Bool) → a || b ≡ false → (a ≡ false) × (b ≡ false)
-or-none true b e = absurd (let z : _≡_ {A = ℕ} 0 1 = cc in omega arith)
-or-none false b e = (refl, e)
-
-and-true : (a b : Bool) → a && b ≡ true → (a ≡ true) × (b ≡ true)
-and-true true b e = (refl, e)
-and-true false b e = absurd (let z : _≡_ {A = ℕ} 0 1 = cc in omega arith)
-
 and-all : (a b c : Bool) → a ≡ true → b ≡ true → c ≡ true → a && (b && c) ≡ true
 and-all a b c p q r = rw (p, q, r)
 
 letter-true : (b : ℕ) → letter? b ≡ true → Letter b
-letter-true b e = go (or-cases (eqb b 80) (eqb b 67) e)
+letter-true b e = go (or-either (eqb b 80) (eqb b 67) e)
   where
     go : (eqb b 80 ≡ true) ⊎ (eqb b 67 ≡ true) → Letter b
     go (inl h) = (P, eqb-true b 80 h)
     go (inr h) = (C, eqb-true b 67 h)
 
 letter-false : (b : ℕ) → letter? b ≡ false → (k : Kind) → b ≡ letter k → ⊥
-letter-false b e P h = eqb-false b 80 (or-none (eqb b 80) (eqb b 67) e .0) h
-letter-false b e C h = eqb-false b 67 (or-none (eqb b 80) (eqb b 67) e .1) h
+letter-false b e P h = eqb-false b 80 (or-neither (eqb b 80) (eqb b 67) e .0) h
+letter-false b e C h = eqb-false b 67 (or-neither (eqb b 80) (eqb b 67) e .1) h
 
 sep-true : (b : ℕ) → sep? b ≡ true → (b ≡ 32) ⊎ (b ≡ 41)
-sep-true b e = go (or-cases (eqb b 32) (eqb b 41) e)
+sep-true b e = go (or-either (eqb b 32) (eqb b 41) e)
   where
     go : (eqb b 32 ≡ true) ⊎ (eqb b 41 ≡ true) → (b ≡ 32) ⊎ (b ≡ 41)
     go (inl h) = inl (eqb-true b 32 h)
     go (inr h) = inr (eqb-true b 41 h)
 
 sep-false : (b : ℕ) → sep? b ≡ false → (b ≡ 32) ⊎ (b ≡ 41) → ⊥
-sep-false b e (inl h) = eqb-false b 32 (or-none (eqb b 32) (eqb b 41) e .0) h
-sep-false b e (inr h) = eqb-false b 41 (or-none (eqb b 32) (eqb b 41) e .1) h
+sep-false b e (inl h) = eqb-false b 32 (or-neither (eqb b 32) (eqb b 41) e .0) h
+sep-false b e (inr h) = eqb-false b 41 (or-neither (eqb b 32) (eqb b 41) e .1) h
 
 -- After an item: a space and another item, or the bracket.
 tail-space : {c : ℕ} {cs l x : List ℕ} → Tail (c ∷ cs) l (32 ∷ x) → Due c cs l x
 tail-space {c} {cs} {l} {x} t = go (t .fs) (t .fits) (t .each) (t .is)
   where
     go : (fs : List Forest) → Fits (c ∷ cs) fs → Perm l (frontiers fs) → 32 ∷ x ≡ bytes fs → Due c cs l x
-    go (nil ∷ fs) h p e = absurd (let z = cons-head e in omega arith)
-    go (leaf m f ∷ fs) h p e = record { f = leaf m f; fs = fs; has = omega arith; two = h .0; good = h .1; fits = h .2; each = p; is = cons-tail e }
-    go (node k i f ∷ fs) h p e = record { f = node k i f; fs = fs; has = omega arith; two = h .0; good = h .1; fits = h .2; each = p; is = cons-tail e }
+    go (nil ∷ fs) h p e = absurd (let z = head-eq-of-cons-eq e in omega arith)
+    go (leaf m f ∷ fs) h p e = record { f = leaf m f; fs = fs; has = omega arith; two = h .0; good = h .1; fits = h .2; each = p; is = tail-eq-of-cons-eq e }
+    go (node k i f ∷ fs) h p e = record { f = node k i f; fs = fs; has = omega arith; two = h .0; good = h .1; fits = h .2; each = p; is = tail-eq-of-cons-eq e }
 
 space-tail : {c : ℕ} {cs l x : List ℕ} → Due c cs l x → Tail (c ∷ cs) l (32 ∷ x)
 space-tail d = record {
@@ -87,9 +75,9 @@ tail-close : {c : ℕ} {cs l x : List ℕ} → Tail (c ∷ cs) l (41 ∷ x) → 
 tail-close {c} {cs} {l} {x} t = go (t .fs) (t .fits) (t .each) (t .is)
   where
     go : (fs : List Forest) → Fits (c ∷ cs) fs → Perm l (frontiers fs) → 41 ∷ x ≡ bytes fs → (c ≡ 0) × Tail cs l x
-    go (nil ∷ fs) h p e = (omega (arith, h .0), record { fs = fs; fits = h .2; each = p; is = cons-tail e })
-    go (leaf m f ∷ fs) h p e = absurd (let z = cons-head e in omega arith)
-    go (node k i f ∷ fs) h p e = absurd (let z = cons-head e in omega arith)
+    go (nil ∷ fs) h p e = (omega (arith, h .0), record { fs = fs; fits = h .2; each = p; is = tail-eq-of-cons-eq e })
+    go (leaf m f ∷ fs) h p e = absurd (let z = head-eq-of-cons-eq e in omega arith)
+    go (node k i f ∷ fs) h p e = absurd (let z = head-eq-of-cons-eq e in omega arith)
 
 close-tail : {c : ℕ} {cs l x : List ℕ} → c ≡ 0 → Tail cs l x → Tail (c ∷ cs) l (41 ∷ x)
 close-tail h t = record { fs = nil ∷ t .fs; fits = (omega arith, tt, t .fits); each = t .each; is = ap (_∷_ 41) (t .is) }
@@ -99,9 +87,9 @@ tail-byte {cs} {l} {x} b t = go (t .fs) (t .is)
   where
     go : (fs : List Forest) → b ∷ x ≡ bytes fs → (b ≡ 32) ⊎ (b ≡ 41)
     go [] e = absurd (let z : _≡_ {A = ℕ} 0 1 = cc in omega arith)
-    go (nil ∷ fs) e = inr (cons-head e)
-    go (leaf m f ∷ fs) e = inl (cons-head e)
-    go (node k i f ∷ fs) e = inl (cons-head e)
+    go (nil ∷ fs) e = inr (head-eq-of-cons-eq e)
+    go (leaf m f ∷ fs) e = inl (head-eq-of-cons-eq e)
+    go (node k i f ∷ fs) e = inl (head-eq-of-cons-eq e)
 
 -- No node is open.
 tail-end : {l x : List ℕ} → Tail [] l x → (x ≡ []) × (l ≡ [])
@@ -131,8 +119,8 @@ after-deriv (c ∷ cs) l b v =
     (λ h. stop (λ x t. let d = due-need (tail-space (subst (λ w. Tail (c ∷ cs) l (w ∷ x)) e t)) in
     let g = leb-false (suc (need ((c - 1) ∷ cs))) (length l) h in omega arith)))
     (λ n. cond-cases (eqb b 41 && (eqb c 0 && closes cs l)) _ _ (Deriv (after (c ∷ cs) l) b)
-    (λ h. let a = and-true (eqb b 41) (eqb c 0 && closes cs l) h in
-    let a' = and-true (eqb c 0) (closes cs l) (a .1) in
+    (λ h. let a = and-both (eqb b 41) (eqb c 0 && closes cs l) h in
+    let a' = and-both (eqb c 0) (closes cs l) (a .1) in
     let e = eqb-true b 41 (a .0) in
     let two = eqb-true c 0 (a' .0) in
     goes (omega arith, a' .1)
@@ -156,7 +144,7 @@ digit-byte m b a t e = at a (subst (All Digit) e (digits-all m))
     at (d ∷ a) h = at a (h .1)
 
 first-byte : (l : List ℕ) → NonEmpty l → (b : ℕ) (x y : List ℕ) → b ∷ x ≡ l ++ y → (t : List ℕ) × (l ≡ b ∷ t) × (x ≡ t ++ y)
-first-byte (d ∷ l) h b x y e = (l, ap (λ w. w ∷ l) (sym (cons-head e)), cons-tail e)
+first-byte (d ∷ l) h b x y e = (l, ap (λ w. w ∷ l) (sym (head-eq-of-cons-eq e)), tail-eq-of-cons-eq e)
 
 letter-high : (k : Kind) → 57 < letter k
 letter-high P = omega arith
@@ -175,7 +163,7 @@ due-node {c} {cs} {l} {x} b k d = go (d .f) (d .has) (d .good) (d .two) (d .each
         absurd (omega (arith, letter-high (k .0), k .1))
     go (node j i f) h g n p e = record {
       y = text i ++ (41 ∷ (more f ++ (41 ∷ bytes (d .fs))));
-      is = cons-tail e ∙ simp append-assoc;
+      is = tail-eq-of-cons-eq e ∙ simp append-assoc;
       then = record {
         f = i;
         fs = f ∷ d .fs;
@@ -221,7 +209,7 @@ due-leaf {c} {cs} {l} {x} b k d = go (d .f) (d .has) (d .good) (d .two) (d .each
           is = r .2;
           then = record { fs = f ∷ d .fs; fits = (omega arith, g, d .fits); each = q; is = refl };
         }
-    go (node j i f) h g n p e = absurd (k j (cons-head e))
+    go (node j i f) h g n p e = absurd (k j (head-eq-of-cons-eq e))
 
 leaf-due : {c : ℕ} {cs l x : List ℕ} (b : ℕ) → Num (b ∷ []) ((c - 1) ∷ cs) l x → Due c cs l (b ∷ x)
 leaf-due {c} {cs} {l} {x} b d = go (d .then .fs) (d .then .fits) (d .then .each) (d .is ∙ ap (λ w. d .tail ++ w) (d .then .is))
@@ -264,14 +252,14 @@ num-sep {ds} {cs} {l} {x} b s n = go (n .tail) (n .name) (n .is)
 
     go : (t : List ℕ) → digits (n .m) ≡ ds ++ t → b ∷ x ≡ t ++ n .y → (m : ℕ) × (k : List ℕ) × (digits m ≡ ds) × Pick m l k × Tail cs k (b ∷ x)
     go [] e i = (n .m, n .k, e ∙ append-nil ds, n .pick, rw i (n .then))
-    go (d ∷ t) e i = absurd (omega (arith, low s, digit-byte (n .m) d ds t e .0, cons-head i))
+    go (d ∷ t) e i = absurd (omega (arith, low s, digit-byte (n .m) d ds t e .0, head-eq-of-cons-eq i))
 
 num-digit : {ds cs l x : List ℕ} (b : ℕ) → ((b ≡ 32) ⊎ (b ≡ 41) → ⊥) → Num ds cs l (b ∷ x) → Num (ds ++ (b ∷ [])) cs l x
 num-digit {ds} {cs} {l} {x} b s n = go (n .tail) (n .name) (n .is)
   where
     go : (t : List ℕ) → digits (n .m) ≡ ds ++ t → b ∷ x ≡ t ++ n .y → Num (ds ++ (b ∷ [])) cs l x
     go [] e i = absurd (s (tail-byte {cs = cs} {l = n .k} {x = x} b (rw i (n .then))))
-    go (d ∷ t) e i = record { m = n .m; tail = t; k = n .k; y = n .y; name = e ∙ rw (cons-head i) (simp append-assoc); pick = n .pick; is = cons-tail i; then = n .then }
+    go (d ∷ t) e i = record { m = n .m; tail = t; k = n .k; y = n .y; name = e ∙ rw (head-eq-of-cons-eq i) (simp append-assoc); pick = n .pick; is = tail-eq-of-cons-eq i; then = n .then }
 
 digit-num : {ds cs l x : List ℕ} (b : ℕ) → Num (ds ++ (b ∷ [])) cs l x → Num ds cs l (b ∷ x)
 digit-num {ds} b n = record { m = n .m; tail = b ∷ n .tail; k = n .k; y = n .y; name = n .name ∙ simp append-assoc; pick = n .pick; is = ap (_∷_ b) (n .is); then = n .then }
@@ -307,32 +295,32 @@ unfolding step
 open-deriv cs l b v =
     cond-cases (eqb b 40) _ _ (Deriv (open-due cs l) b)
     (λ y. goes (omega arith)
-    (λ x o. subst (Due 2 cs l) (sym (cons-tail (o .is))) (o .then))
+    (λ x o. subst (Due 2 cs l) (sym (tail-eq-of-cons-eq (o .is))) (o .then))
     (λ x d. record { y = x; is = ap (λ w. w ∷ x) (eqb-true b 40 y); then = d }))
-    (λ n. stop (λ x o. eqb-false b 40 n (cons-head (o .is))))
+    (λ n. stop (λ x o. eqb-false b 40 n (head-eq-of-cons-eq (o .is))))
 
 pre-deriv : (ws l : List ℕ) (b : ℕ) → Viable (pre ws l) → Deriv (pre ws l) b (step (pre ws l) b)
 unfolding step
 pre-deriv [] l b v =
     cond-cases (letter? b) _ _ (Deriv (pre [] l) b)
     (λ y. let k = letter-true b y in goes (omega arith)
-    (λ x o. subst (Open [] l) (sym (cons-tail (o .is))) (o .then))
+    (λ x o. subst (Open [] l) (sym (tail-eq-of-cons-eq (o .is))) (o .then))
     (λ x o. record { k = k .0; y = x; is = ap (λ w. w ∷ x) (k .1); then = o }))
-    (λ n. stop (λ x o. letter-false b n (o .k) (cons-head (o .is))))
+    (λ n. stop (λ x o. letter-false b n (o .k) (head-eq-of-cons-eq (o .is))))
 pre-deriv (w ∷ ws) l b v =
     cond-cases (eqb b w) _ _ (Deriv (pre (w ∷ ws) l) b)
     (λ y. let e = eqb-true b w y in goes v
-    (λ x o. record { k = o .k; y = o .y; is = cons-tail (o .is); then = o .then })
+    (λ x o. record { k = o .k; y = o .y; is = tail-eq-of-cons-eq (o .is); then = o .then })
     (λ x o. record { k = o .k; y = o .y; is = ap₂ _∷_ e (o .is); then = o .then }))
-    (λ n. stop (λ x o. eqb-false b w n (cons-head (o .is))))
+    (λ n. stop (λ x o. eqb-false b w n (head-eq-of-cons-eq (o .is))))
 
 lit-deriv : (ws : List ℕ) (b : ℕ) → Deriv (lit ws) b (step (lit ws) b)
 unfolding step
 lit-deriv [] b = stop (λ x e. let z : _≡_ {A = ℕ} 0 1 = cc in omega arith)
 lit-deriv (w ∷ ws) b =
     cond-cases (eqb b w) _ _ (Deriv (lit (w ∷ ws)) b)
-    (λ y. let h = eqb-true b w y in goes tt (λ x e. cons-tail e) (λ x e. ap₂ _∷_ h e))
-    (λ n. stop (λ x e. eqb-false b w n (cons-head e)))
+    (λ y. let h = eqb-true b w y in goes tt (λ x e. tail-eq-of-cons-eq e) (λ x e. ap₂ _∷_ h e))
+    (λ n. stop (λ x e. eqb-false b w n (head-eq-of-cons-eq e)))
 
 pub deriv : (s : State) → Viable s → (b : ℕ) → Deriv s b (step s b)
 unfolding step

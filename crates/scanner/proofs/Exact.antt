@@ -2,7 +2,7 @@
 use mathlib.Core.Path.{_≡_, refl, sym, _∙_, ap, subst}
 use mathlib.Core.Bool.{true, false, cond}
 use mathlib.Core.Option.{Option, none, some}
-use mathlib.Core.List.{List, [], _∷_, _++_, append-assoc}
+use mathlib.Core.List.{List, [], _∷_, _++_, append-assoc, head-eq-of-cons-eq}
 use Prim.Native.Nat.{ℕ, zero, suc, _+_, _*_, _-_, _≤_, _<_}
 use native.Mathlib.Omega.{arith}
 use lib.ListN.{length, take}
@@ -12,11 +12,12 @@ use Rattle.orders.specs.Tree.{Forest, nil, leaf, node, items, frontier}
 use Rattle.orders.specs.Form.{Single}
 use Rattle.orders.specs.TreeText.{digits-in, digits, letter, text, more, tree-text, Shaped, ShapeText, ShapeRefused, at-byte, at-end}
 use Rattle.orders.specs.Join.{fresh}
-use Rattle.orders.proofs.ListLaws.{cons-head, cond-cases}
 use Rattle.orders.proofs.Perm.{perm-length, perm-refl, short-perm}
 use Rattle.orders.proofs.Ranges.{range-length}
 use Rattle.orders.proofs.Laws.{Forked}
 use Rattle.orders.proofs.Forms.{nodes-bound}
+use Rattle.orders.proofs.Tests.{cond-cases}
+use Rattle.orders.proofs.Members.{nil-not}
 use Rattle.scanner.specs.Scan.{State, lit, pre, open-due, due, num, after, final, step, run, run-at, start, scan, Answer, accepted, refused}
 use Rattle.scanner.proofs.Language.{bytes, frontiers, Fits, Tail, Due, Lang, Viable}
 use Rattle.scanner.proofs.Completion.{finish}
@@ -41,10 +42,6 @@ final-lang (num ds c cs l) v e = absurd (let z : _≡_ {A = ℕ} 0 1 = cc in ome
 final-lang (after [] []) v e = record { fs = []; fits = tt; each = done; is = refl }
 final-lang (after [] (m ∷ l)) v e = absurd (let h = v .1 in let z : _≡_ {A = ℕ} 0 1 = cc in omega arith)
 final-lang (after (c ∷ cs) l) v e = absurd (let z : _≡_ {A = ℕ} 0 1 = cc in omega arith)
-
-nil-not : (a : List ℕ) (b : ℕ) (c : List ℕ) → [] ≡ a ++ (b ∷ c) → ⊥
-nil-not [] b c e = let z : _≡_ {A = ℕ} 0 1 = cc in omega arith
-nil-not (x ∷ a) b c e = let z : _≡_ {A = ℕ} 0 1 = cc in omega arith
 
 tail-some : {c : ℕ} {cs l x : List ℕ} → Tail (c ∷ cs) l x → (t : List ℕ) → [] ≡ t ++ x → ⊥
 tail-some {c} {cs} {l} {x} h t e = go (h .fs) (h .fits) (h .is)
@@ -140,7 +137,7 @@ two-text f s = go f (s .single) (s .forked) (s .all-leaves)
   where
     go : (f : Forest) → Single (items f) → Forked f → Perm (2 ∷ []) (frontier f) → f ≡ leaf 2 nil
     go nil o g p = absurd (omega (arith, perm-length p))
-    go (leaf b nil) o g p = ap (λ x. leaf x nil) (cons-head (short-perm p (omega arith)))
+    go (leaf b nil) o g p = ap (λ x. leaf x nil) (head-eq-of-cons-eq (short-perm p (omega arith)))
     go (node k i nil) o g p = absurd (omega (arith, perm-length p, nodes-bound (node k i nil) g, g .0 .0))
 
 start-to : (n : ℕ) (x : List ℕ) → Lang (start n) x → ShapeText n x

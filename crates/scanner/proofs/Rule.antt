@@ -11,9 +11,9 @@ use lib.ListN.{length, length-append}
 use Rattle.orders.specs.Tree.{Kind, P, C, Forest, nil, leaf, node, items, rev}
 use Rattle.orders.specs.Form.{first}
 use Rattle.orders.specs.TreeText.{digits, text, more, Breaks, leaf-falls, node-falls, wrong-way, inside, after-leaf, after-node}
-use Rattle.orders.proofs.ListLaws.{cond-cases}
 use Rattle.scanner.specs.Rule.{is-p, is-c, or-else, broken-at}
 use Rattle.scanner.proofs.Language.{more-text}
+use Rattle.orders.proofs.Tests.{cond-cases}
 
 -- Every such byte lies in the text.
 breaks-low : {k : Kind} {m o p : ℕ} {f : Forest} → Breaks k m o f p → o ≤ p

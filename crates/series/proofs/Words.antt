@@ -1,22 +1,13 @@
 -- Words with one byte between, element by element.
-use mathlib.Core.Path.{_≡_, refl, ap, _∙_}
+use mathlib.Core.Path.{_≡_, refl}
 use mathlib.Core.List.{List, [], _∷_, _++_, map, append-assoc}
-use Prim.Native.Nat.{ℕ, zero, suc, _-_, _≤_, _<_}
+use Prim.Native.Nat.{ℕ, _≤_, _<_}
 use native.Mathlib.Omega.{arith}
-use lib.ListN.{length, getD, take, drop}
-use lib.Seq.{take-length}
+use lib.ListN.{length, getD}
 use Rattle.orders.specs.Lists.{All}
+use Rattle.orders.proofs.ListLaws.{all-at, tail, tail-is}
 use Rattle.ringfile.specs.RingFile.{Name, Holds}
 use Rattle.series.specs.Series.{between}
-
--- What stands after the first element.
-abbrev pub tail : List ℕ → List ℕ
-tail l = take (length l - 1) (drop 1 l)
-
-tail-is : (x : ℕ) (xs : List ℕ) → tail (x ∷ xs) ≡ xs
-tail-is x xs =
-    let e : suc (length xs) - 1 ≡ length xs = omega arith in
-    ap (λ (n : ℕ). take n xs) e ∙ take-length xs
 
 module _ (c : ℕ) (g : ℕ → List ℕ) where
   pub words-none : (l : List ℕ) → length l ≡ 0 → between c (map g l) ≡ []
@@ -42,11 +33,6 @@ module _ (P : ℕ → Type 0) where
   pub all-tail : (l : List ℕ) → All P l → (length l ≡ 0 → ⊥) → All P (tail l)
   all-tail [] h k = absurd (k refl)
   all-tail (x ∷ l) h k = rw (tail-is x l) (h .1)
-
-pub all-at : {A : Type 0} (P : A → Type 0) (d : A) (l : List A) (i : ℕ) → All P l → i < length l → P (getD l i d)
-all-at P d [] i h k = absurd (omega arith)
-all-at P d (x ∷ l) zero h k = h .0
-all-at P d (x ∷ l) (suc i) h k = all-at P d l i (h .1) (omega arith)
 
 -- A name has at most 8 bytes.
 pub name-few : {x : List ℕ} {n h k : ℕ} (f : Holds x n h k) (i : ℕ) → i < n → length (getD (f .ns) i []) ≤ 8

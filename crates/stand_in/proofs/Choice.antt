@@ -1,7 +1,7 @@
 -- The leaves to go by, as marks: words united, every leaf of the book's groups, and the first leaf that is in none.
 use mathlib.Core.Path.{_≡_, refl, sym, ap, ap₂, subst, _∙_}
 use mathlib.Core.Logic.{_⊎_, inl, inr}
-use mathlib.Core.Bool.{Bool, false, true, _||_, true≢false}
+use mathlib.Core.Bool.{Bool, false, true, _||_, true≢false, or-true}
 use mathlib.Core.List.{List}
 use Prim.Native.Nat.{ℕ, _+_, _-_, _*_, _^_, _≤_, _<_}
 use native.Mathlib.Decide.{ℕ-discrete, decLt, decLe}
@@ -11,14 +11,13 @@ use lib.Bits.{bitOr, or-lt}
 use lib.Dec.{eqb}
 use lib.ListN.{length, getD, take, drop}
 use Rattle.orders.specs.CircularOrder.{Restriction}
-use Rattle.orders.proofs.Members.{false-if}
 use Rattle.marks.specs.Marks.{bit, marked, word-of, words-of, with-leaf}
 use Rattle.marks.proofs.Word.{word-is, bit-or}
 use Rattle.marks.proofs.Words.{marked-at, marked-words}
-use Rattle.marks.proofs.Leaves.{leaf-range, marked-leaf}
+use Rattle.marks.proofs.Leaves.{marked-range}
 use Rattle.book.proofs.Laws.{group-part}
-use Rattle.stand_in.specs.StandIn.{either, Below, FirstUnmarked, Unused, Chosen}
-use Rattle.stand_in.specs.StandIn.{group}
+use Rattle.stand_in.specs.StandIn.{either, Below, FirstUnmarked, Unused, Chosen, group}
+use Rattle.orders.proofs.Tests.{false-if}
 
 -- One word of two united.
 pub either-word : (vs ws : List ℕ) (i : ℕ) → getD vs i 0 < 2 ^ 64 → getD ws i 0 < 2 ^ 64
@@ -27,23 +26,16 @@ either-word vs ws i v w =
     word-is (either (marked vs) (marked ws)) (64 * i) (bitOr (getD vs i 0) (getD ws i 0)) 64 (or-lt 64 (getD vs i 0) (getD ws i 0) v w)
     (λ j h. bit-or (getD vs i 0) (getD ws i 0) j ∙ ap₂ (λ (a b : Bool). a || b) (sym (marked-at vs i j h)) (sym (marked-at ws i j h)))
 
--- The leaves of four words are from 1 to 256, so both are in what unites them.
-four-range : (ws : List ℕ) (b : ℕ) → length ws ≡ 4 → marked ws b ≡ true → (1 ≤ b) × (b ≤ 256)
-four-range ws b h e = let r = leaf-range ws b (marked-leaf ws b e) in (r .0, omega (arith, r .1, h))
-
-or-true : (a : Bool) → (a || true) ≡ true
-or-true true = refl
-or-true false = refl
-
-module _ (vs ws us : List ℕ) (v : length vs ≡ 4) (w : length ws ≡ 4) (u : us ≡ words-of 4 (either (marked vs) (marked ws))) where
-  is : (b : ℕ) → (1 ≤ b) × (b ≤ 256) → marked us b ≡ (marked vs b || marked ws b)
-  is b r = ap (λ l. marked l b) u ∙ marked-words 4 (either (marked vs) (marked ws)) b (r .0) (r .1)
+-- The leaves of either words are in what unites them.
+module _ (vs ws us : List ℕ) (h : length vs ≡ length ws) (u : us ≡ words-of (length vs) (either (marked vs) (marked ws))) where
+  is : (b : ℕ) → (1 ≤ b) × (b ≤ 64 * length vs) → marked us b ≡ (marked vs b || marked ws b)
+  is b r = ap (λ l. marked l b) u ∙ marked-words (length vs) (either (marked vs) (marked ws)) b (r .0) (r .1)
 
   pub first-below : Below (marked vs) (marked us)
-  first-below b e = is b (four-range vs b v e) ∙ rw e
+  first-below b e = is b (marked-range vs b e) ∙ rw e
 
   pub second-below : Below (marked ws) (marked us)
-  second-below b e = is b (four-range ws b w e) ∙ rw (e, or-true (marked vs b))
+  second-below b e = let r = marked-range ws b e in is b (r .0, omega (arith, r .1, h)) ∙ rw (e, or-true (marked vs b))
 
 -- The book's groups up to the number k, and one more.
 pub part-numbered : (book : List ℕ) (k : ℕ) → marked (take (4 * k + 4 - 4 * k) (drop (4 * k) book)) ≡ group book (k + 1)
@@ -67,16 +59,17 @@ marked-more G b h e x l m = go (decLt x b)
     go (no k) = let q : x ≡ b = omega arith in ap G q ∙ e
 
 -- All marked leaves, and the first one that is not.
-module _ {n : ℕ} {new : Restriction} {f : ℕ → Restriction} (ws us : List ℕ) {first : ℕ} (few : n ≤ 256) (a : Below new (marked ws))
-    (g : (j : ℕ) → 1 ≤ j → j ≤ 96 → Below (f j) (marked ws)) (m : FirstUnmarked (marked ws) n first) (u : us ≡ words-of 4 (with-leaf first (marked ws))) where
+module _ {n : ℕ} {new : Restriction} {f : ℕ → Restriction} (ws us : List ℕ) {first : ℕ} (some-word : 1 ≤ length ws) (few : n ≤ 64 * length ws)
+    (a : Below new (marked ws)) (g : (j : ℕ) → 1 ≤ j → j ≤ 96 → Below (f j) (marked ws)) (m : FirstUnmarked (marked ws) n first)
+    (u : us ≡ words-of (length ws) (with-leaf first (marked ws))) where
   none-there : (b : ℕ) → marked ws b ≡ false → Unused new f b
   none-there b e = record {
     not-new = false-if (new b) (λ h. true≢false (sym (a b h) ∙ e));
     not-booked = λ j h l. false-if (f j b) (λ i. true≢false (sym (g j h l b i) ∙ e));
   }
 
-  kept-is : (b : ℕ) → 1 ≤ b → b ≤ 256 → marked us b ≡ (eqb b first || marked ws b)
-  kept-is b h l = ap (λ k. marked k b) u ∙ marked-words 4 (with-leaf first (marked ws)) b h l
+  kept-is : (b : ℕ) → 1 ≤ b → b ≤ 64 * length ws → marked us b ≡ (eqb b first || marked ws b)
+  kept-is b h l = ap (λ k. marked k b) u ∙ marked-words (length ws) (with-leaf first (marked ws)) b h l
 
   -- A leaf that is left out is behind the first unmarked one, and not marked.
   behind-first : (b : ℕ) → 1 ≤ b → b ≤ n → marked us b ≡ false → (first < b) × (marked ws b ≡ false)

@@ -10,13 +10,13 @@ ghost use Rattle.tokens.specs.Tokens.{Wrote};
 ghost use Rattle.parts.specs.Writers.{flat};
 ghost use Rattle.stand_in.specs.StandIn.{either, Below, FirstUnmarked, Chosen, start, group};
 
-// Marks in words, beside its own leaves, those of more. Both are four words.
+// Marks in words, beside its own leaves, those of more, which has as many words.
 fn add(words: &mut [u64], more: &[u64])
-    requires { ⌜ (length (now words) ≡ 4) × (length (now more) ≡ 4) ⌝ }
-    ensures { λ _. ⌜ now (words .exit) ≡ words-of 4 (either (marked (now (words .entry))) (marked (now (more .entry)))) ⌝ }
+    requires { ⌜ length (now words) ≡ length (now more) ⌝ }
+    ensures { λ _. ⌜ now (words .exit) ≡ words-of (length (now (words .entry))) (either (marked (now (words .entry))) (marked (now (more .entry)))) ⌝ }
 {
     let mut i = 0;
-    while i < 4 {
+    while i < words.len() {
         words[i] = words[i] | more[i];
         i += 1;
     }

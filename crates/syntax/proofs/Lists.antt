@@ -1,12 +1,12 @@
 -- Lists with no element twice: appended, mapped, and too long to be among others.
 use mathlib.Core.Path.{_≡_, refl, sym, _∙_, ap, subst}
 use mathlib.Core.Logic.{_≢_, _⊎_, inl, inr}
-use mathlib.Core.Bool.{Bool, true, false, cond, true≢false}
+use mathlib.Core.Bool.{Bool, true, false, true≢false}
 use mathlib.Core.List.{List, [], _∷_, _++_, map}
 use Prim.Native.Nat.{ℕ, suc, _≤_, _*_}
 use native.Mathlib.Omega.{arith}
 use lib.ListN.{length, length-append}
-use Rattle.orders.specs.Lists.{Distinct, In, filter}
+use Rattle.orders.specs.Lists.{Distinct, In}
 use Rattle.orders.proofs.ListLaws.{all-append}
 use Rattle.orders.proofs.Members.{all-in, in-all, in-append}
 
@@ -28,35 +28,6 @@ module _ {A : Type 0} where
       only : (y : A) → In y a → In y (x ∷ []) → ⊥
       only y i (inl e) = n (subst (λ z. In z a) e i)
       only y i (inr j) = j
-
-  -- What stands in a filtered list.
-  pub in-kept : (p : A → Bool) (l : List A) (x : A) → In x (filter p l) → In x l × (p x ≡ true)
-  in-kept p [] x i = absurd i
-  in-kept p (y ∷ l) x i = go (p y) refl (in-kept p l x) i
-    where
-      go : (b : Bool) → p y ≡ b → (In x (filter p l) → In x l × (p x ≡ true)) → In x (cond b (y ∷ filter p l) (filter p l))
-          → In x (y ∷ l) × (p x ≡ true)
-      go true e ih (inl i) = (inl i, ap p i ∙ e)
-      go true e ih (inr i) = (inr (ih i .0), ih i .1)
-      go false e ih i = (inr (ih i .0), ih i .1)
-
-  pub kept-in : (p : A → Bool) (l : List A) (x : A) → In x l → p x ≡ true → In x (filter p l)
-  kept-in p [] x i h = i
-  kept-in p (y ∷ l) x i h = go (p y) refl i (λ j. kept-in p l x j h)
-    where
-      go : (b : Bool) → p y ≡ b → In x (y ∷ l) → (In x l → In x (filter p l)) → In x (cond b (y ∷ filter p l) (filter p l))
-      go true e (inl j) ih = inl j
-      go true e (inr j) ih = inr (ih j)
-      go false e (inl j) ih = clash (ap p (sym j) ∙ h) e
-      go false e (inr j) ih = ih j
-
-  pub distinct-kept : (p : A → Bool) (l : List A) → Distinct l → Distinct (filter p l)
-  distinct-kept p [] d = tt
-  distinct-kept p (x ∷ l) d = go (p x) (distinct-kept p l (d .1))
-    where
-      go : (b : Bool) → Distinct (filter p l) → Distinct (cond b (x ∷ filter p l) (filter p l))
-      go true r = (in-all (λ y. x ≢ y) (filter p l) (λ y i. all-in (λ z. x ≢ z) y l (d .0) (in-kept p l y i .0)), r)
-      go false r = r
 
   -- A list less one of its members.
   record Less (x : A) (m : List A) : Type 0 where

@@ -2,14 +2,14 @@
 use mathlib.Core.Path.{_≡_, refl, sym, _∙_, ap, subst}
 use mathlib.Core.Logic.{inl, inr}
 use mathlib.Core.Bool.{Bool, true, false, cond}
-use mathlib.Core.List.{List, [], _∷_, _++_, map, append-nil, append-cancel-left}
+use mathlib.Core.List.{List, [], _∷_, _++_, map, append-nil, append-cancel-left, head-eq-of-cons-eq, tail-eq-of-cons-eq}
 use Prim.Native.Nat.{ℕ, _+_, _*_, _≤_}
 use native.Mathlib.Omega.{arith}
 use lib.Dec.{eqb, ltb}
 use lib.ListN.{length, length-append, length-map}
 use borrow.Author.Tests.{eqb-true, eqb-false, eq-eqb, ne-eqb, ltb-true, ltb-false}
 use Rattle.orders.specs.Lists.{All, Distinct, In}
-use Rattle.orders.proofs.ListLaws.{all-append, all-right, cons-head, cons-tail}
+use Rattle.orders.proofs.ListLaws.{all-append, all-right}
 use Rattle.syntax.specs.RingFile.{alphabet, NameByte, Name}
 use Rattle.syntax.specs.Scanner.{spare, longer, room, New}
 use Rattle.syntax.proofs.Lists.{in-map, map-in, distinct-map, each, in-each, length-each, distinct-each, pigeonhole}
@@ -40,11 +40,11 @@ many t =
 differ : (t : List ℕ) → Distinct (two-more t)
 differ t =
     distinct-each (λ c. map (λ d. t ++ (c ∷ (d ∷ []))) alphabet) alphabet distinct-alphabet
-    (λ c. distinct-map (λ d. t ++ (c ∷ (d ∷ []))) alphabet distinct-alphabet (λ x y e. cons-head (cons-tail (append-cancel-left t _ _ e))))
+    (λ c. distinct-map (λ d. t ++ (c ∷ (d ∷ []))) alphabet distinct-alphabet (λ x y e. head-eq-of-cons-eq (tail-eq-of-cons-eq (append-cancel-left t _ _ e))))
     (λ x y z i j.
     let p = in-map (λ d. t ++ (x ∷ (d ∷ []))) alphabet z i in
     let q = in-map (λ d. t ++ (y ∷ (d ∷ []))) alphabet z j in
-    cons-head (append-cancel-left t _ _ (sym (p .2) ∙ q .2)))
+    head-eq-of-cons-eq (append-cancel-left t _ _ (sym (p .2) ∙ q .2)))
 
 module _ (ns : List (List ℕ)) (t : List ℕ) (bs : All NameByte t) where
   as-is : 1 ≤ length t → length t ≤ 8 → (In t ns → ⊥) → New ns t

@@ -10,9 +10,10 @@ use lib.ListN.{length}
 use borrow.Author.Tests.{eqb-true, eq-eqb, ltb-true, lt-ltb}
 use Rattle.orders.specs.Lists.{In, elem}
 use Rattle.orders.proofs.Members.{elem-in, in-elem}
+use Rattle.orders.proofs.Tests.{and-both}
 use Rattle.syntax.specs.RingFile.{alphabet, NameByte, Value, off, on, hyphen, value-byte}
 use Rattle.syntax.specs.Scanner.{room, is-new, State, naming, due, got, Sort, letter, space, end, other, sort, value, when, on-name, on-value, on-got, step}
-use Rattle.syntax.proofs.Words.{both, new-true, true-new}
+use Rattle.syntax.proofs.Words.{new-true, true-new}
 
 pub data Step : State → ℕ → State → Type 0 where
   name-byte : {ns : List (List ℕ)} {w : List ℕ} {b : ℕ} → NameByte b → room ns (w ++ (b ∷ [])) ≡ true
@@ -83,7 +84,7 @@ step-relates (naming ns w) b t e = go (sort b) (sorted b) e
     go letter h q = let r = when-some (room ns (w ++ (b ∷ []))) (naming ns (w ++ (b ∷ []))) t q in subst (λ u. Step (naming ns w) b u) (r .1) (name-byte h (r .0))
     go space h q =
         let r = when-some (is-new ns w && ltb (length ns) 255) (naming (ns ++ (w ∷ [])) []) t q in
-        let f = both (is-new ns w) (ltb (length ns) 255) (r .0) in
+        let f = and-both (is-new ns w) (ltb (length ns) 255) (r .0) in
         let n = new-true ns w (f .0) in
         subst (λ u. Step (naming ns w) b u) (r .1) (name-space h (n .0) (n .1) (ltb-true (length ns) 255 (f .1)))
     go end h q =

@@ -1,27 +1,21 @@
 -- What the tests on bytes and words say.
 use mathlib.Core.Path.{_≡_, refl, sym, ap, subst}
 use mathlib.Core.Logic.{_⊎_, inl, inr}
-use mathlib.Core.Bool.{Bool, true, false, not, _&&_, true≢false}
+use mathlib.Core.Bool.{Bool, true, false, not, true≢false}
 use mathlib.Core.List.{List, [], _∷_, _++_}
 use Prim.Native.Nat.{ℕ, _+_, _≤_, _<_}
 use native.Mathlib.Omega.{arith}
+use borrow.Author.Tests.{not-true}
 use lib.ListN.{length}
 use Rattle.orders.specs.Lists.{In, Distinct, same, range, elem}
-use Rattle.orders.proofs.Members.{in-append, in-left, in-right, false-if, of-some, to-some, elem-in, in-elem}
+use Rattle.orders.proofs.Members.{in-append, in-left, in-right, of-some, to-some, elem-in, in-elem}
 use Rattle.orders.proofs.Ranges.{in-range, range-in, range-distinct}
 use Rattle.orders.proofs.FormTests.{same-decides}
+use Rattle.orders.proofs.Tests.{false-if}
 use Rattle.syntax.specs.RingFile.{alphabet, NameByte}
 use Rattle.syntax.specs.Words.{among}
 use Rattle.syntax.specs.Scanner.{spare, is-new}
 use Rattle.syntax.proofs.Lists.{clash, distinct-append}
-
-pub both : (c d : Bool) → (c && d) ≡ true → (c ≡ true) × (d ≡ true)
-both true d e = (refl, e)
-both false d e = absurd (true≢false (sym e))
-
-pub not-true : (c : Bool) → not c ≡ true → c ≡ false
-not-true true e = absurd (true≢false (sym e))
-not-true false e = refl
 
 pub same-true : (a b : List ℕ) → same a b ≡ true → a ≡ b
 same-true a b = same-decides a b .0

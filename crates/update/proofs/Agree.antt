@@ -2,7 +2,7 @@
 use mathlib.Core.Path.{_≡_, refl, sym, ap, _∙_}
 use mathlib.Core.Bool.{true, false}
 use mathlib.Core.List.{List, [], _∷_}
-use Prim.Native.Nat.{ℕ, _≤_}
+use Prim.Native.Nat.{ℕ, _*_, _≤_}
 use native.Mathlib.Omega.{arith}
 use borrow.Author.Tests.{le-leb}
 use lib.ListN.{length, getD}
@@ -47,19 +47,19 @@ module _ (S T : Restriction) where
   unfolding reduce
   reduce-same t h = ap reduced-first (parts-same t h)
 
--- A group that leaf 1 is in joins by the other leaves up to n, marked in four words; any other by its own.
-outside-is : (n : ℕ) (G : Restriction) (b : ℕ) → n ≤ 256 → (1 ≤ b) × (b ≤ n) → marked (words-of 4 (outside n G)) b ≡ complement G b
-outside-is n G b h r = marked-words 4 (outside n G) b (r .0) (omega (arith, r .1)) ∙ rw (le-leb b n (r .1))
+-- A group that leaf 1 is in joins by the other leaves up to n, marked in k words; any other by its own.
+outside-is : (k n : ℕ) (G : Restriction) (b : ℕ) → n ≤ 64 * k → (1 ≤ b) × (b ≤ n) → marked (words-of k (outside n G)) b ≡ complement G b
+outside-is k n G b h r = marked-words k (outside n G) b (r .0) (omega (arith, r .1)) ∙ rw (le-leb b n (r .1))
 
 -- The words ws hold the group; vs are a copy, and us is what the complement makes of it.
-pub join-outside : (n : ℕ) (ws vs us : List ℕ) (t : Forest) → FormWithin n t → n ≤ 256 → true ≡ marked ws 1 → length ws ≡ 4 → vs ≡ ws
+pub join-outside : (n : ℕ) (ws vs us : List ℕ) (t : Forest) → FormWithin n t → n ≤ 64 * length ws → true ≡ marked ws 1 → vs ≡ ws
     → us ≡ words-of (length vs) (outside n (marked vs)) → join (marked ws) t ≡ reduce (marked us) t
 unfolding join side
-join-outside n ws vs us t f h e k v u =
+join-outside n ws vs us t f h e v u =
     let G = marked ws in
-    let w : us ≡ words-of 4 (outside n G) = u ∙ rw (v, k) in
+    let w : us ≡ words-of (length ws) (outside n G) = u ∙ rw v in
     rw (← e, w)
-    (sym (reduce-same (marked (words-of 4 (outside n G))) (complement G) t (all-map (λ b. (2 ≤ b) × (b ≤ n)) (λ b. marked (words-of 4 (outside n G)) b ≡ complement G b) (λ b r. outside-is n G b h (omega (arith, r .0), r .1)) (frontier t) (f .in-range))))
+    (sym (reduce-same (marked (words-of (length ws) (outside n G))) (complement G) t (all-map (λ b. (2 ≤ b) × (b ≤ n)) (λ b. marked (words-of (length ws) (outside n G)) b ≡ complement G b) (λ b r. outside-is (length ws) n G b h (omega (arith, r .0), r .1)) (frontier t) (f .in-range))))
 
 pub join-inside : (ws : List ℕ) (t : Forest) → false ≡ marked ws 1 → join (marked ws) t ≡ reduce (marked ws) t
 unfolding join side

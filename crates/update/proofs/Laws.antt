@@ -11,7 +11,6 @@ use lib.ListN.{length, take, drop, length-append, take-append-drop}
 use lib.Seq.{take-append-seam}
 use Rattle.orders.specs.Tree.{P, C, Forest, nil, node, items, append}
 use Rattle.orders.specs.Reduce.{one, insert, pack}
-use Rattle.orders.proofs.ListLaws.{cond-cases}
 use Rattle.tokens.specs.Tokens.{E, F, L, R, X, number, Judged, j-nil, j-leaf, j-node, tree, plain, encode, Wrote}
 use Rattle.tokens.specs.Views.{shape-of, state-of, first-of, items-of, rest-of}
 use Rattle.tokens.proofs.Laws.{at-end}
@@ -25,6 +24,7 @@ use Rattle.parts.proofs.Walks.{passing-text}
 use Rattle.parts.proofs.States.{is-state}
 use Rattle.update.specs.Update.{Begins}
 use Rattle.parts.proofs.Totals.{partial-none, partial-more, mirrored-lines-is, p-reduced-is}
+use Rattle.orders.proofs.Tests.{cond-cases}
 
 -- Writing to the start of a slice, whatever stands behind: a text, none, one text after another; the part that is read next.
 pub begins : {xs old new : List ℕ} {k : ℕ} → Wrote xs old new k → Begins xs new k

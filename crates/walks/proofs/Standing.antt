@@ -8,7 +8,7 @@ use lib.ListN.{length, take, drop, getD, length-append, length-take}
 use lib.Seq.{drop-cons}
 use Rattle.orders.specs.Tree.{Kind, Forest, nil, leaf, node, items, frontier}
 use Rattle.orders.specs.Form.{nodes}
-use Rattle.orders.proofs.ListLaws.{all-left, all-right}
+use Rattle.orders.proofs.ListLaws.{all-left, all-right, part-is}
 use Rattle.calls.specs.NodeTable.{entries, rows, spelled}
 use Rattle.calls.proofs.NodeTables.{row, first-row, rows-after, entries-length, row-length, at-count, at-places, at-next, spelled-node, spelled-entries}
 use Rattle.tokens.specs.Tokens.{plain, encode}
@@ -114,12 +114,6 @@ node-places {table} {r} s =
         fits = omega (arith, h .fits, node-inner (s .kind) (s .inner));
       };
     }
-
--- A part of c numbers from index a on.
-pub part-is : (l : List ℕ) (a c : ℕ) → take (a + c - a) (drop a l) ≡ take c (drop a l)
-part-is l a c =
-    let e : a + c - a ≡ c = omega arith in
-    rw e
 
 pub part-few : (l : List ℕ) (a c : ℕ) → length (take (a + c - a) (drop a l)) ≤ c
 part-few l a c = rw (part-is l a c) (omega (arith, length-take c (drop a l)))

@@ -9,9 +9,10 @@ use borrow.Rule.Slice.PartMut.{putMid}
 use lib.ListN.{length, take, drop, getD, set, length-drop, drop-of-length-le}
 use lib.Seq.{drop-cons}
 use Rattle.orders.specs.Tree.{Kind, Forest, nil, leaf, node, append}
+use Rattle.orders.proofs.ListLaws.{part-to-end}
 use Rattle.calls.specs.NodeTable.{kind-of, spelled-items, spelled}
 use Rattle.tokens.specs.Tokens.{E, plain, leaf-token, node-token, encode}
-use Rattle.tokens.proofs.Laws.{whole, encode-node}
+use Rattle.tokens.proofs.Laws.{encode-node}
 use Rattle.tokens.proofs.Sequences.{encode-append, plain-append}
 use Rattle.walks.specs.Walks.{NodeStands, PlacesStand, Walks}
 use Rattle.tokens.proofs.Writes.{wrote-head, Written, written-start, written-end, written-same, written-one, written-then}
@@ -19,7 +20,7 @@ use Rattle.walks.proofs.Standing.{leaf-head, node-head, node-tail}
 
 -- A part that goes to the end.
 pub part-length : (l : List ℕ) (k : ℕ) → length (take (length l - k) (drop k l)) ≡ length l - k
-part-length l k = ap length (whole l k) ∙ length-drop k l
+part-length l k = ap length (part-to-end l k) ∙ length-drop k l
 
 -- What the records spell.
 pub spelled-here : (d : ℕ) (table : List ℕ) (r : ℕ) → 1 ≤ d

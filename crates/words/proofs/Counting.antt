@@ -2,7 +2,7 @@
 use mathlib.Core.Path.{_≡_, refl, sym, _∙_, ap, subst}
 use mathlib.Core.Logic.{_≢_, inl, inr}
 use mathlib.Core.Bool.{Bool, true, false, cond}
-use mathlib.Core.List.{List, [], _∷_, _++_, append-nil, append-cancel-left}
+use mathlib.Core.List.{List, [], _∷_, _++_, append-nil, append-cancel-left, head-eq-of-cons-eq}
 use Prim.Native.Nat.{ℕ, suc, _≤_}
 use native.Mathlib.Omega.{arith}
 use lib.Dec.{eqb, ltb}
@@ -10,12 +10,13 @@ use lib.ListN.{length, length-append, length-map, take, drop, take-append-drop}
 use lib.Seq.{take-append-seam, take-all}
 use borrow.Author.Tests.{eqb-true, eqb-false, lt-ltb, le-ltb}
 use Rattle.orders.specs.Lists.{All, Distinct, In, same, filter}
-use Rattle.orders.proofs.ListLaws.{all-right, cons-head}
+use Rattle.orders.proofs.ListLaws.{all-right}
 use Rattle.orders.proofs.Members.{all-in, in-all}
+use Rattle.orders.proofs.Ranges.{in-filter, filter-in, filter-distinct}
 use Rattle.syntax.specs.RingFile.{alphabet, NameByte, Name}
 use Rattle.syntax.specs.Words.{begins}
 use Rattle.syntax.specs.Scanner.{spare, longer}
-use Rattle.syntax.proofs.Lists.{in-kept, kept-in, distinct-kept, in-map, map-in, distinct-map, pigeonhole}
+use Rattle.syntax.proofs.Lists.{in-map, map-in, distinct-map, pigeonhole}
 use Rattle.syntax.proofs.Words.{spare-true, no-spare, same-true, same-self, distinct-alphabet, length-alphabet}
 use Rattle.syntax.proofs.NewNames.{longer-7, longer-8, longer-0, one-more}
 
@@ -48,7 +49,7 @@ module _ (t : List ℕ) where
   differ-longer = three Distinct
       (λ e. (
         in-all (λ y. t ≢ y) (one-more t) (λ y i q. let r = in-map (λ c. t ++ (c ∷ [])) alphabet y i in absurd (omega (arith, ap length (q ∙ r .2), length-append t (r .0 ∷ [])))),
-        distinct-map (λ c. t ++ (c ∷ [])) alphabet distinct-alphabet (λ x y q. cons-head (append-cancel-left t _ _ q)),
+        distinct-map (λ c. t ++ (c ∷ [])) alphabet distinct-alphabet (λ x y q. head-eq-of-cons-eq (append-cancel-left t _ _ q)),
       ))
       (λ e. (tt, tt)) (λ m n. tt)
 
@@ -83,13 +84,13 @@ spare-count ns t k d h = go (spare ns (longer t)) refl ∙ ap (λ m. ltb (length
     go true e =
         let s = spare-true ns (longer t) e in
         let p = pigeonhole (s .one ∷ filter (begins t) ns) (longer t)
-        (in-all (λ y. s .one ≢ y) (filter (begins t) ns) (λ y i q. s .new (subst (λ z. In z ns) (sym q) (in-kept (begins t) ns y i .0))), distinct-kept (begins t) ns d)
+        (in-all (λ y. s .one ≢ y) (filter (begins t) ns) (λ y i q. s .new (subst (λ z. In z ns) (sym q) (in-filter (begins t) ns y i .1))), filter-distinct (begins t) ns d)
         (sub (s .one) (s .candidate)) in
         sym (lt-ltb (length (filter (begins t) ns)) (length (longer t)) (omega (arith, p)))
       where
         sub : (o : List ℕ) → In o (longer t) → (x : List ℕ) → In x (o ∷ filter (begins t) ns) → In x (longer t)
         sub o j x (inl q) = subst (λ z. In z (longer t)) (sym q) j
-        sub o j x (inr i) = let r = in-kept (begins t) ns x i in in-longer t x h (all-in Name x ns k (r .0)) (same-true (take (length t) x) t (r .1))
+        sub o j x (inr i) = let r = in-filter (begins t) ns x i in in-longer t x h (all-in Name x ns k (r .1)) (same-true (take (length t) x) t (r .0))
     go false e =
-        let p = pigeonhole (longer t) (filter (begins t) ns) (differ-longer t) (λ x i. kept-in (begins t) ns x (no-spare ns (longer t) e x i) (ap (λ z. same z t) (begin-so t x i) ∙ same-self t)) in
+        let p = pigeonhole (longer t) (filter (begins t) ns) (differ-longer t) (λ x i. filter-in (begins t) ns x (ap (λ z. same z t) (begin-so t x i) ∙ same-self t) (no-spare ns (longer t) e x i)) in
         sym (le-ltb (length (filter (begins t) ns)) (length (longer t)) (omega (arith, p)))

@@ -1,4 +1,3 @@
-pub mod Slices
 pub mod Matching
 pub mod Counting
 pub mod Room

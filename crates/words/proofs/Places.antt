@@ -11,10 +11,10 @@ use lib.ListN.{length, length-append, length-take, take, drop, getD, drop-of-len
 use lib.Seq.{drop-cons, take-append-seam, drop-append-add}
 use borrow.Author.Tests.{eq-eqb, ne-eqb}
 use Rattle.orders.specs.Lists.{All}
+use Rattle.orders.proofs.ListLaws.{part-is, part-to-end}
 use Rattle.syntax.specs.RingFile.{NameByte, Name, Value, further, line, value-lines, file-bytes, place-of, NameAt, Rules}
 use Rattle.syntax.specs.Words.{word-end, Word}
 use Rattle.syntax.proofs.Words.{no-space, no-end}
-use Rattle.words.proofs.Slices.{rest-is, part-len}
 
 end-cons : (b : ℕ) (x : List ℕ) → (b ≡ 32 → ⊥) → (b ≡ 10 → ⊥) → word-end (b ∷ x) ≡ 1 + word-end x
 end-cons b x n m = ap (λ c. cond c 0 (cond (eqb b 10) 0 (1 + word-end x))) (ne-eqb b 32 n) ∙ ap (λ c. cond c 0 (1 + word-end x)) (ne-eqb b 10 m)
@@ -108,11 +108,11 @@ pub found-at : (x : List ℕ) (ns : List (List ℕ)) (vss : List (List Value)) (
 found-at x ns vss k s n r e l p q =
     let d = at-place ns k (value-lines vss) (r .names .each) l in
     let f : drop s x ≡ drop (place-of ns k) (file-bytes ns vss) = ap₂ (λ j y. drop j y) p e in
-    let m : n ≡ length (getD ns k []) = q ∙ ap word-end (rest-is s x ∙ f) ∙ d .size in
+    let m : n ≡ length (getD ns k []) = q ∙ ap word-end (part-to-end x s ∙ f) ∙ d .size in
     record { starts = p; bytes = m; name = ap₂ (λ j y. take j y) m f ∙ d .is }
 
 pub name-there : (x : List ℕ) (ns : List (List ℕ)) (k s n : ℕ) → NameAt x ns k s n → take (s + n - s) (drop s x) ≡ getD ns k []
-name-there x ns k s n h = part-len s n x ∙ h .name
+name-there x ns k s n h = part-is x s n ∙ h .name
 
 pub end-inside : (x : List ℕ) (s n : ℕ) → s ≤ length x → n ≡ word-end (take (length x - s) (drop s x)) → s + n ≤ length x
 end-inside x s n h q = omega (arith, q, end-le (take (length x - s) (drop s x)), length-take (length x - s) (drop s x))

@@ -7,12 +7,12 @@ use borrow.Author.Needs.{needs}
 use denote.Ref.{now}
 use Rattle.orders.specs.Form.{standard}
 use Rattle.marks.specs.Marks.{marked}
-use Rattle.book.proofs.Laws.{group-part}
+use Rattle.book.proofs.Laws.{group-part, few-groups}
 use Rattle.tokens.specs.Tokens.{plain}
 use Rattle.tokens.proofs.Sequences.{tree-plain}
 use Rattle.tokens.proofs.Writes.{read-part, wrote-most}
 use Rattle.aim.specs.Starts.{aim-in}
-use Rattle.aim.proofs.Sizes.{book-few, group-within}
+use Rattle.aim.proofs.Sizes.{group-within}
 use Rattle.aim.proofs.Calls.{number-zero, number-past, number-there, order-room}
 use Rattle.aim.proofs.group_aim.Statement.{statement}
 use Rattle.aim.proofs.group_aim.Tie as tie
@@ -27,7 +27,7 @@ sub-at : tie.Need-sub-at
 sub-at c = search needs
 
 few : (c : tie.Else2) → c .before .before .before .before .args .group ≤ 96
-few c = omega (arith, book-few (c .before .before .before .before .pre .size) (now (c .before .before .before .before .args .book)) (c .before .before .before .before .args .count) (c .before .before .before .before .pre .groups), c .if2 .left)
+few c = omega (arith, few-groups (c .before .before .before .before .pre .size) (now (c .before .before .before .before .args .book)) (c .before .before .before .before .args .count) (c .before .before .before .before .pre .groups), c .if2 .left)
 
 mul-at : tie.Need-mul-at
 mul-at c = omega (arith, few c)

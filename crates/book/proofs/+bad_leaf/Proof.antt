@@ -75,7 +75,7 @@ bad-leaf-same-length-2 t c = c .before .before .bad-leaf .kept .1 .1 .1 .0 ∙ c
 
 bad-leaf-returns-5 : (t : ℕ) → bad-leaf-lts.Need-returns-5 (bad-leaf-calls t) (bad-leaf-at t) bad-leaf.Post
 bad-leaf-returns-5 t c =
-    λ s f. c .before .before .bad-leaf .ensures (getD (now (c .before .before .before .before .before .before .before .before .before .before .before .before .before .before .before .before .before .before .args .list)) 0 0 ∷ s) (rw (c .before .before .before .before .before .before .before .set .ensures, c .before .before .before .before .before .before .before .before .before .before .before .before .before .before .before .before .before .before .pre .1 .1) (seen-more _ _ s _ (c .before .before .before .before .before .before .before .before .before .before .before .before .before .before .before .before .before .before .pre .1 .0) f))
+    λ s f. c .before .before .bad-leaf .ensures (getD (now (c .before .before .before .before .before .before .before .before .before .before .before .before .before .before .before .before .before .before .args .list)) 0 0 ∷ s) (rw (c .before .before .before .before .before .before .before .set .ensures, c .before .before .before .before .before .before .before .before .before .before .before .before .before .before .before .before .before .before .pre .1 .1) (seen-more 4 _ _ s _ (c .before .before .before .before .before .before .before .before .before .before .before .before .before .before .before .before .before .before .pre .1 .0) f))
     ∙ sym (leaf-new (c .before .before .before .before .before .before .before .before .before .before .before .before .before .before .before .before .before .before .args .n) s (c .before .before .before .before .before .before .before .before .before .before .before .before .before .before .before .before .before .before .args .k) (now (c .before .before .before .before .before .before .before .before .before .before .before .before .before .before .before .before .before .before .args .list)) (c .before .before .before .before .before .before .before .before .before .before .before .before .before .before .before .if1 .left) (c .before .before .before .before .before .before .before .before .before .before .before .before .before .if2 .left) (c .before .before .before .before .before .before .before .before .before .before .before .before .if3 .left) (sym (f _ (omega (arith, c .before .before .before .before .before .before .before .before .before .before .before .before .before .if2 .left)) (c .before .before .before .before .before .before .before .before .before .before .before .before .if3 .left)) ∙ sym (c .before .before .before .before .before .before .before .before .before .before .test .ensures) ∙ c .before .before .before .before .before .before .before .before .before .if4 .left))
 
 pub +bad-leaf-spec : {M : Type 1} → statement M

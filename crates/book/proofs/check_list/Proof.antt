@@ -19,7 +19,7 @@ bad-leaf-requires : tie.Need-bad-leaf-requires
 bad-leaf-requires c κs = search needs
 
 returns-2 : tie.Need-returns-2
-returns-2 c = c .before .bad-leaf .ensures [] (seen-none (c .before .before .before .before .before .args .n) (c .before .before .before .before .before .pre)) ∙ checks-leaves (c .before .before .before .before .before .args .n) (now (c .before .before .before .before .before .args .list)) (c .before .before .before .if1 .left)
+returns-2 c = c .before .bad-leaf .ensures [] (seen-none 4 (c .before .before .before .before .before .args .n) (c .before .before .before .before .before .pre)) ∙ checks-leaves (c .before .before .before .before .before .args .n) (now (c .before .before .before .before .before .args .list)) (c .before .before .before .if1 .left)
 
 pub check-list-spec : {M : Type 1} → statement M
 check-list-spec = tie.close (tie.spec returns slice-aggregate-bad-leaf bad-leaf-requires returns-2)

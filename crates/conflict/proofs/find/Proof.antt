@@ -13,8 +13,7 @@ use Rattle.tokens.proofs.Writes.{read-part, wrote-most}
 use Rattle.parts.specs.Writers.{flat}
 use Rattle.update.proofs.Updates.{wrote-as}
 use Rattle.update.proofs.Agree.{four-words}
-use Rattle.stand_in.specs.StandIn.{Chosen, start}
-use Rattle.stand_in.specs.StandIn.{group}
+use Rattle.stand_in.specs.StandIn.{Chosen, start, group}
 use Rattle.leaving_out.specs.LeavingOut.{InBook, conflicts-among}
 use Rattle.leaving_out.proofs.Joined.{Next, next-tree, no-tree}
 use Rattle.leaving_out.proofs.Places.{numbers-in-book}
@@ -82,13 +81,13 @@ slice-aggregate-join-2 c = search needs
 
 -- The leaves to go by; the tree of them; the tree of the new group.
 choice : (c : tie.After-choose) → Chosen (c .before .before .before .before .before .before .before .before .args .n) (elem (now (c .before .before .before .before .before .before .before .before .args .list))) (group (now (c .before .before .before .before .before .before .before .before .args .book))) (marked (c .choose .last .0))
-choice c = subst (λ G. Chosen (c .before .before .before .before .before .before .before .before .args .n) G (group (now (c .before .before .before .before .before .before .before .before .args .book))) (marked (c .choose .last .0))) (ap marked (four-words (c .before .before .before .mark-list .last .1 .0) (c .before .before .before .mark-list .kept .1 .0) ∙ c .before .before .before .mark-list .ensures) ∙ marked-group (c .before .before .before .before .before .before .before .before .args .n) (now (c .before .before .before .before .before .before .before .before .args .list)) (c .before .before .before .before .before .before .before .before .pre .0) (c .before .before .before .before .before .before .before .before .pre .4)) (c .choose .ensures)
+choice c = subst (λ G. Chosen (c .before .before .before .before .before .before .before .before .args .n) G (group (now (c .before .before .before .before .before .before .before .before .args .book))) (marked (c .choose .last .0))) (ap marked (four-words (c .before .before .before .mark-list .last .1 .0) (c .before .before .before .mark-list .kept .1 .0) ∙ c .before .before .before .mark-list .ensures) ∙ marked-group 4 (c .before .before .before .before .before .before .before .before .args .n) (now (c .before .before .before .before .before .before .before .before .args .list)) (c .before .before .before .before .before .before .before .before .pre .0) (c .before .before .before .before .before .before .before .before .pre .4)) (c .choose .ensures)
 
 started : (c : tie.After-start-tree) → take (c .start-tree .result - 0) (drop 0 (c .start-tree .last .1 .1 .0)) ≡ flat (start (c .before .before .before .before .before .before .before .before .before .before .before .before .args .n) (marked (c .before .before .before .before .choose .last .0)))
 started c = read-part (c .start-tree .ensures .1)
 
 after : (c : tie.After-known-told) → Next (elem (now (c .before .before .before .before .before .before .before .before .before .before .before .before .before .before .before .before .before .before .before .before .before .before .args .list))) (start (c .before .before .before .before .before .before .before .before .before .before .before .before .before .before .before .before .before .before .before .before .before .before .args .n) (marked (c .before .before .before .before .before .before .before .before .before .before .before .before .before .before .choose .last .0))) (c .before .before .before .before .join .last .1 .1 .1 .0) (c .before .got .given .0 .0)
-after c = next-tree (start (c .before .before .before .before .before .before .before .before .before .before .before .before .before .before .before .before .before .before .before .before .before .before .args .n) (marked (c .before .before .before .before .before .before .before .before .before .before .before .before .before .before .choose .last .0))) (ap marked (c .before .before .before .before .before .before .before .before .before .before .before .before .before .before .before .before .before .mark-list .ensures) ∙ marked-group (c .before .before .before .before .before .before .before .before .before .before .before .before .before .before .before .before .before .before .before .before .before .before .args .n) (now (c .before .before .before .before .before .before .before .before .before .before .before .before .before .before .before .before .before .before .before .before .before .before .args .list)) (c .before .before .before .before .before .before .before .before .before .before .before .before .before .before .before .before .before .before .before .before .before .before .pre .0) (c .before .before .before .before .before .before .before .before .before .before .before .before .before .before .before .before .before .before .before .before .before .before .pre .4)) (c .before .got .given .1) (c .before .before .before .before .join .ensures (start (c .before .before .before .before .before .before .before .before .before .before .before .before .before .before .before .before .before .before .before .before .before .before .args .n) (marked (c .before .before .before .before .before .before .before .before .before .before .before .before .before .before .choose .last .0))) (started (c .before .before .before .before .before .before .before .before .before .before)))
+after c = next-tree (start (c .before .before .before .before .before .before .before .before .before .before .before .before .before .before .before .before .before .before .before .before .before .before .args .n) (marked (c .before .before .before .before .before .before .before .before .before .before .before .before .before .before .choose .last .0))) (ap marked (c .before .before .before .before .before .before .before .before .before .before .before .before .before .before .before .before .before .mark-list .ensures) ∙ marked-group 4 (c .before .before .before .before .before .before .before .before .before .before .before .before .before .before .before .before .before .before .before .before .before .before .args .n) (now (c .before .before .before .before .before .before .before .before .before .before .before .before .before .before .before .before .before .before .before .before .before .before .args .list)) (c .before .before .before .before .before .before .before .before .before .before .before .before .before .before .before .before .before .before .before .before .before .before .pre .0) (c .before .before .before .before .before .before .before .before .before .before .before .before .before .before .before .before .before .before .before .before .before .before .pre .4)) (c .before .got .given .1) (c .before .before .before .before .join .ensures (start (c .before .before .before .before .before .before .before .before .before .before .before .before .before .before .before .before .before .before .before .before .before .before .args .n) (marked (c .before .before .before .before .before .before .before .before .before .before .before .before .before .before .choose .last .0))) (started (c .before .before .before .before .before .before .before .before .before .before)))
 
 join-requires : tie.Need-join-requires
 join-requires c κs = ((start (c .before .before .before .before .before .before .before .before .before .before .before .before .before .before .before .before .before .args .n) (marked (c .before .before .before .before .before .before .before .before .before .choose .last .0)), started (c .before .before .before .before .before), start-form (choice (c .before .before .before .before .before .before .before .before .before)), c .before .before .before .before .before .before .before .before .before .before .before .before .before .before .before .before .before .pre .0), c .before .before .before .before .before .before .before .before .before .before .before .before .mark-list .kept .1 .0, omega arith)
@@ -100,7 +99,7 @@ enum-told : tie.Need-enum-told
 enum-told c = search needs
 
 returns : tie.Need-returns
-returns c = absurd (one-joins (choice (c .before .before .before .before .before .before .before .before .before .before .before .before .before)) (no-tree (start (c .before .before .before .before .before .before .before .before .before .before .before .before .before .before .before .before .before .before .before .before .before .args .n) (marked (c .before .before .before .before .before .before .before .before .before .before .before .before .before .choose .last .0))) (ap marked (c .before .before .before .before .before .before .before .before .before .before .before .before .before .before .before .before .mark-list .ensures) ∙ marked-group (c .before .before .before .before .before .before .before .before .before .before .before .before .before .before .before .before .before .before .before .before .before .args .n) (now (c .before .before .before .before .before .before .before .before .before .before .before .before .before .before .before .before .before .before .before .before .before .args .list)) (c .before .before .before .before .before .before .before .before .before .before .before .before .before .before .before .before .before .before .before .before .before .pre .0) (c .before .before .before .before .before .before .before .before .before .before .before .before .before .before .before .before .before .before .before .before .before .pre .4)) (c .enum-told .given .1) (c .before .before .before .join .ensures (start (c .before .before .before .before .before .before .before .before .before .before .before .before .before .before .before .before .before .before .before .before .before .args .n) (marked (c .before .before .before .before .before .before .before .before .before .before .before .before .before .choose .last .0))) (started (c .before .before .before .before .before .before .before .before .before)))))
+returns c = absurd (one-joins (choice (c .before .before .before .before .before .before .before .before .before .before .before .before .before)) (no-tree (start (c .before .before .before .before .before .before .before .before .before .before .before .before .before .before .before .before .before .before .before .before .before .args .n) (marked (c .before .before .before .before .before .before .before .before .before .before .before .before .before .choose .last .0))) (ap marked (c .before .before .before .before .before .before .before .before .before .before .before .before .before .before .before .before .mark-list .ensures) ∙ marked-group 4 (c .before .before .before .before .before .before .before .before .before .before .before .before .before .before .before .before .before .before .before .before .before .args .n) (now (c .before .before .before .before .before .before .before .before .before .before .before .before .before .before .before .before .before .before .before .before .before .args .list)) (c .before .before .before .before .before .before .before .before .before .before .before .before .before .before .before .before .before .before .before .before .before .pre .0) (c .before .before .before .before .before .before .before .before .before .before .before .before .before .before .before .before .before .before .before .before .before .pre .4)) (c .enum-told .given .1) (c .before .before .before .join .ensures (start (c .before .before .before .before .before .before .before .before .before .before .before .before .before .before .before .before .before .before .before .before .before .args .n) (marked (c .before .before .before .before .before .before .before .before .before .before .before .before .before .choose .last .0))) (started (c .before .before .before .before .before .before .before .before .before)))))
 
 slice-aggregate-rising : tie.Need-slice-aggregate-rising
 slice-aggregate-rising c = search needs

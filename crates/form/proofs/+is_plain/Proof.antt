@@ -4,7 +4,8 @@ use mathlib.Core.Bool.{true≢false}
 use native.Mathlib.Omega.{arith}
 use borrow.Author.Tests.{not-true, not-false}
 use lib.ListN.{length}
-use Rattle.form.proofs.Plain.{refuted, PlainFrom, plain-start, plain-end, state-at, leaf-at, long-at, items-at, node-at}
+use Rattle.orders.proofs.Tests.{refuted}
+use Rattle.form.proofs.Plain.{PlainFrom, plain-start, plain-end, state-at, leaf-at, long-at, items-at, node-at}
 use Prim.Native.Nat.{ℕ, _-_, _≤_, _<_}
 use borrow.Fn.Kinds.{In}
 use borrow.Fn.PlainCycle.{Measures, is, falls, and}

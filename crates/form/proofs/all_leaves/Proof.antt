@@ -4,7 +4,8 @@ use native.Mathlib.Omega.{arith}
 use Rattle.orders.specs.Tree.{frontier}
 use Rattle.tokens.specs.Tokens.{tree}
 use Rattle.marks.specs.Marks.{no-leaf}
-use Rattle.form.proofs.Leaves.{words-none, all-new, wrong-number, no-leaves}
+use Rattle.marks.proofs.Words.{no-words}
+use Rattle.form.proofs.Leaves.{all-new, wrong-number, no-leaves}
 use borrow.Author.Needs.{needs}
 use Rattle.form.proofs.all_leaves.Statement.{statement}
 use Rattle.form.proofs.all_leaves.Tie as tie
@@ -29,7 +30,7 @@ new-leaves-requires c κs = search needs
 
 returns-3 : tie.Need-returns-3
 returns-3 c = λ j e.
-    c .before .new-leaves .ensures j no-leaf e words-none .answer
+    c .before .new-leaves .ensures j no-leaf e (sym (no-words 4)) .answer
     ∙ all-new (c .before .before .before .before .before .before .before .args .n) (frontier (tree j)) (omega arith) (omega (arith, c .before .before .before .before .before .leaf-count .ensures .1 j e))
 
 pub all-leaves-spec : {M : Type 1} → statement M

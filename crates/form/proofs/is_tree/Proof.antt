@@ -4,7 +4,8 @@ use borrow.Author.Tests.{not-true, not-false}
 use mathlib.Core.Path.{sym, _∙_}
 use mathlib.Core.Bool.{true≢false}
 use Rattle.tokens.specs.Tokens.{plain}
-use Rattle.form.proofs.Plain.{refuted, tree-is}
+use Rattle.orders.proofs.Tests.{refuted}
+use Rattle.form.proofs.Plain.{tree-is}
 use borrow.Author.Needs.{needs}
 use Rattle.form.proofs.is_tree.Statement.{statement}
 use Rattle.form.proofs.is_tree.Tie as tie

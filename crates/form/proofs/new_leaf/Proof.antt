@@ -17,7 +17,7 @@ test-requires : tie.Need-test-requires
 test-requires c κs = search needs
 
 returns-3 : tie.Need-returns-3
-returns-3 c = λ G e. ap not (c .test .ensures) ∙ leaf-within (c .before .before .before .before .args .n) G (c .before .before .before .before .args .leaf) (omega arith) (omega arith) (c .before .before .before .before .pre) e
+returns-3 c = λ G e. ap not (c .test .ensures) ∙ leaf-within 4 (c .before .before .before .before .args .n) G (c .before .before .before .before .args .leaf) (omega arith) (omega arith) (c .before .before .before .before .pre) e
 
 pub new-leaf-spec : {M : Type 1} → statement M
 new-leaf-spec = tie.close (tie.spec returns returns-2 test-requires returns-3)

@@ -1,13 +1,12 @@
 -- Each answer is the one that the definition gives.
 use mathlib.Core.Path.{_≡_, sym, _∙_}
 use lib.ListN.{length, take, drop, length-drop}
-use Prim.Native.Nat.{_-_}
+use Prim.Native.Nat.{ℕ, _-_, _<_}
 use native.Mathlib.Omega.{arith}
 use Rattle.tokens.specs.Tokens.{Judged, encode}
 use Rattle.tokens.specs.Views.{items-of}
-use Rattle.tokens.proofs.Laws.{whole}
+use Rattle.orders.proofs.ListLaws.{part-to-end}
 use Rattle.idle.proofs.Laws.{others, stays-whole, stays-none, stays-alone, stays-not, stays-unmixed}
-use Prim.Native.Nat.{ℕ, _<_}
 use borrow.Fn.Kinds.{In}
 use borrow.Fn.PlainCycle.{Measures, is, falls, and}
 use Rattle.idle.proofs.stays.Reads as stays
@@ -65,7 +64,7 @@ stays-part-z-end t c = omega (arith, c .before .span .ensures .0)
 -- The items from the first that is not empty on.
 behind : (t : ℕ) (c : stays-lts.After-span (stays-calls t) (stays-at t) stays.Post) (j : Judged) → c .before .before .before .before .before .args .x .now ≡ encode j
     → take (length (c .before .items .result .now) - c .span .result) (drop (c .span .result) (c .before .items .result .now)) ≡ encode (others j)
-behind t c j e = whole (c .before .items .result .now) (c .span .result) ∙ c .span .ensures .1 (items-of j) (c .before .items .ensures .1 j e) .back
+behind t c j e = part-to-end (c .before .items .result .now) (c .span .result) ∙ c .span .ensures .1 (items-of j) (c .before .items .ensures .1 j e) .back
 
 stays-rest-requires : (t : ℕ) → stays-lts.Need-rest-requires (stays-calls t) (stays-at t) stays.Post
 stays-rest-requires t c κs = ((_, behind t (c .before .before) (c .before .before .before .before .before .before .before .pre .1 .0 .0) (c .before .before .before .before .before .before .before .pre .1 .0 .1)), omega (arith, length-drop (c .before .before .span .result) (c .before .before .before .items .result .now), c .before .before .span .ensures .0, c .before .if2 .left))

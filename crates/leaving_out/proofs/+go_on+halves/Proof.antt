@@ -6,8 +6,8 @@ use lib.ListN.{length, take, drop, getD, set, length-set, length-drop}
 use lib.Seq.{length-take-le}
 use Rattle.orders.specs.CircularOrder.{Restriction}
 use Rattle.orders.specs.Tree.{Forest}
+use Rattle.orders.proofs.ListLaws.{part-to-end}
 use Rattle.tokens.specs.Tokens.{Wrote}
-use Rattle.tokens.proofs.Laws.{whole}
 use Rattle.tokens.proofs.Writes.{read-back, wrote-one, wrote-then}
 use Rattle.parts.specs.Writers.{flat}
 use Rattle.stand_in.specs.StandIn.{group}
@@ -157,17 +157,17 @@ halves-slice-aggregate-walk : (t : ℕ) → halves-lts.Need-slice-aggregate-walk
 halves-slice-aggregate-walk t c = search needs
 
 halves-walk-requires : (t : ℕ) → halves-lts.Need-walk-requires (halves-calls t) (halves-at t) halves.Post
-halves-walk-requires t c κs = (c .before .before .before .before .before .before .before .pre .1 .0, c .before .before .before .before .before .before .before .pre .1 .1, subst InBook (sym (whole (c .before .before .before .before .before .before .before .args .numbers .now) (length (c .before .before .before .before .before .before .before .args .numbers .now) / 2))) (book-drop (length (c .before .before .before .before .before .before .before .args .numbers .now) / 2) (c .before .before .before .before .before .before .before .args .numbers .now) (c .before .before .before .before .before .before .before .pre .1 .2)), omega arith)
+halves-walk-requires t c κs = (c .before .before .before .before .before .before .before .pre .1 .0, c .before .before .before .before .before .before .before .pre .1 .1, subst InBook (sym (part-to-end (c .before .before .before .before .before .before .before .args .numbers .now) (length (c .before .before .before .before .before .before .before .args .numbers .now) / 2))) (book-drop (length (c .before .before .before .before .before .before .before .args .numbers .now) / 2) (c .before .before .before .before .before .before .before .args .numbers .now) (c .before .before .before .before .before .before .before .pre .1 .2)), omega arith)
 
 -- The walk down the second half, and how far it came.
 down : {t : ℕ} (c : halves-lts.After-walk (halves-calls t) (halves-at t) halves.Post) (u : Forest) (Gs : List Restriction) → c .before .before .before .before .before .before .before .before .args .toks .now ≡ flat u → Represents (c .before .before .before .before .before .before .before .before .args .n) (group (c .before .before .before .before .before .before .before .before .args .book .now)) Gs u
     → Walked (c .before .before .before .before .before .before .before .before .args .n) (group (c .before .before .before .before .before .before .before .before .args .book .now)) Gs (drop (length (c .before .before .before .before .before .before .before .before .args .numbers .now) / 2) (c .before .before .before .before .before .before .before .before .args .numbers .now)) (c .walk .result .left) (take (c .walk .result .tokens) (c .walk .last .1 .1 .1 .1 .0)) × Stops (c .before .before .before .before .before .before .before .before .args .n) (group (c .before .before .before .before .before .before .before .before .args .book .now)) Gs (drop (length (c .before .before .before .before .before .before .before .before .args .numbers .now) / 2) (c .before .before .before .before .before .before .before .before .args .numbers .now)) (c .walk .result .left)
 down c u Gs e rep =
     subst (λ js. Walked (c .before .before .before .before .before .before .before .before .args .n) (group (c .before .before .before .before .before .before .before .before .args .book .now)) Gs js (c .walk .result .left) (take (c .walk .result .tokens) (c .walk .last .1 .1 .1 .1 .0)) × Stops (c .before .before .before .before .before .before .before .before .args .n) (group (c .before .before .before .before .before .before .before .before .args .book .now)) Gs js (c .walk .result .left))
-    (whole (c .before .before .before .before .before .before .before .before .args .numbers .now) (length (c .before .before .before .before .before .before .before .before .args .numbers .now) / 2)) (c .walk .ensures .2 u Gs e rep)
+    (part-to-end (c .before .before .before .before .before .before .before .before .args .numbers .now) (length (c .before .before .before .before .before .before .before .before .args .numbers .now) / 2)) (c .walk .ensures .2 u Gs e rep)
 
 far : {t : ℕ} (c : halves-lts.After-walk (halves-calls t) (halves-at t) halves.Post) → (length (c .before .before .before .before .before .before .before .before .args .numbers .now) / 2) + c .walk .result .left ≤ length (c .before .before .before .before .before .before .before .before .args .numbers .now)
-far c = omega (arith, c .walk .ensures .0, ap length (whole (c .before .before .before .before .before .before .before .before .args .numbers .now) (length (c .before .before .before .before .before .before .before .before .args .numbers .now) / 2)), length-drop (length (c .before .before .before .before .before .before .before .before .args .numbers .now) / 2) (c .before .before .before .before .before .before .before .before .args .numbers .now))
+far c = omega (arith, c .walk .ensures .0, ap length (part-to-end (c .before .before .before .before .before .before .before .before .args .numbers .now) (length (c .before .before .before .before .before .before .before .before .args .numbers .now) / 2)), length-drop (length (c .before .before .before .before .before .before .before .before .args .numbers .now) / 2) (c .before .before .before .before .before .before .before .before .args .numbers .now))
 
 halves-add-from : (t : ℕ) → halves-lts.Need-add-from (halves-calls t) (halves-at t) halves.Post
 halves-add-from t c = omega (arith, far (c .before .before))
@@ -201,10 +201,10 @@ halves-go-on-requires t c κs =
     let from = (length (c .before .before .before .before .before .before .before .before .before .before .before .before .before .args .numbers .now) / 2) + c .before .before .before .before .before .walk .result .left in
     let j = (getD (c .before .before .before .before .before .before .before .before .before .before .before .before .before .args .numbers .now) ((length (c .before .before .before .before .before .before .before .before .before .before .before .before .before .args .numbers .now) / 2) + c .before .before .before .before .before .walk .result .left - 1) 0) in
     let h = far (c .before .before .before .before .before) in
-    let rest = ap length (whole (c .before .before .before .before .before .before .before .before .before .before .before .before .before .args .numbers .now) from) in
+    let rest = ap length (part-to-end (c .before .before .before .before .before .before .before .before .before .before .before .before .before .args .numbers .now) from) in
     let size = length-drop from (c .before .before .before .before .before .before .before .before .before .before .before .before .before .args .numbers .now) in
     let b : InBook (j ∷ []) = (book-at (c .before .before .before .before .before .before .before .before .before .before .before .before .before .args .numbers .now) (from - 1) (omega (arith, h, c .before .before .before .if2 .taken)) (c .before .before .before .before .before .before .before .before .before .before .before .before .before .pre .1 .2), tt) in
-    (omega (arith, c .before .before .before .before .before .before .before .before .before .before .before .before .before .pre .0, h, rest, size, c .before .before .before .if2 .taken), (c .before .before .before .before .before .before .before .before .before .before .before .before .before .pre .1 .0, c .before .before .before .before .before .before .before .before .before .before .before .before .before .pre .1 .1, subst InBook (sym (whole (c .before .before .before .before .before .before .before .before .before .before .before .before .before .args .numbers .now) from)) (book-drop from (c .before .before .before .before .before .before .before .before .before .before .before .before .before .args .numbers .now) (c .before .before .before .before .before .before .before .before .before .before .before .before .before .pre .1 .2)), omega (arith, h, rest, size, c .before .before .before .if2 .taken, c .before .before .before .before .before .before .before .before .before .before .before .before .before .pre .1 .3, length-set (c .before .before .before .before .before .before .before .before .before .before .before .before .before .args .out .now) 0 j), subst InBook (sym (read-back (wrote-one j (c .before .before .before .before .before .before .before .before .before .before .before .before .before .args .out .now) (omega (arith, h, c .before .before .before .if2 .taken, c .before .before .before .before .before .before .before .before .before .before .before .before .before .pre .1 .3))))) b))
+    (omega (arith, c .before .before .before .before .before .before .before .before .before .before .before .before .before .pre .0, h, rest, size, c .before .before .before .if2 .taken), (c .before .before .before .before .before .before .before .before .before .before .before .before .before .pre .1 .0, c .before .before .before .before .before .before .before .before .before .before .before .before .before .pre .1 .1, subst InBook (sym (part-to-end (c .before .before .before .before .before .before .before .before .before .before .before .before .before .args .numbers .now) from)) (book-drop from (c .before .before .before .before .before .before .before .before .before .before .before .before .before .args .numbers .now) (c .before .before .before .before .before .before .before .before .before .before .before .before .before .pre .1 .2)), omega (arith, h, rest, size, c .before .before .before .if2 .taken, c .before .before .before .before .before .before .before .before .before .before .before .before .before .pre .1 .3, length-set (c .before .before .before .before .before .before .before .before .before .before .before .before .before .args .out .now) 0 j), subst InBook (sym (read-back (wrote-one j (c .before .before .before .before .before .before .before .before .before .before .before .before .before .args .out .now) (omega (arith, h, c .before .before .before .if2 .taken, c .before .before .before .before .before .before .before .before .before .before .before .before .before .pre .1 .3))))) b))
 
 halves-same-length-2 : (t : ℕ) → halves-lts.Need-same-length-2 (halves-calls t) (halves-at t) halves.Post
 halves-same-length-2 t c = c .before .before .go-on .kept .1 .1 .1 .1 .1 .0 ∙ length-set (c .before .before .before .before .before .before .before .before .before .before .before .before .before .before .before .before .args .out .now) 0 (getD (c .before .before .before .before .before .before .before .before .before .before .before .before .before .before .before .before .args .numbers .now) ((length (c .before .before .before .before .before .before .before .before .before .before .before .before .before .before .before .before .args .numbers .now) / 2) + c .before .before .before .before .before .before .before .before .walk .result .left - 1) 0)
@@ -214,12 +214,12 @@ halves-returns-2 t c =
     let from = (length (c .before .before .before .before .before .before .before .before .before .before .before .before .before .before .before .before .args .numbers .now) / 2) + c .before .before .before .before .before .before .before .before .walk .result .left in
     let j = (getD (c .before .before .before .before .before .before .before .before .before .before .before .before .before .before .before .before .args .numbers .now) ((length (c .before .before .before .before .before .before .before .before .before .before .before .before .before .before .before .before .args .numbers .now) / 2) + c .before .before .before .before .before .before .before .before .walk .result .left - 1) 0) in
     let h = far (c .before .before .before .before .before .before .before .before) in (
-      omega (arith, c .before .before .go-on .ensures .0, h, ap length (whole (c .before .before .before .before .before .before .before .before .before .before .before .before .before .before .before .before .args .numbers .now) from), length-drop from (c .before .before .before .before .before .before .before .before .before .before .before .before .before .before .before .before .args .numbers .now), c .before .before .before .before .before .before .if2 .taken),
+      omega (arith, c .before .before .go-on .ensures .0, h, ap length (part-to-end (c .before .before .before .before .before .before .before .before .before .before .before .before .before .before .before .before .args .numbers .now) from), length-drop from (c .before .before .before .before .before .before .before .before .before .before .before .before .before .before .before .before .args .numbers .now), c .before .before .before .before .before .before .if2 .taken),
       λ u Gs e rep.
           let d = down (c .before .before .before .before .before .before .before .before) u Gs e rep in
           rw (next-kept (c .before .before .before .before .before .before .before .before .before .before .before .before .before .before .before .before .args .numbers .now) (length (c .before .before .before .before .before .before .before .before .before .before .before .before .before .before .before .before .args .numbers .now) / 2) (c .before .before .before .before .before .before .before .before .walk .result .left) (d .0) (d .1) (omega (arith, c .before .before .before .before .before .before .if2 .taken)) h)
           (went-on (c .before .before .before .before .before .before .before .before .before .before .before .before .before .before .before .before .args .n) (group (c .before .before .before .before .before .before .before .before .before .before .before .before .before .before .before .before .args .book .now)) Gs (drop from (c .before .before .before .before .before .before .before .before .before .before .before .before .before .before .before .before .args .numbers .now)) (wrote-one j (c .before .before .before .before .before .before .before .before .before .before .before .before .before .before .before .before .args .out .now) (omega (arith, h, c .before .before .before .before .before .before .if2 .taken, c .before .before .before .before .before .before .before .before .before .before .before .before .before .before .before .before .pre .1 .3)))
-          (subst (λ js. Wrote (goes-on (c .before .before .before .before .before .before .before .before .before .before .before .before .before .before .before .before .args .n) (group (c .before .before .before .before .before .before .before .before .before .before .before .before .before .before .before .before .args .book .now)) Gs (take 1 (set (c .before .before .before .before .before .before .before .before .before .before .before .before .before .before .before .before .args .out .now) 0 j)) js) (set (c .before .before .before .before .before .before .before .before .before .before .before .before .before .before .before .before .args .out .now) 0 j) (c .before .before .go-on .last .1 .1 .1 .1 .1 .0) (c .before .before .go-on .result)) (whole (c .before .before .before .before .before .before .before .before .before .before .before .before .before .before .before .before .args .numbers .now) from) (c .before .before .go-on .ensures .1 u Gs e rep))),
+          (subst (λ js. Wrote (goes-on (c .before .before .before .before .before .before .before .before .before .before .before .before .before .before .before .before .args .n) (group (c .before .before .before .before .before .before .before .before .before .before .before .before .before .before .before .before .args .book .now)) Gs (take 1 (set (c .before .before .before .before .before .before .before .before .before .before .before .before .before .before .before .before .args .out .now) 0 j)) js) (set (c .before .before .before .before .before .before .before .before .before .before .before .before .before .before .before .before .args .out .now) 0 j) (c .before .before .go-on .last .1 .1 .1 .1 .1 .0) (c .before .before .go-on .result)) (part-to-end (c .before .before .before .before .before .before .before .before .before .before .before .before .before .before .before .before .args .numbers .now) from) (c .before .before .go-on .ensures .1 u Gs e rep))),
     )
 
 halves-sub-halves : (t : ℕ) → halves-lts.Need-sub-halves (halves-calls t) (halves-at t) halves.Post
@@ -272,22 +272,22 @@ halves-go-on-requires-2 : (t : ℕ) → halves-lts.Need-go-on-requires-2 (halves
 halves-go-on-requires-2 t c κs =
     let p = c .before .before .before .before .before .before .before .before .before .before .before .before .before .before .before .before .before .before .before .pre .1 .0 in
     let a = first (c .before .before .before .before) (p .0) (p .1) (p .2) (p .3) in
-    let rest = ap length (whole (c .before .before .before .before .before .before .before .before .before .before .before .before .before .before .before .before .before .before .before .args .numbers .now) (length (c .before .before .before .before .before .before .before .before .before .before .before .before .before .before .before .before .before .before .before .args .numbers .now) / 2)) in
+    let rest = ap length (part-to-end (c .before .before .before .before .before .before .before .before .before .before .before .before .before .before .before .before .before .before .before .args .numbers .now) (length (c .before .before .before .before .before .before .before .before .before .before .before .before .before .before .before .before .before .before .before .args .numbers .now) / 2)) in
     let size = length-drop (length (c .before .before .before .before .before .before .before .before .before .before .before .before .before .before .before .before .before .before .before .args .numbers .now) / 2) (c .before .before .before .before .before .before .before .before .before .before .before .before .before .before .before .before .before .before .before .args .numbers .now) in
     let half = ap length (part-start (length (c .before .before .before .before .before .before .before .before .before .before .before .before .before .before .before .before .before .before .before .args .numbers .now) / 2) (c .before .before .before .before .before .before .before .before .before .before .before .before .before .before .before .before .before .before .before .args .numbers .now)) in
     let size-2 = length-take-le (length (c .before .before .before .before .before .before .before .before .before .before .before .before .before .before .before .before .before .before .before .args .numbers .now) / 2) (c .before .before .before .before .before .before .before .before .before .before .before .before .before .before .before .before .before .before .before .args .numbers .now) (omega arith) in
-    (omega (arith, c .before .before .before .before .before .before .before .before .before .before .before .before .before .before .before .before .before .before .before .pre .0, rest, size, c .before .before .before .before .before .before .before .before .before .before .before .before .before .before .if1 .left), (c .before .before .before .before .before .before .before .before .before .before .before .before .before .before .before .before .before .before .before .pre .1 .0, c .before .before .before .before .before .before .before .before .before .before .before .before .before .before .before .before .before .before .before .pre .1 .1, subst InBook (sym (whole (c .before .before .before .before .before .before .before .before .before .before .before .before .before .before .before .before .before .before .before .args .numbers .now) (length (c .before .before .before .before .before .before .before .before .before .before .before .before .before .before .before .before .before .before .before .args .numbers .now) / 2))) (book-drop (length (c .before .before .before .before .before .before .before .before .before .before .before .before .before .before .before .before .before .before .before .args .numbers .now) / 2) (c .before .before .before .before .before .before .before .before .before .before .before .before .before .before .before .before .before .before .before .args .numbers .now) (c .before .before .before .before .before .before .before .before .before .before .before .before .before .before .before .before .before .before .before .pre .1 .2)), omega (arith, c .before .before .before .before .halves .ensures .0, half, size-2, rest, size, c .before .before .before .before .before .before .before .before .before .before .before .before .before .before .before .before .before .before .before .pre .1 .3, c .before .before .before .before .halves .kept .1 .1 .1 .1 .0), subst InBook (sym (read-back a)) (keeps-all (c .before .before .before .before .before .before .before .before .before .before .before .before .before .before .before .before .before .before .before .args .n) (group (c .before .before .before .before .before .before .before .before .before .before .before .before .before .before .before .before .before .before .before .args .book .now)) (λ j. (1 ≤ j) × (j ≤ 96)) (p .1 ++ map (group (c .before .before .before .before .before .before .before .before .before .before .before .before .before .before .before .before .before .before .before .args .book .now)) (drop (length (c .before .before .before .before .before .before .before .before .before .before .before .before .before .before .before .before .before .before .before .args .numbers .now) / 2) (c .before .before .before .before .before .before .before .before .before .before .before .before .before .before .before .before .before .before .before .args .numbers .now))) (take (length (c .before .before .before .before .before .before .before .before .before .before .before .before .before .before .before .before .before .before .before .args .numbers .now) / 2) (c .before .before .before .before .before .before .before .before .before .before .before .before .before .before .before .before .before .before .before .args .numbers .now)) (book-take (length (c .before .before .before .before .before .before .before .before .before .before .before .before .before .before .before .before .before .before .before .args .numbers .now) / 2) (c .before .before .before .before .before .before .before .before .before .before .before .before .before .before .before .before .before .before .before .args .numbers .now) (c .before .before .before .before .before .before .before .before .before .before .before .before .before .before .before .before .before .before .before .pre .1 .2)))))
+    (omega (arith, c .before .before .before .before .before .before .before .before .before .before .before .before .before .before .before .before .before .before .before .pre .0, rest, size, c .before .before .before .before .before .before .before .before .before .before .before .before .before .before .if1 .left), (c .before .before .before .before .before .before .before .before .before .before .before .before .before .before .before .before .before .before .before .pre .1 .0, c .before .before .before .before .before .before .before .before .before .before .before .before .before .before .before .before .before .before .before .pre .1 .1, subst InBook (sym (part-to-end (c .before .before .before .before .before .before .before .before .before .before .before .before .before .before .before .before .before .before .before .args .numbers .now) (length (c .before .before .before .before .before .before .before .before .before .before .before .before .before .before .before .before .before .before .before .args .numbers .now) / 2))) (book-drop (length (c .before .before .before .before .before .before .before .before .before .before .before .before .before .before .before .before .before .before .before .args .numbers .now) / 2) (c .before .before .before .before .before .before .before .before .before .before .before .before .before .before .before .before .before .before .before .args .numbers .now) (c .before .before .before .before .before .before .before .before .before .before .before .before .before .before .before .before .before .before .before .pre .1 .2)), omega (arith, c .before .before .before .before .halves .ensures .0, half, size-2, rest, size, c .before .before .before .before .before .before .before .before .before .before .before .before .before .before .before .before .before .before .before .pre .1 .3, c .before .before .before .before .halves .kept .1 .1 .1 .1 .0), subst InBook (sym (read-back a)) (keeps-all (c .before .before .before .before .before .before .before .before .before .before .before .before .before .before .before .before .before .before .before .args .n) (group (c .before .before .before .before .before .before .before .before .before .before .before .before .before .before .before .before .before .before .before .args .book .now)) (λ j. (1 ≤ j) × (j ≤ 96)) (p .1 ++ map (group (c .before .before .before .before .before .before .before .before .before .before .before .before .before .before .before .before .before .before .before .args .book .now)) (drop (length (c .before .before .before .before .before .before .before .before .before .before .before .before .before .before .before .before .before .before .before .args .numbers .now) / 2) (c .before .before .before .before .before .before .before .before .before .before .before .before .before .before .before .before .before .before .before .args .numbers .now))) (take (length (c .before .before .before .before .before .before .before .before .before .before .before .before .before .before .before .before .before .before .before .args .numbers .now) / 2) (c .before .before .before .before .before .before .before .before .before .before .before .before .before .before .before .before .before .before .before .args .numbers .now)) (book-take (length (c .before .before .before .before .before .before .before .before .before .before .before .before .before .before .before .before .before .before .before .args .numbers .now) / 2) (c .before .before .before .before .before .before .before .before .before .before .before .before .before .before .before .before .before .before .before .args .numbers .now) (c .before .before .before .before .before .before .before .before .before .before .before .before .before .before .before .before .before .before .before .pre .1 .2)))))
 
 halves-same-length-3 : (t : ℕ) → halves-lts.Need-same-length-3 (halves-calls t) (halves-at t) halves.Post
 halves-same-length-3 t c = c .before .before .go-on2 .kept .1 .1 .1 .1 .1 .0 ∙ c .before .before .before .before .before .before .before .halves .kept .1 .1 .1 .1 .0
 
 halves-returns-3 : (t : ℕ) → halves-lts.Need-returns-3 (halves-calls t) (halves-at t) halves.Post
 halves-returns-3 t c = (
-  omega (arith, c .before .before .go-on2 .ensures .0, c .before .before .before .before .before .before .before .halves .ensures .0, ap length (whole (c .before .before .before .before .before .before .before .before .before .before .before .before .before .before .before .before .before .before .before .before .before .before .args .numbers .now) (length (c .before .before .before .before .before .before .before .before .before .before .before .before .before .before .before .before .before .before .before .before .before .before .args .numbers .now) / 2)), length-drop (length (c .before .before .before .before .before .before .before .before .before .before .before .before .before .before .before .before .before .before .before .before .before .before .args .numbers .now) / 2) (c .before .before .before .before .before .before .before .before .before .before .before .before .before .before .before .before .before .before .before .before .before .before .args .numbers .now), ap length (part-start (length (c .before .before .before .before .before .before .before .before .before .before .before .before .before .before .before .before .before .before .before .before .before .before .args .numbers .now) / 2) (c .before .before .before .before .before .before .before .before .before .before .before .before .before .before .before .before .before .before .before .before .before .before .args .numbers .now)), length-take-le (length (c .before .before .before .before .before .before .before .before .before .before .before .before .before .before .before .before .before .before .before .before .before .before .args .numbers .now) / 2) (c .before .before .before .before .before .before .before .before .before .before .before .before .before .before .before .before .before .before .before .before .before .before .args .numbers .now) (omega arith)),
+  omega (arith, c .before .before .go-on2 .ensures .0, c .before .before .before .before .before .before .before .halves .ensures .0, ap length (part-to-end (c .before .before .before .before .before .before .before .before .before .before .before .before .before .before .before .before .before .before .before .before .before .before .args .numbers .now) (length (c .before .before .before .before .before .before .before .before .before .before .before .before .before .before .before .before .before .before .before .before .before .before .args .numbers .now) / 2)), length-drop (length (c .before .before .before .before .before .before .before .before .before .before .before .before .before .before .before .before .before .before .before .before .before .before .args .numbers .now) / 2) (c .before .before .before .before .before .before .before .before .before .before .before .before .before .before .before .before .before .before .before .before .before .before .args .numbers .now), ap length (part-start (length (c .before .before .before .before .before .before .before .before .before .before .before .before .before .before .before .before .before .before .before .before .before .before .args .numbers .now) / 2) (c .before .before .before .before .before .before .before .before .before .before .before .before .before .before .before .before .before .before .before .before .before .before .args .numbers .now)), length-take-le (length (c .before .before .before .before .before .before .before .before .before .before .before .before .before .before .before .before .before .before .before .before .before .before .args .numbers .now) / 2) (c .before .before .before .before .before .before .before .before .before .before .before .before .before .before .before .before .before .before .before .before .before .before .args .numbers .now) (omega arith)),
   λ u Gs e rep.
       rw (keeps-halves (c .before .before .before .before .before .before .before .before .before .before .before .before .before .before .before .before .before .before .before .before .before .before .args .n) (group (c .before .before .before .before .before .before .before .before .before .before .before .before .before .before .before .before .before .before .before .before .before .before .args .book .now)) Gs (c .before .before .before .before .before .before .before .before .before .before .before .before .before .before .before .before .before .before .before .before .before .before .args .numbers .now) (length (c .before .before .before .before .before .before .before .before .before .before .before .before .before .before .before .before .before .before .before .before .before .before .args .numbers .now) / 2))
       (went-on (c .before .before .before .before .before .before .before .before .before .before .before .before .before .before .before .before .before .before .before .before .before .before .args .n) (group (c .before .before .before .before .before .before .before .before .before .before .before .before .before .before .before .before .before .before .before .before .before .before .args .book .now)) Gs (drop (length (c .before .before .before .before .before .before .before .before .before .before .before .before .before .before .before .before .before .before .before .before .before .before .args .numbers .now) / 2) (c .before .before .before .before .before .before .before .before .before .before .before .before .before .before .before .before .before .before .before .before .before .before .args .numbers .now)) (first (c .before .before .before .before .before .before .before) u Gs e rep)
-      (subst (λ js. Wrote (goes-on (c .before .before .before .before .before .before .before .before .before .before .before .before .before .before .before .before .before .before .before .before .before .before .args .n) (group (c .before .before .before .before .before .before .before .before .before .before .before .before .before .before .before .before .before .before .before .before .before .before .args .book .now)) Gs (take (c .before .before .before .before .before .before .before .halves .result) (c .before .before .before .before .before .before .before .halves .last .1 .1 .1 .1 .0)) js) (c .before .before .before .before .before .before .before .halves .last .1 .1 .1 .1 .0) (c .before .before .go-on2 .last .1 .1 .1 .1 .1 .0) (c .before .before .go-on2 .result)) (whole (c .before .before .before .before .before .before .before .before .before .before .before .before .before .before .before .before .before .before .before .before .before .before .args .numbers .now) (length (c .before .before .before .before .before .before .before .before .before .before .before .before .before .before .before .before .before .before .before .before .before .before .args .numbers .now) / 2)) (c .before .before .go-on2 .ensures .1 u Gs e rep))),
+      (subst (λ js. Wrote (goes-on (c .before .before .before .before .before .before .before .before .before .before .before .before .before .before .before .before .before .before .before .before .before .before .args .n) (group (c .before .before .before .before .before .before .before .before .before .before .before .before .before .before .before .before .before .before .before .before .before .before .args .book .now)) Gs (take (c .before .before .before .before .before .before .before .halves .result) (c .before .before .before .before .before .before .before .halves .last .1 .1 .1 .1 .0)) js) (c .before .before .before .before .before .before .before .halves .last .1 .1 .1 .1 .0) (c .before .before .go-on2 .last .1 .1 .1 .1 .1 .0) (c .before .before .go-on2 .result)) (part-to-end (c .before .before .before .before .before .before .before .before .before .before .before .before .before .before .before .before .before .before .before .before .before .before .args .numbers .now) (length (c .before .before .before .before .before .before .before .before .before .before .before .before .before .before .before .before .before .before .before .before .before .before .args .numbers .now) / 2)) (c .before .before .go-on2 .ensures .1 u Gs e rep))),
 )
 
 pub +go-on+halves-spec : {M : Type 1} → statement M

@@ -4,7 +4,7 @@ use Prim.Native.Nat.{_-_}
 use native.Mathlib.Omega.{arith}
 use lib.ListN.{length, take, drop, getD, set, length-set, length-drop}
 use Rattle.tokens.specs.Tokens.{Wrote}
-use Rattle.tokens.proofs.Laws.{whole}
+use Rattle.orders.proofs.ListLaws.{part-to-end}
 use Rattle.tokens.proofs.Writes.{read-back, wrote-none, wrote-one}
 use Rattle.stand_in.specs.StandIn.{group}
 use Rattle.leaving_out.specs.LeavingOut.{InBook, goes-on}
@@ -58,7 +58,7 @@ go-on-requires c κs =
     let j = (getD (c .before .before .before .before .before .before .before .before .before .before .before .args .numbers .now) (c .before .before .before .before .before .walk .result .left - 1) 0) in
     let h = c .before .before .before .before .before .walk .ensures .0 in
     let b : InBook (j ∷ []) = (book-at (c .before .before .before .before .before .before .before .before .before .before .before .args .numbers .now) (left - 1) (omega (arith, h, c .before .before .before .if1 .left)) (c .before .before .before .before .before .before .before .before .before .before .before .pre .2), tt) in
-    (c .before .before .before .before .before .before .before .before .before .before .before .pre .0, c .before .before .before .before .before .before .before .before .before .before .before .pre .1, subst InBook (sym (whole (c .before .before .before .before .before .before .before .before .before .before .before .args .numbers .now) left)) (book-drop left (c .before .before .before .before .before .before .before .before .before .before .before .args .numbers .now) (c .before .before .before .before .before .before .before .before .before .before .before .pre .2)), omega (arith, h, ap length (whole (c .before .before .before .before .before .before .before .before .before .before .before .args .numbers .now) left), length-drop left (c .before .before .before .before .before .before .before .before .before .before .before .args .numbers .now), c .before .before .before .if1 .left, c .before .before .before .before .before .before .before .before .before .before .before .pre .3, length-set (c .before .before .before .before .before .before .before .before .before .before .before .args .out .now) 0 j), subst InBook (sym (read-back (wrote-one j (c .before .before .before .before .before .before .before .before .before .before .before .args .out .now) (omega (arith, h, c .before .before .before .if1 .left, c .before .before .before .before .before .before .before .before .before .before .before .pre .3))))) b)
+    (c .before .before .before .before .before .before .before .before .before .before .before .pre .0, c .before .before .before .before .before .before .before .before .before .before .before .pre .1, subst InBook (sym (part-to-end (c .before .before .before .before .before .before .before .before .before .before .before .args .numbers .now) left)) (book-drop left (c .before .before .before .before .before .before .before .before .before .before .before .args .numbers .now) (c .before .before .before .before .before .before .before .before .before .before .before .pre .2)), omega (arith, h, ap length (part-to-end (c .before .before .before .before .before .before .before .before .before .before .before .args .numbers .now) left), length-drop left (c .before .before .before .before .before .before .before .before .before .before .before .args .numbers .now), c .before .before .before .if1 .left, c .before .before .before .before .before .before .before .before .before .before .before .pre .3, length-set (c .before .before .before .before .before .before .before .before .before .before .before .args .out .now) 0 j), subst InBook (sym (read-back (wrote-one j (c .before .before .before .before .before .before .before .before .before .before .before .args .out .now) (omega (arith, h, c .before .before .before .if1 .left, c .before .before .before .before .before .before .before .before .before .before .before .pre .3))))) b)
 
 same-length : tie.Need-same-length
 same-length c = c .before .before .go-on .kept .1 .1 .1 .1 .1 .0 ∙ length-set (c .before .before .before .before .before .before .before .before .before .before .before .before .before .before .args .out .now) 0 (getD (c .before .before .before .before .before .before .before .before .before .before .before .before .before .before .args .numbers .now) (c .before .before .before .before .before .before .before .before .walk .result .left - 1) 0)
@@ -70,7 +70,7 @@ returns-2 c = λ u Gs e rep.
     let d = c .before .before .before .before .before .before .before .before .walk .ensures .2 u Gs e rep in
     rw (first-kept (c .before .before .before .before .before .before .before .before .before .before .before .before .before .before .args .numbers .now) (c .before .before .before .before .before .before .before .before .walk .result .left) (d .0) (d .1) (omega (arith, c .before .before .before .before .before .before .if1 .left)) (c .before .before .before .before .before .before .before .before .walk .ensures .0))
     (went-on (c .before .before .before .before .before .before .before .before .before .before .before .before .before .before .args .n) (group (c .before .before .before .before .before .before .before .before .before .before .before .before .before .before .args .book .now)) Gs (drop left (c .before .before .before .before .before .before .before .before .before .before .before .before .before .before .args .numbers .now)) (wrote-one j (c .before .before .before .before .before .before .before .before .before .before .before .before .before .before .args .out .now) (omega (arith, c .before .before .before .before .before .before .before .before .walk .ensures .0, c .before .before .before .before .before .before .if1 .left, c .before .before .before .before .before .before .before .before .before .before .before .before .before .before .pre .3)))
-    (subst (λ js. Wrote (goes-on (c .before .before .before .before .before .before .before .before .before .before .before .before .before .before .args .n) (group (c .before .before .before .before .before .before .before .before .before .before .before .before .before .before .args .book .now)) Gs (take 1 (set (c .before .before .before .before .before .before .before .before .before .before .before .before .before .before .args .out .now) 0 j)) js) (set (c .before .before .before .before .before .before .before .before .before .before .before .before .before .before .args .out .now) 0 j) (c .before .before .go-on .last .1 .1 .1 .1 .1 .0) (c .before .before .go-on .result)) (whole (c .before .before .before .before .before .before .before .before .before .before .before .before .before .before .args .numbers .now) left) (c .before .before .go-on .ensures .1 u Gs e rep)))
+    (subst (λ js. Wrote (goes-on (c .before .before .before .before .before .before .before .before .before .before .before .before .before .before .args .n) (group (c .before .before .before .before .before .before .before .before .before .before .before .before .before .before .args .book .now)) Gs (take 1 (set (c .before .before .before .before .before .before .before .before .before .before .before .before .before .before .args .out .now) 0 j)) js) (set (c .before .before .before .before .before .before .before .before .before .before .before .before .before .before .args .out .now) 0 j) (c .before .before .go-on .last .1 .1 .1 .1 .1 .0) (c .before .before .go-on .result)) (part-to-end (c .before .before .before .before .before .before .before .before .before .before .before .before .before .before .args .numbers .now) left) (c .before .before .go-on .ensures .1 u Gs e rep)))
 
 pub leave-out-spec : {M : Type 1} → statement M
 leave-out-spec =

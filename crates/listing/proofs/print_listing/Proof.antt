@@ -8,7 +8,7 @@ use Rattle.tokens.proofs.Writes.{wrote-most}
 use Rattle.ringfile.specs.RingFile.{Holds}
 use Rattle.ledger.specs.Stands.{lists-of}
 use Rattle.printing.specs.Printing.{final}
-use Rattle.printing.proofs.Printing.{flat-encode}
+use Rattle.parts.proofs.Laws.{flat-tree}
 use Rattle.listing.proofs.Answers.{final-tokens, final-published, order-room, is-final, is-ordered}
 use borrow.Author.Needs.{needs}
 use Rattle.listing.proofs.print_listing.Statement.{statement}
@@ -22,7 +22,7 @@ use Rattle.order.proofs.standard_order.Reads as standard-order-reads
 -- The order that was written.
 written : (c : tie.After-standard-order) (f : Holds (now (c .before .before .before .before .before .before .before .before .before .before .before .before .before .args .file)) (c .before .before .before .before .before .before .before .before .before .before .before .before .before .args .names) (c .before .before .before .before .before .before .before .before .before .before .before .before .before .args .head) (c .before .before .before .before .before .before .before .before .before .before .before .before .before .args .lines))
     → (old : List ℕ) × Wrote (standard (tree (plain (final (f .ns) (lists-of f))))) old (c .standard-order .last .1 .0) (c .standard-order .result)
-written c f = (_, c .standard-order .ensures (plain (final (f .ns) (lists-of f))) (flat-encode _ (final-tokens f (c .before .before .before .before .before .before .before .replay .ensures f))))
+written c f = (_, c .standard-order .ensures (plain (final (f .ns) (lists-of f))) (flat-tree _ (final-tokens f (c .before .before .before .before .before .before .before .replay .ensures f))))
 
 slice-aggregate-replay : tie.Need-slice-aggregate-replay
 slice-aggregate-replay c = search needs
@@ -49,7 +49,7 @@ slice-aggregate-standard-order : tie.Need-slice-aggregate-standard-order
 slice-aggregate-standard-order c = search needs
 
 standard-order-requires : tie.Need-standard-order-requires
-standard-order-requires c κs = (plain (final (c .before .before .before .before .before .before .before .before .before .before .before .before .pre .ns) (lists-of (c .before .before .before .before .before .before .before .before .before .before .before .before .pre))), flat-encode _ (final-tokens (c .before .before .before .before .before .before .before .before .before .before .before .before .pre) (c .before .before .before .before .before .before .replay .ensures (c .before .before .before .before .before .before .before .before .before .before .before .before .pre))), order-room (c .before .before .before .before .before .before .before .before .before .before .before .before .pre) (c .before .before .before .before .before .before .replay .ensures (c .before .before .before .before .before .before .before .before .before .before .before .before .pre)))
+standard-order-requires c κs = (plain (final (c .before .before .before .before .before .before .before .before .before .before .before .before .pre .ns) (lists-of (c .before .before .before .before .before .before .before .before .before .before .before .before .pre))), flat-tree _ (final-tokens (c .before .before .before .before .before .before .before .before .before .before .before .before .pre) (c .before .before .before .before .before .before .replay .ensures (c .before .before .before .before .before .before .before .before .before .before .before .before .pre))), order-room (c .before .before .before .before .before .before .before .before .before .before .before .before .pre) (c .before .before .before .before .before .before .replay .ensures (c .before .before .before .before .before .before .before .before .before .before .before .before .pre)))
 
 sub-print-from : tie.Need-sub-print-from
 sub-print-from c = search needs

@@ -2,7 +2,8 @@ use native.Mathlib.Omega.{arith}
 use Rattle.tokens.specs.Tokens.{plain}
 use Rattle.output.proofs.Laws.{appends-as}
 use Rattle.fields.proofs.Aiming.{order-length, order-all}
-use Rattle.printing.proofs.Printing.{end-order, end-names, end-tree, end-text, flat-encode, short-text}
+use Rattle.parts.proofs.Laws.{flat-tree}
+use Rattle.printing.proofs.Printing.{end-order, end-names, end-tree, end-text, short-text}
 use borrow.Author.Needs.{needs}
 use Rattle.printing.proofs.print_end.Statement.{statement}
 use Rattle.printing.proofs.print_end.Tie as tie
@@ -46,15 +47,15 @@ returns-3 : tie.Need-returns-3
 returns-3 c = (omega (arith, c .before .before .put2 .ensures .past), λ f t e g h. appends-as (end-tree (f .ns) t (c .before .before .before .before .before .if3 .taken)) (c .before .before .put2 .ensures))
 
 put-tree-requires : tie.Need-put-tree-requires
-put-tree-requires c κs = let p = c .before .before .before .before .before .before .before .before .pre .1 in (plain (p .0), flat-encode (p .0) (p .1), omega (arith, c .before .before .before .before .before .before .before .before .pre .3, short-text p))
+put-tree-requires c κs = let p = c .before .before .before .before .before .before .before .before .pre .1 in (plain (p .0), flat-tree (p .0) (p .1), omega (arith, c .before .before .before .before .before .before .before .before .pre .3, short-text p))
 
 same-length-4 : tie.Need-same-length-4
 same-length-4 c = search needs
 
 returns-4 : tie.Need-returns-4
 returns-4 c = (
-  let p = c .before .before .before .before .before .before .before .before .before .before .before .pre .1 in omega (arith, c .before .before .put-tree .ensures (plain (p .0)) (flat-encode (p .0) (p .1)) .past, short-text p),
-  λ f t e g h. appends-as (end-text (f .ns) t (omega (arith, h, c .before .before .before .before .before .before .if1 .left, c .before .before .before .before .before .if2 .left, c .before .before .before .before .if3 .left))) (c .before .before .put-tree .ensures (plain t) (flat-encode t e)),
+  let p = c .before .before .before .before .before .before .before .before .before .before .before .pre .1 in omega (arith, c .before .before .put-tree .ensures (plain (p .0)) (flat-tree (p .0) (p .1)) .past, short-text p),
+  λ f t e g h. appends-as (end-text (f .ns) t (omega (arith, h, c .before .before .before .before .before .before .if1 .left, c .before .before .before .before .before .if2 .left, c .before .before .before .before .if3 .left))) (c .before .before .put-tree .ensures (plain t) (flat-tree t e)),
 )
 
 pub print-end-spec : {M : Type 1} → statement M

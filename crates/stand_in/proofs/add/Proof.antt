@@ -1,8 +1,8 @@
-use mathlib.Core.Path.{_≡_, sym, ap, subst, _∙_}
-use Prim.Native.Nat.{ℕ, _+_, _-_, _^_, _≤_, _<_}
+use mathlib.Core.Path.{subst}
+use Prim.Native.Nat.{ℕ, _+_, _-_, _^_, _<_}
 use native.Mathlib.Omega.{arith}
 use lib.ListN.{length}
-use Rattle.marks.specs.Marks.{marked, words-of}
+use Rattle.marks.specs.Marks.{marked}
 use Rattle.marks.proofs.Words.{Written, written-none, written-read, written-one, written-all}
 use Rattle.stand_in.specs.StandIn.{either}
 use Rattle.stand_in.proofs.Choice.{either-word}
@@ -12,13 +12,13 @@ use Rattle.stand_in.proofs.add.Reads as reads
 use Rattle.stand_in.proofs.add.Lts as lts
 
 abbrev Inv-loop : tie.InvT-loop
-Inv-loop words₀ more i₀ words i = (i ≤ 4) × Written (either (marked words₀) (marked more)) i words₀ words
+Inv-loop words₀ more i₀ words i = Written (either (marked words₀) (marked more)) i words₀ words
 
 abbrev μ-loop : tie.MeasureT-loop
-μ-loop words₀ more i₀ words i = 4 - i
+μ-loop words₀ more i₀ words i = length words₀ - i
 
 loop-holds : tie.Need-loop-holds Inv-loop μ-loop
-loop-holds c = (omega arith, written-none (either (marked (c .args .words .now)) (marked (c .args .more .now))) (c .args .words .now))
+loop-holds c = written-none (either (marked (c .args .words .now)) (marked (c .args .more .now))) (c .args .words .now)
 
 mul-words : tie.Need-mul-words Inv-loop μ-loop
 mul-words c = omega arith
@@ -47,17 +47,15 @@ loop-less c = omega arith
 loop-again : tie.Need-loop-again Inv-loop μ-loop
 loop-again c =
     let G = either (marked (c .before .before .before .before .args .words .now)) (marked (c .before .before .before .before .args .more .now)) in
-    let r = written-read G (c .before .before .before .before .args .words .now) (c .before .before .before .loop .i) (c .before .before .before .loop .words) (c .before .before .before .loop .inv .1) (omega arith) in (
-      omega arith,
-      written-one G (c .before .before .before .before .args .words .now) (c .before .before .before .loop .i) (c .before .before .before .loop .words) _ (c .before .before .before .loop .inv .1) (omega arith)
-          (rw r (either-word (c .before .before .before .before .args .words .now) (c .before .before .before .before .args .more .now) (c .before .before .before .loop .i) (subst (λ (w : ℕ). w < 2 ^ 64) r (c .before .slice-known .given (c .before .before .before .loop .i) .fits)) (c .shared-slice-known .given (c .before .before .before .loop .i) .fits))),
-    )
+    let r = written-read G (c .before .before .before .before .args .words .now) (c .before .before .before .loop .i) (c .before .before .before .loop .words) (c .before .before .before .loop .inv) (omega arith) in
+    written-one G (c .before .before .before .before .args .words .now) (c .before .before .before .loop .i) (c .before .before .before .loop .words) _ (c .before .before .before .loop .inv) (omega arith)
+    (rw r (either-word (c .before .before .before .before .args .words .now) (c .before .before .before .before .args .more .now) (c .before .before .before .loop .i) (subst (λ (w : ℕ). w < 2 ^ 64) r (c .before .slice-known .given (c .before .before .before .loop .i) .fits)) (c .shared-slice-known .given (c .before .before .before .loop .i) .fits)))
 
 same-length : tie.Need-same-length Inv-loop μ-loop
-same-length c = c .before .loop .inv .1 .1
+same-length c = c .before .loop .inv .1
 
 returns : tie.Need-returns Inv-loop μ-loop
-returns c = written-all (either (marked (c .before .before .args .words .now)) (marked (c .before .before .args .more .now))) (c .before .before .args .words .now) (c .before .loop .i) (c .before .loop .words) (c .before .loop .inv .1) (omega arith) ∙ ap (λ (k : ℕ). words-of k (either (marked (c .before .before .args .words .now)) (marked (c .before .before .args .more .now)))) (c .before .before .pre .0)
+returns c = written-all (either (marked (c .before .before .args .words .now)) (marked (c .before .before .args .more .now))) (c .before .before .args .words .now) (c .before .loop .i) (c .before .loop .words) (c .before .loop .inv) (c .loop-test .left)
 
 pub add-spec : {M : Type 1} → statement M
 add-spec =

@@ -3,8 +3,7 @@ use Prim.Native.Nat.{ℕ, _+_, _-_, _*_, _≤_}
 use native.Mathlib.Omega.{arith}
 use lib.ListN.{length, take, drop}
 use Rattle.marks.specs.Marks.{marked}
-use Rattle.stand_in.specs.StandIn.{Below}
-use Rattle.stand_in.specs.StandIn.{group}
+use Rattle.stand_in.specs.StandIn.{Below, group}
 use Rattle.stand_in.proofs.Choice.{first-below, second-below, part-numbered, one-more-below}
 use Rattle.stand_in.proofs.add_book.Statement.{statement}
 use Rattle.stand_in.proofs.add_book.Tie as tie
@@ -40,7 +39,7 @@ part-add-end : tie.Need-part-add-end Inv-loop μ-loop
 part-add-end c = omega arith
 
 add-requires : tie.Need-add-requires Inv-loop μ-loop
-add-requires c κs = (c .before .before .before .loop .inv .1, omega (arith, c .add-arg2 .given, c .before .before .before .before .before .before .pre .1))
+add-requires c κs = c .before .before .before .loop .inv .1 ∙ omega (arith, c .add-arg2 .given, c .before .before .before .before .before .before .pre .1)
 
 add-k : tie.Need-add-k Inv-loop μ-loop
 add-k c = omega arith
@@ -50,9 +49,10 @@ loop-less c = omega arith
 
 loop-again : tie.Need-loop-again Inv-loop μ-loop
 loop-again c =
-    let w : length (take (4 * c .before .before .before .before .before .before .loop .k + 4 - 4 * c .before .before .before .before .before .before .loop .k) (drop (4 * c .before .before .before .before .before .before .loop .k) (c .before .before .before .before .before .before .before .before .before .args .book .now))) ≡ 4 = omega (arith, c .before .before .before .add-arg2 .given, c .before .before .before .before .before .before .before .before .before .pre .1) in
-    let a = first-below (c .before .before .before .before .before .before .loop .words) (take (4 * c .before .before .before .before .before .before .loop .k + 4 - 4 * c .before .before .before .before .before .before .loop .k) (drop (4 * c .before .before .before .before .before .before .loop .k) (c .before .before .before .before .before .before .before .before .before .args .book .now))) (c .before .before .add .last .0) (c .before .before .before .before .before .before .loop .inv .1) w (c .before .before .add .ensures) in
-    let b = second-below (c .before .before .before .before .before .before .loop .words) (take (4 * c .before .before .before .before .before .before .loop .k + 4 - 4 * c .before .before .before .before .before .before .loop .k) (drop (4 * c .before .before .before .before .before .before .loop .k) (c .before .before .before .before .before .before .before .before .before .args .book .now))) (c .before .before .add .last .0) (c .before .before .before .before .before .before .loop .inv .1) w (c .before .before .add .ensures) in (
+    let more = take (4 * c .before .before .before .before .before .before .loop .k + 4 - 4 * c .before .before .before .before .before .before .loop .k) (drop (4 * c .before .before .before .before .before .before .loop .k) (c .before .before .before .before .before .before .before .before .before .args .book .now)) in
+    let w : length (c .before .before .before .before .before .before .loop .words) ≡ length more = c .before .before .before .before .before .before .loop .inv .1 ∙ omega (arith, c .before .before .before .add-arg2 .given, c .before .before .before .before .before .before .before .before .before .pre .1) in
+    let a = first-below (c .before .before .before .before .before .before .loop .words) more (c .before .before .add .last .0) w (c .before .before .add .ensures) in
+    let b = second-below (c .before .before .before .before .before .before .loop .words) more (c .before .before .add .last .0) w (c .before .before .add .ensures) in (
       omega arith,
       c .before .before .add .kept .0 ∙ c .before .before .before .before .before .before .loop .inv .1,
       λ x e. a x (c .before .before .before .before .before .before .loop .inv .2 x e),

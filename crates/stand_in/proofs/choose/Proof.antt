@@ -1,8 +1,6 @@
-use mathlib.Core.Path.{_≡_, ap, _∙_}
-use Prim.Native.Nat.{ℕ}
+use mathlib.Core.Path.{_≡_, _∙_}
 use lib.ListN.{length}
 use native.Mathlib.Omega.{arith}
-use Rattle.marks.specs.Marks.{marked, words-of, with-leaf}
 use Rattle.stand_in.proofs.Choice.{chosen}
 use borrow.Author.Needs.{needs}
 use Rattle.stand_in.proofs.choose.Statement.{statement}
@@ -31,8 +29,7 @@ same-length c = search needs
 returns : tie.Need-returns
 returns c =
     let four : length (c .before .before .before .before .before .before .before .before .add-book .last .0) ≡ 4 = c .before .before .before .before .before .before .before .before .add-book .kept .0 ∙ c .before .before .before .before .before .before .before .before .before .before .before .before .pre .0 in
-    chosen (c .before .before .before .before .before .before .before .before .add-book .last .0) (c .before .before .set .last .0) (c .before .before .before .before .before .before .before .before .before .before .before .before .pre .2) (c .before .before .before .before .before .before .before .before .add-book .ensures .0) (c .before .before .before .before .before .before .before .before .add-book .ensures .1) (c .before .before .before .before .first-unmarked .ensures)
-    (c .before .before .set .ensures ∙ ap (λ (k : ℕ). words-of k (with-leaf (c .before .before .before .before .first-unmarked .result) (marked (c .before .before .before .before .before .before .before .before .add-book .last .0)))) four)
+    chosen (c .before .before .before .before .before .before .before .before .add-book .last .0) (c .before .before .set .last .0) (omega (arith, four)) (omega (arith, four, c .before .before .before .before .before .before .before .before .before .before .before .before .pre .2)) (c .before .before .before .before .before .before .before .before .add-book .ensures .0) (c .before .before .before .before .before .before .before .before .add-book .ensures .1) (c .before .before .before .before .first-unmarked .ensures) (c .before .before .set .ensures)
 
 pub choose-spec : {M : Type 1} → statement M
 choose-spec =

@@ -4,7 +4,7 @@ use lib.ListN.{length, take, drop, getD, set, length-set}
 use borrow.Author.Needs.{needs}
 use Rattle.calls.specs.NodeTable.{kind-of, spelled}
 use Rattle.walks.specs.Walks.{PlacesStand}
-use Rattle.walks.proofs.Standing.{node-record, node-count, part-is, part-few, inner-places}
+use Rattle.walks.proofs.Standing.{node-record, node-count, part-few, inner-places}
 use Rattle.walks.proofs.Walking.{part-length, spelled-here, walks-not, walks-node, Walking, walking-start, walking-end, walking-leaf, walking-full, walking-node, walking-gone}
 use Prim.Native.Nat.{ℕ, _+_, _-_, _*_, _≤_, _<_}
 use borrow.Fn.Kinds.{In}
@@ -18,6 +18,7 @@ use Rattle.walks.proofs.+walk_items+walk_node.Lts-walk_node as walk-nod
 use Rattle.walks.proofs.header.Reads as header-reads
 use Rattle.walks.proofs.+walk_items+walk_node.{statement}
 use Rattle.walks.proofs.+walk_items+walk_node.Tie.{close}
+use Rattle.orders.proofs.ListLaws.{part-is}
 
 abbrev μ-walk-items : Measures 3 walk-items-kinds.ps ℕ
 μ-walk-items κs a = 2 * a .1 .0 + 1

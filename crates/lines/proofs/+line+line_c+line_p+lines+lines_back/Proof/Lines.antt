@@ -8,7 +8,7 @@ use native.Mathlib.Omega.{arith}
 use borrow.Author.Needs.{needs}
 use Rattle.tokens.specs.Tokens.{Judged, tree, plain, encode}
 use Rattle.tokens.specs.Views.{rest-of}
-use Rattle.tokens.proofs.Laws.{whole}
+use Rattle.orders.proofs.ListLaws.{part-to-end}
 use Rattle.tokens.proofs.Writes.{wrote-then}
 use Rattle.spans.specs.Spans.{is-not, passing, beyond}
 use Rattle.judge.specs.Total.{totals}
@@ -40,7 +40,7 @@ its : (t : ℕ) (c : lines-lts.After-until (lines-calls t) (lines-at t) lines.Po
 its t c j e = let n : c .until .result - 0 ≡ c .until .result = omega arith in rw n (c .until .ensures .1 j e .front)
 
 others : (t : ℕ) (c : lines-lts.After-until (lines-calls t) (lines-at t) lines.Post) (j : Judged) → c .before .before .before .args .x .now ≡ encode j → take (length (c .before .before .before .args .x .now) - c .until .result) (drop (c .until .result) (c .before .before .before .args .x .now)) ≡ encode (beyond (is-not 2) j)
-others t c j e = whole (c .before .before .before .args .x .now) (c .until .result) ∙ c .until .ensures .1 j e .back
+others t c j e = part-to-end (c .before .before .before .args .x .now) (c .until .result) ∙ c .until .ensures .1 j e .back
 
 -- The room for what they write.
 room : (t : ℕ) (c : lines-lts.After-until (lines-calls t) (lines-at t) lines.Post) → c .until .result + length (text (c .before .before .before .args .back) (beyond (is-not 2) (c .before .before .before .pre .1 .0 .0))) ≤ length (c .before .before .before .args .out .now)

@@ -7,7 +7,7 @@ use native.Mathlib.Omega.{arith}
 use borrow.Author.Needs.{needs}
 use Rattle.tokens.specs.Tokens.{Judged, j-nil, number, tree, plain, encode}
 use Rattle.tokens.specs.Views.{state-of}
-use Rattle.tokens.proofs.Laws.{whole}
+use Rattle.orders.proofs.ListLaws.{part-to-end}
 use Rattle.tokens.proofs.Sequences.{encode-injective}
 use Rattle.spans.specs.Spans.{is, passing, beyond}
 use Rattle.judge.specs.Total.{middle-of, totals}
@@ -41,7 +41,7 @@ its : (t : ℕ) (c : middle-lts.After-span (middle-calls t) (middle-at t) middle
 its t c j e = let n : c .span .result - 0 ≡ c .span .result = omega arith in rw n (c .span .ensures .1 j e .front)
 
 others : (t : ℕ) (c : middle-lts.After-span (middle-calls t) (middle-at t) middle.Post) (j : Judged) → c .before .before .before .before .args .x .now ≡ encode j → take (length (c .before .before .before .before .args .x .now) - c .span .result) (drop (c .span .result) (c .before .before .before .before .args .x .now)) ≡ encode (beyond (is 0) j)
-others t c j e = whole (c .before .before .before .before .args .x .now) (c .span .result) ∙ c .span .ensures .1 j e .back
+others t c j e = part-to-end (c .before .before .before .before .args .x .now) (c .span .result) ∙ c .span .ensures .1 j e .back
 
 -- There is room for what they write, in both.
 room : (t : ℕ) (c : middle-lts.After-span (middle-calls t) (middle-at t) middle.Post) → (c .span .result + length (text (beyond (is 0) (c .before .before .before .before .pre .1 .0 .0))) ≤ length (c .before .before .before .before .args .out .now)) × (length (text (beyond (is 0) (c .before .before .before .before .pre .1 .0 .0))) ≤ length (c .before .before .before .before .args .tmp .now))
