@@ -140,7 +140,7 @@ fn standard(numbers: &[usize], nodes: &[u16], order: &mut [u16]) {
     let c = least(at(numbers, 3), order.len());
     let got = planner::order(n, &nodes[0..a], have, &mut order[0..c]);
     answer(b'S', got);
-    vector_sums::nodes_and(nodes, order);
+    vector_sums::nodes_and_order(nodes, order);
 }
 
 fn tree_text(numbers: &[usize], nodes: &[u16], bytes: &mut [u8]) {

@@ -175,9 +175,11 @@ fn set_byte(text: &mut [u8], i: usize, x: usize) {
 
 // Writes the numbers from a place on to a list of leaves, as many as there is room for, and answers how many.
 pub fn leaves(numbers: &[usize], from: usize, list: &mut [u16]) -> usize
-    requires { ⌜ from ≤ 16 ⌝ }
     ensures { λ r. ⌜ r ≤ length (now (list .entry)) ⌝ }
 {
+    if from > numbers.len() {
+        return 0;
+    }
     let mut i = 0;
     while i < list.len() {
         if from + i >= numbers.len() {
@@ -191,9 +193,11 @@ pub fn leaves(numbers: &[usize], from: usize, list: &mut [u16]) -> usize
 
 // The same, to a text.
 pub fn bytes(numbers: &[usize], from: usize, text: &mut [u8]) -> usize
-    requires { ⌜ from ≤ 16 ⌝ }
     ensures { λ r. ⌜ r ≤ length (now (text .entry)) ⌝ }
 {
+    if from > numbers.len() {
+        return 0;
+    }
     let mut i = 0;
     while i < text.len() {
         if from + i >= numbers.len() {

@@ -6,12 +6,12 @@ mod counts;
 pub use counts::add;
 pub use counts::print;
 
-// Prints the checksums of two tables, and ends the line.
+// Prints the checksums of the two tables, and ends the line. So do the three below.
 pub fn ring(nodes: &[u16], book: &[u64]) {
     sums(sum16(nodes), sum64(book));
 }
 
-pub fn nodes_and(nodes: &[u16], order: &[u16]) {
+pub fn nodes_and_order(nodes: &[u16], order: &[u16]) {
     sums(sum16(nodes), sum16(order));
 }
 
@@ -19,7 +19,7 @@ pub fn nodes_and_text(nodes: &[u16], bytes: &[u8]) {
     sums(sum16(nodes), sum8(bytes));
 }
 
-pub fn book_and(book: &[u64], conflicts: &[u16]) {
+pub fn book_and_conflicts(book: &[u64], conflicts: &[u16]) {
     sums(sum64(book), sum16(conflicts));
 }
 

@@ -74,7 +74,7 @@ fn on_book(letter: u8, numbers: &[usize], book: &[u64], conflicts: &mut [u16]) {
     let c = least(at(numbers, 3), conflicts.len());
     let got = conflict_list(numbers, &book[0..b], &mut conflicts[0..c]);
     vector_commands::answer(letter, got);
-    vector_sums::book_and(book, conflicts);
+    vector_sums::book_and_conflicts(book, conflicts);
 }
 
 // The answer of the call.

@@ -12,17 +12,20 @@ Inv-loop numbers from text₀ i₀ text i = (i ≤ length text) × (length text 
 abbrev μ-loop : tie.MeasureT-loop
 μ-loop numbers from text₀ i₀ text i = length text - i
 
+returns : tie.Need-returns Inv-loop μ-loop
+returns c = search needs
+
 loop-holds : tie.Need-loop-holds Inv-loop μ-loop
 loop-holds c = omega arith
 
-add-if1 : tie.Need-add-if1 Inv-loop μ-loop
-add-if1 c = omega arith
+add-if2 : tie.Need-add-if2 Inv-loop μ-loop
+add-if2 c = omega arith
 
 same-length : tie.Need-same-length Inv-loop μ-loop
 same-length c = search needs
 
-returns : tie.Need-returns Inv-loop μ-loop
-returns c = search needs
+returns-2 : tie.Need-returns-2 Inv-loop μ-loop
+returns-2 c = search needs
 
 add-at : tie.Need-add-at Inv-loop μ-loop
 add-at c = omega arith
@@ -45,8 +48,8 @@ loop-again c = omega arith
 same-length-2 : tie.Need-same-length-2 Inv-loop μ-loop
 same-length-2 c = search needs
 
-returns-2 : tie.Need-returns-2 Inv-loop μ-loop
-returns-2 c = search needs
+returns-3 : tie.Need-returns-3 Inv-loop μ-loop
+returns-3 c = search needs
 
 pub bytes-spec : {M : Type 1} → statement M
 bytes-spec =
@@ -54,10 +57,11 @@ bytes-spec =
     (tie.spec
     Inv-loop
     μ-loop
-    loop-holds
-    add-if1
-    same-length
     returns
+    loop-holds
+    add-if2
+    same-length
+    returns-2
     add-at
     at-requires
     set-byte-requires
@@ -65,4 +69,4 @@ bytes-spec =
     loop-less
     loop-again
     same-length-2
-    returns-2)
+    returns-3)
