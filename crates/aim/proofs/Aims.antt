@@ -19,7 +19,7 @@ use Rattle.calls.specs.declared.Refusal.the-variants.{RingSize, ShortTable, Not
 use Rattle.calls.specs.declared.Answer.the-variants.{Done}
 use Rattle.calls.specs.Book.{book-in-form?}
 use Rattle.calls.specs.NodeTable.{tree-in}
-use Rattle.calls.specs.Refusals.{refuse, down, bad-size, short, short-nodes}
+use Rattle.calls.specs.Refusals.{refuse, first-refusal, bad-size, short, short-nodes}
 use Rattle.calls.specs.Calls.{is-none, of-tree, group-numbered, answered, aim-refusal, aim-call}
 use Rattle.calls.proofs.NodeTables.{tree-in-holds}
 use Rattle.aim.specs.Aims.{AimsInside}
@@ -27,7 +27,7 @@ use Rattle.aim.proofs.Sizes.{group-within}
 use Rattle.aim.proofs.Runs.{aim-inside}
 
 -- Passed checks.
-all-passed : (a b c d f : Bool) → down (refuse a RingSize ∷ refuse b ShortTable ∷ refuse c NotInForm ∷ refuse d NoSuchGroup ∷ refuse f NotConsecutive ∷ []) ≡ none
+all-passed : (a b c d f : Bool) → first-refusal (refuse a RingSize ∷ refuse b ShortTable ∷ refuse c NotInForm ∷ refuse d NoSuchGroup ∷ refuse f NotConsecutive ∷ []) ≡ none
     → (a ≡ false) × (b ≡ false) × (c ≡ false) × (d ≡ false) × (f ≡ false)
 all-passed true b c d f e = absurd (let z : _≡_ {A = ℕ} 0 1 = cc in omega arith)
 all-passed false true c d f e = absurd (let z : _≡_ {A = ℕ} 0 1 = cc in omega arith)
@@ -58,7 +58,7 @@ module _ (n have : ℕ) (nodes book : List ℕ) (count k : ℕ) where
   aims-inside b e = go (tree-in n nodes) refl (done-none (aim-refusal n have nodes book count k) (aim-of (group-numbered book k) (of-tree (tree-in n nodes) standard)) b e)
     where
       go : (o : Option Forest) → tree-in n nodes ≡ o
-          → (down (refuse (bad-size n) RingSize ∷ refuse (short-nodes have nodes || short 384 book) ShortTable ∷ refuse (is-none o || not (book-in-form? n book count)) NotInForm ∷ refuse (eqb k 0 || ltb count k) NoSuchGroup ∷ refuse (not (consecutive? (group-numbered book k) (of-tree o standard))) NotConsecutive ∷ []) ≡ none)
+          → (first-refusal (refuse (bad-size n) RingSize ∷ refuse (short-nodes have nodes || short 384 book) ShortTable ∷ refuse (is-none o || not (book-in-form? n book count)) NotInForm ∷ refuse (eqb k 0 || ltb count k) NoSuchGroup ∷ refuse (not (consecutive? (group-numbered book k) (of-tree o standard))) NotConsecutive ∷ []) ≡ none)
           × (aim-of (group-numbered book k) (of-tree o standard) ≡ b) → group-numbered book k b ≡ true
       go none q d = absurd (true≢false (all-passed (bad-size n) (short-nodes have nodes || short 384 book) true (eqb k 0 || ltb count k) (not (consecutive? (group-numbered book k) [])) (d .0) .2))
       go (some t) q d =

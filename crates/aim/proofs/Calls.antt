@@ -17,14 +17,14 @@ use Rattle.orders.proofs.TextTree.{form-length}
 use Rattle.calls.specs.declared.Refusal.{Refusal}
 use Rattle.calls.specs.declared.Refusal.the-variants.{NoSuchGroup, NotConsecutive}
 use Rattle.calls.specs.declared.Answer.the-variants.{Done, Refused}
-use Rattle.calls.specs.Refusals.{refuse, down}
+use Rattle.calls.specs.Refusals.{refuse, first-refusal}
 use Rattle.calls.specs.Calls.{ring-checks, group-numbered, answered, aim-refusal, aim-call}
 use Rattle.calls.proofs.NodeTables.{tree-in-holds}
 use Rattle.tokens.specs.Tokens.{tree, plain}
 use Rattle.tokens.proofs.Sequences.{tree-plain}
 use Rattle.tokens.proofs.Writes.{read-part}
 use Rattle.checks.specs.Lent.{RingLent}
-use Rattle.checks.proofs.Laws.{down-some, down-none}
+use Rattle.checks.proofs.Laws.{first-refusal-some, first-refusal-none}
 use Rattle.aim.specs.Starts.{aim-in}
 use Rattle.aim.specs.Rings.{Lends, aim-of-group}
 
@@ -49,15 +49,15 @@ order-room h =
 
 -- The checks after the ring's, as the code makes them.
 last-checks : (a b : Bool) (v : ℕ)
-    → answered (down (refuse a NoSuchGroup ∷ refuse (not b) NotConsecutive ∷ [])) v ≡ cond a (Refused NoSuchGroup) (cond b (Done v) (Refused NotConsecutive))
+    → answered (first-refusal (refuse a NoSuchGroup ∷ refuse (not b) NotConsecutive ∷ [])) v ≡ cond a (Refused NoSuchGroup) (cond b (Done v) (Refused NotConsecutive))
 last-checks true b v = refl
 last-checks false true v = refl
 last-checks false false v = refl
 
 module _ (n have : ℕ) (nodes book : List ℕ) (count k : ℕ) where
-  pub aim-refused : (r : Refusal) → down (ring-checks n have nodes book count) ≡ some r → Refused r ≡ aim-call n have nodes book count k
+  pub aim-refused : (r : Refusal) → first-refusal (ring-checks n have nodes book count) ≡ some r → Refused r ≡ aim-call n have nodes book count k
   unfolding aim-call aim-refusal
-  aim-refused r e = rw (down-some (ring-checks n have nodes book count) _ r e)
+  aim-refused r e = rw (first-refusal-some (ring-checks n have nodes book count) _ r e)
 
   module _ {old toks : List ℕ} {m : ℕ} (h : RingLent n have nodes book count old toks m) where
     pub lent-lends : Lends (take (m - 0) (drop 0 toks)) book count
@@ -75,5 +75,5 @@ module _ (n have : ℕ) (nodes book : List ℕ) (count k : ℕ) where
     pub aim-there : aim-of-group book count k (h .tree) ≡ aim-call n have nodes book count k
     unfolding aim-call aim-refusal aim-of-group aim-in
     aim-there =
-        rw (down-none (ring-checks n have nodes book count) _ (h .passes), tree-in-holds n nodes (h .tree) (h .lent .few-leaves) .1 (h .lent .tree))
+        rw (first-refusal-none (ring-checks n have nodes book count) _ (h .passes), tree-in-holds n nodes (h .tree) (h .lent .few-leaves) .1 (h .lent .tree))
         (sym (last-checks (eqb k 0 || ltb count k) (consecutive? (group-numbered book k) (standard (h .tree))) (aim-of (group-numbered book k) (standard (h .tree)))))

@@ -21,7 +21,7 @@ use Rattle.orders.proofs.ListLaws.{all-append, all-map}
 use Rattle.orders.proofs.Contiguous.{L, Contiguous}
 use Rattle.orders.proofs.CircleAndLine.{consecutive-side, uncomplement-out}
 use Rattle.orders.proofs.Decide.{consecutive-decides}
-use Rattle.orders.proofs.Ranges.{count, count-cons, count-append}
+use Rattle.orders.proofs.Numbers.{count, count-cons, count-append}
 use Rattle.aim.proofs.Sizes.{count-in-is}
 
 -- The circle turned to the start of the run.

@@ -8,21 +8,21 @@ use native.Mathlib.Omega.{arith}
 use borrow.Author.Tests.{leb-true}
 use lib.Dec.{leb}
 use lib.ListN.{length, drop, length-take, length-drop}
-use Rattle.orders.specs.Lists.{Pick, here, there, Perm, done, next, range, all-of, same}
+use Rattle.orders.specs.Lists.{Pick, here, there, Rearranged, done, next, numbers-from, all-of, same}
 use Rattle.orders.specs.CircularOrder.{Restriction}
 use Rattle.orders.specs.Tree.{Forest}
 use Rattle.orders.specs.Form.{InForm, standard}
 use Rattle.orders.specs.Aim.{count-in}
-use Rattle.orders.proofs.Perm.{perm-skip}
+use Rattle.orders.proofs.Rearranged.{perm-skip}
 use Rattle.orders.proofs.Members.{all-passed}
-use Rattle.orders.proofs.Ranges.{count, count-cons, count-append, range-append, range-in}
+use Rattle.orders.proofs.Numbers.{count, count-cons, count-append, numbers-append, numbers-in}
 use Rattle.orders.proofs.TextTree.{form-length}
 use Rattle.orders.proofs.Tests.{both, false-if}
 use Rattle.marks.specs.Marks.{marked, leaves-of}
 use Rattle.marks.proofs.Leaves.{marked-leaf}
 use Rattle.calls.specs.Book.{group-words, group-in-form?, book-in-form?}
 use Rattle.book.proofs.Laws.{few-groups}
-use Rattle.aim.specs.Starts.{Within}
+use Rattle.aim.specs.Starts.{GroupWithin}
 
 module _ (G : Restriction) where
   pub count-in-is : (l : List ℕ) → count-in G l ≡ count G l
@@ -37,18 +37,18 @@ module _ (G : Restriction) where
   pick-count (here {x = x} {l = l}) = count-cons G x l
   pick-count (there {x = x} {y = y} {l = l} {m = m} p) = omega (arith, count-cons G y l, count-cons G y m, pick-count p)
 
-  pub perm-count : {l m : List ℕ} → Perm l m → count G l ≡ count G m
+  pub perm-count : {l m : List ℕ} → Rearranged l m → count G l ≡ count G m
   perm-count done = refl
   perm-count (next {x = x} {m = m} p q) = omega (arith, pick-count p, count-cons G x m, perm-count q)
 
-  count-past : (a k : ℕ) → ((x : ℕ) → a ≤ x → G x ≡ false) → count G (range a k) ≡ 0
+  count-past : (a k : ℕ) → ((x : ℕ) → a ≤ x → G x ≡ false) → count G (numbers-from a k) ≡ 0
   count-past a zero h = refl
   count-past a (suc k) h =
       let first : _≡_ {A = ℕ} (cond (G a) 1 0) 0 = rw (h a (omega arith)) in
-      omega (arith, count-cons G a (range (suc a) k), count-past (suc a) k (λ x l. h x (omega arith)))
+      omega (arith, count-cons G a (numbers-from (suc a) k), count-past (suc a) k (λ x l. h x (omega arith)))
 
 -- The standard order has the leaves 1 to n.
-pub all-standard : (n : ℕ) (t : Forest) → InForm n t → 1 ≤ n → Perm (range 1 n) (standard t)
+pub all-standard : (n : ℕ) (t : Forest) → InForm n t → 1 ≤ n → Rearranged (numbers-from 1 n) (standard t)
 all-standard zero t f h = absurd (omega arith)
 all-standard (suc n) t f h = perm-skip 1 (f .all-leaves)
 
@@ -63,8 +63,8 @@ size-in n t ws f h l e =
     let G = marked ws in
     let k = 64 * length ws - n in
     let s : 64 * length ws ≡ n + k = omega arith in
-    let r : count G (range 1 (64 * length ws)) ≡ count G (range 1 n) + count G (range (1 + n) k) =
-    ap (λ j. count G (range 1 j)) s ∙ ap (count G) (range-append 1 n k) ∙ count-append G (range 1 n) (range (1 + n) k) in
+    let r : count G (numbers-from 1 (64 * length ws)) ≡ count G (numbers-from 1 n) + count G (numbers-from (1 + n) k) =
+    ap (λ j. count G (numbers-from 1 j)) s ∙ ap (count G) (numbers-append 1 n k) ∙ count-append G (numbers-from 1 n) (numbers-from (1 + n) k) in
     omega (arith, count-in-is G (standard t), perm-count G (all-standard n t f h), r, count-past G (1 + n) k (λ x m. past-n ws n e x (omega arith)))
 
 some-leaf : (l : List ℕ) → not (same l []) ≡ true → 1 ≤ length l
@@ -74,11 +74,11 @@ some-leaf (x ∷ l) e = omega arith
 group-form : (n : ℕ) (book : List ℕ) (count k : ℕ) → book-in-form? n book count ≡ true → k < count → group-in-form? n (group-words book k) ≡ true
 unfolding book-in-form?
 group-form n book count k e l =
-    all-passed (λ i. group-in-form? n (group-words book i)) (range 0 count) .0 (both Iff·rfl Iff·rfl .0 (both {a = leb count 96} Iff·rfl Iff·rfl .0 e .1) .0) k (range-in 0 count k (omega arith) (omega arith))
+    all-passed (λ i. group-in-form? n (group-words book i)) (numbers-from 0 count) .0 (both Iff·rfl Iff·rfl .0 (both {a = leb count 96} Iff·rfl Iff·rfl .0 e .1) .0) k (numbers-in 0 count k (omega arith) (omega arith))
 
 -- The book's group at place k, and the standard order.
 pub group-within : (n : ℕ) (t : Forest) (book : List ℕ) (count k : ℕ) → InForm n t → 1 ≤ n → n ≤ 256 → 384 ≤ length book
-    → book-in-form? n book count ≡ true → k < count → Within (group-words book k) (standard t)
+    → book-in-form? n book count ≡ true → k < count → GroupWithin (group-words book k) (standard t)
 group-within n t book count k f h l w e m =
     let c = few-groups n book count e in
     let g = both {a = not (same (leaves-of (group-words book k)) [])} Iff·rfl Iff·rfl .0 (group-form n book count k e m) in

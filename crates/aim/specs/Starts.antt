@@ -22,7 +22,7 @@ starts G b [] = 0
 starts G b (x ∷ xs) = cond (enters G b x) (suc (starts G x xs)) (starts G x xs)
 
 -- The four words of a group that has a leaf and whose leaves all stand in the order.
-pub record Within (words order : List ℕ) : Type 0 where
+pub record GroupWithin (words order : List ℕ) : Type 0 where
   pub four : length words ≡ 4
   pub some-leaf : 1 ≤ length (leaves-of words)
   pub all-leaves : count-in (marked words) order ≡ length (leaves-of words)

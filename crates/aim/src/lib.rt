@@ -8,7 +8,7 @@ ghost use Rattle.orders.specs.Aim.{start-after, aim-of};
 ghost use Rattle.marks.specs.Marks.{marked};
 ghost use Rattle.tokens.specs.Tokens.{plain, encode};
 ghost use Rattle.calls.specs.Calls.{aim-call};
-ghost use Rattle.aim.specs.Starts.{enters, starts, Within, aim-in};
+ghost use Rattle.aim.specs.Starts.{enters, starts, GroupWithin, aim-in};
 ghost use Rattle.aim.specs.Rings.{Lends, aim-of-group};
 use calls::Answer;
 use calls::Refusal;
@@ -64,7 +64,7 @@ fn is_consecutive(words: &[u64], order: &[u16]) -> bool
 
 // The leaf in the middle of the run of marked leaves, the first one of two.
 pub fn middle(words: &[u64], order: &[u16]) -> usize
-    requires { ⌜ Within (now words) (now order) ⌝ }
+    requires { ⌜ GroupWithin (now words) (now order) ⌝ }
     ensures { λ r. ⌜ r ≡ aim-of (marked (now (words .entry))) (now (order .entry)) ⌝ }
 {
     let last = order[order.len() - 1];
@@ -75,7 +75,7 @@ pub fn middle(words: &[u64], order: &[u16]) -> usize
 
 // The aim of the group with these marks, or that it is not consecutive.
 fn aim_in(words: &[u64], order: &[u16]) -> Answer
-    requires { ⌜ Within (now words) (now order) ⌝ }
+    requires { ⌜ GroupWithin (now words) (now order) ⌝ }
     ensures { λ r. ⌜ r ≡ aim-in (marked (now (words .entry))) (now (order .entry)) ⌝ }
 {
     if is_consecutive(words, order) {

@@ -17,13 +17,13 @@ use Rattle.update.specs.declared.Updated.the-variants.{Impossible, Tokens}
 use Rattle.update.specs.Update.{Answers, written}
 use Rattle.calls.specs.declared.Refusal.{Refusal}
 use Rattle.calls.specs.declared.Refusal.the-variants.{BookFull, Impossible as Not-possible}
-use Rattle.calls.specs.Refusals.{refuse, down, list-checks}
+use Rattle.calls.specs.Refusals.{refuse, first-refusal, list-checks}
 use Rattle.calls.specs.Calls.{is-none, ring-checks, joined-tree, join-refusal}
 use Rattle.calls.proofs.NodeTables.{tree-in-holds}
 use Rattle.calls.proofs.Demands.{passes-iff}
 use Rattle.book.proofs.Laws.{few-groups}
 use Rattle.checks.specs.Lent.{RingLent}
-use Rattle.checks.proofs.Laws.{down-some, down-none}
+use Rattle.checks.proofs.Laws.{first-refusal-some, first-refusal-none}
 use Rattle.attempts.specs.declared.Tried.{Tried}
 use Rattle.attempts.specs.declared.Tried.the-variants.{Joined, Refused}
 use Rattle.attempts.specs.Attempts.{group-refusal, JoinedTree, AttemptsOn, Attempts}
@@ -32,18 +32,18 @@ module _ (t : Forest) (n count : ℕ) (list : List ℕ) where
   abbrev after-list : List (Option Refusal)
   after-list = refuse (eqb count 96) BookFull ∷ refuse (is-none (join (elem list) t)) Not-possible ∷ []
 
-  pub list-refused : (r : Refusal) → down (list-checks n list) ≡ some r → group-refusal t n count list ≡ some r
+  pub list-refused : (r : Refusal) → first-refusal (list-checks n list) ≡ some r → group-refusal t n count list ≡ some r
   unfolding group-refusal
-  list-refused r e = down-some (list-checks n list) after-list r e
+  list-refused r e = first-refusal-some (list-checks n list) after-list r e
 
-  module _ (e : down (list-checks n list) ≡ none) where
+  module _ (e : first-refusal (list-checks n list) ≡ none) where
     pub full-refused : count ≡ 96 → group-refusal t n count list ≡ some BookFull
     unfolding group-refusal
-    full-refused q = down-none (list-checks n list) after-list e ∙ ap (λ b. down (refuse b BookFull ∷ refuse (is-none (join (elem list) t)) Not-possible ∷ [])) (eq-eqb count 96 q)
+    full-refused q = first-refusal-none (list-checks n list) after-list e ∙ ap (λ b. first-refusal (refuse b BookFull ∷ refuse (is-none (join (elem list) t)) Not-possible ∷ [])) (eq-eqb count 96 q)
 
-    judged : (count ≡ 96 → ⊥) → group-refusal t n count list ≡ down (refuse (is-none (join (elem list) t)) Not-possible ∷ [])
+    judged : (count ≡ 96 → ⊥) → group-refusal t n count list ≡ first-refusal (refuse (is-none (join (elem list) t)) Not-possible ∷ [])
     unfolding group-refusal
-    judged q = down-none (list-checks n list) after-list e ∙ ap (λ b. down (refuse b BookFull ∷ refuse (is-none (join (elem list) t)) Not-possible ∷ [])) (ne-eqb count 96 q)
+    judged q = first-refusal-none (list-checks n list) after-list e ∙ ap (λ b. first-refusal (refuse b BookFull ∷ refuse (is-none (join (elem list) t)) Not-possible ∷ [])) (ne-eqb count 96 q)
 
     -- The marks of the list are its leaves.
     marks-are : (words : List ℕ) → n ≤ 256 → words ≡ words-of 4 (elem list) → marked words ≡ elem list
@@ -53,7 +53,7 @@ module _ (t : Forest) (n count : ℕ) (list : List ℕ) where
         → group-refusal t n count list ≡ some Not-possible
     none-joined words old new h w q a = judged q ∙ go (join (elem list) t) (subst (λ G. Answers (join G t) old new Impossible) (marks-are words h w) a)
       where
-        go : (o : Option Forest) → Answers o old new Impossible → down (refuse (is-none o) Not-possible ∷ []) ≡ some Not-possible
+        go : (o : Option Forest) → Answers o old new Impossible → first-refusal (refuse (is-none o) Not-possible ∷ []) ≡ some Not-possible
         go none a = refl
 
     pub one-joined : (words old new : List ℕ) (k : ℕ) → n ≤ 256 → words ≡ words-of 4 (elem list) → (count ≡ 96 → ⊥) → Answers (join (marked words) t) old new (Tokens k)
@@ -61,16 +61,16 @@ module _ (t : Forest) (n count : ℕ) (list : List ℕ) where
     one-joined words old new k h w q a = go (join (elem list) t) refl (subst (λ G. Answers (join G t) old new (Tokens k)) (marks-are words h w) a)
       where
         go : (o : Option Forest) → join (elem list) t ≡ o → Answers o old new (Tokens k) → JoinedTree t n count list old new k
-        go (some u) p (written x) = record { passes = judged q ∙ ap (λ o. down (refuse (is-none o) Not-possible ∷ [])) p; not-full = q; tree = u; is = p; wrote = x }
+        go (some u) p (written x) = record { passes = judged q ∙ ap (λ o. first-refusal (refuse (is-none o) Not-possible ∷ [])) p; not-full = q; tree = u; is = p; wrote = x }
 
 -- On lent tables.
 module _ (n have : ℕ) (nodes book : List ℕ) (count : ℕ) (list : List ℕ) where
   abbrev after-ring : List (Option Refusal)
   after-ring = list-checks n list ++ (refuse (eqb count 96) BookFull ∷ refuse (is-none (joined-tree n nodes list)) Not-possible ∷ [])
 
-  pub ring-refused : (r : Refusal) → down (ring-checks n have nodes book count) ≡ some r → join-refusal n have nodes book count list ≡ some r
+  pub ring-refused : (r : Refusal) → first-refusal (ring-checks n have nodes book count) ≡ some r → join-refusal n have nodes book count list ≡ some r
   unfolding join-refusal
-  ring-refused r e = down-some (ring-checks n have nodes book count) after-ring r e
+  ring-refused r e = first-refusal-some (ring-checks n have nodes book count) after-ring r e
 
   module _ (old toks : List ℕ) (m : ℕ) (h : RingLent n have nodes book count old toks m) where
     tree-is : joined-tree n nodes list ≡ join (elem list) (h .tree)
@@ -80,8 +80,8 @@ module _ (n have : ℕ) (nodes book : List ℕ) (count : ℕ) (list : List ℕ) 
     refusal-is : join-refusal n have nodes book count list ≡ group-refusal (h .tree) n count list
     unfolding join-refusal group-refusal
     refusal-is =
-        down-none (ring-checks n have nodes book count) after-ring (h .passes)
-        ∙ ap (λ o. down (list-checks n list ++ (refuse (eqb count 96) BookFull ∷ refuse (is-none o) Not-possible ∷ []))) tree-is
+        first-refusal-none (ring-checks n have nodes book count) after-ring (h .passes)
+        ∙ ap (λ o. first-refusal (list-checks n list ++ (refuse (eqb count 96) BookFull ∷ refuse (is-none o) Not-possible ∷ []))) tree-is
 
     pub attempt-is : (out new : List ℕ) (x : Tried) → AttemptsOn (h .tree) n count list out new x → Attempts n have nodes book count list out new x
     attempt-is out new (Refused r) a = refusal-is ∙ a

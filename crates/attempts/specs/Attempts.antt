@@ -14,7 +14,7 @@ use Rattle.tokens.specs.Tokens.{Wrote}
 use Rattle.parts.specs.Writers.{flat}
 use Rattle.calls.specs.declared.Refusal.{Refusal}
 use Rattle.calls.specs.declared.Refusal.the-variants.{BookFull, Impossible}
-use Rattle.calls.specs.Refusals.{refuse, down, list-checks}
+use Rattle.calls.specs.Refusals.{refuse, first-refusal, list-checks}
 use Rattle.calls.specs.Calls.{is-none, joined-tree, join-refusal}
 use Rattle.attempts.specs.declared.Tried.{Tried}
 use Rattle.attempts.specs.declared.Tried.the-variants.{Joined, Refused}
@@ -22,7 +22,7 @@ use Rattle.attempts.specs.declared.Tried.the-variants.{Joined, Refused}
 -- Checks 4 to 8, for a tree t.
 unfoldable pub group-refusal : Forest → ℕ → ℕ → List ℕ → Option Refusal
 group-refusal t n count list =
-    down (list-checks n list ++ (refuse (eqb count 96) BookFull ∷ refuse (is-none (join (elem list) t)) Impossible ∷ []))
+    first-refusal (list-checks n list ++ (refuse (eqb count 96) BookFull ∷ refuse (is-none (join (elem list) t)) Impossible ∷ []))
 
 pub record JoinedTree (t : Forest) (n count : ℕ) (list old new : List ℕ) (k : ℕ) : Type 0 where
   pub passes : group-refusal t n count list ≡ none

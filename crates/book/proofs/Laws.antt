@@ -13,7 +13,7 @@ use lib.Dec.{eqb, ltb, leb}
 use borrow.Rule.Slice.PartMut.{putMid}
 use lib.ListN.{length, getD, take, drop, replicate, length-take, length-drop, length-replicate, List·getD-eq-default}
 use lib.Seq.{getD-take, getD-drop, drop-drop}
-use Rattle.orders.specs.Lists.{range, same, all-of}
+use Rattle.orders.specs.Lists.{numbers-from, same, all-of}
 use Rattle.orders.specs.CircularOrder.{Restriction}
 use Rattle.marks.specs.Marks.{words-of, leaves-of, no-leaf}
 use Rattle.marks.proofs.Words.{Words, no-words}
@@ -65,7 +65,7 @@ part-words m d ws v i = go (ltb i m) refl
     go true q = rw (getD-take m (drop d ws) i 0 (ltb-true i m q), getD-drop d ws i 0) (v (d + i))
     go false q = rw (List·getD-eq-default (take m (drop d ws)) 0 {n = i} (omega (arith, length-take m (drop d ws), ltb-false i m q))) (pow-pos 64)
 
-pub groups-all : (n : ℕ) (book : List ℕ) (count : ℕ) → groups-in-form? n book 0 count ≡ all-of (λ k. group-in-form? n (group-words book k)) (range 0 count)
+pub groups-all : (n : ℕ) (book : List ℕ) (count : ℕ) → groups-in-form? n book 0 count ≡ all-of (λ k. group-in-form? n (group-words book k)) (numbers-from 0 count)
 unfolding groups-in-form?
 groups-all n book count = let e : count - 0 ≡ count = omega arith in rw e
 

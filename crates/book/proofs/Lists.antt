@@ -16,7 +16,7 @@ use Rattle.marks.specs.Marks.{marked, words-of, with-leaf, no-leaf}
 use Rattle.marks.proofs.Words.{marked-words, no-words}
 use Rattle.calls.specs.declared.Refusal.{Refusal}
 use Rattle.calls.specs.declared.Refusal.the-variants.{EmptyGroup, OutsideRing, Repeated}
-use Rattle.calls.specs.Refusals.{down, bad-leaf, list-checks}
+use Rattle.calls.specs.Refusals.{first-refusal, bad-leaf, list-checks}
 use Rattle.book.specs.Lists.{Seen}
 
 pub leaf-none : (n : ℕ) (s : List ℕ) (k : ℕ) (l : List ℕ) → length l ≡ 0 → none ≡ bad-leaf n s k l
@@ -60,14 +60,14 @@ pub seen-none : (k n : ℕ) → n ≤ 64 * k → Seen n (replicate k 0) []
 seen-none k n h x l m = subst (λ ws. marked ws x ≡ false) (no-words k) (marked-words k no-leaf x l (omega arith))
 
 -- Checks 4, 5 and 6 together.
-pub checks-empty : (n : ℕ) (l : List ℕ) → length l ≡ 0 → some EmptyGroup ≡ down (list-checks n l)
+pub checks-empty : (n : ℕ) (l : List ℕ) → length l ≡ 0 → some EmptyGroup ≡ first-refusal (list-checks n l)
 checks-empty n [] e = refl
 checks-empty n (b ∷ l) e = absurd (omega arith)
 
-pub checks-leaves : (n : ℕ) (l : List ℕ) → length l ≢ 0 → bad-leaf n [] 0 l ≡ down (list-checks n l)
+pub checks-leaves : (n : ℕ) (l : List ℕ) → length l ≢ 0 → bad-leaf n [] 0 l ≡ first-refusal (list-checks n l)
 checks-leaves n [] h = absurd (h refl)
 checks-leaves n (b ∷ l) h = last (bad-leaf n [] 0 (b ∷ l))
   where
-    last : (r : Option Refusal) → r ≡ down (r ∷ [])
+    last : (r : Option Refusal) → r ≡ first-refusal (r ∷ [])
     last none = refl
     last (some r) = refl

@@ -2,9 +2,9 @@
 use mathlib.Core.Bool.{Bool}
 use mathlib.Core.List.{List}
 use Prim.Native.Nat.{ℕ, _-_}
-use Rattle.orders.specs.Lists.{range, all-of}
+use Rattle.orders.specs.Lists.{numbers-from, all-of}
 use Rattle.calls.specs.Book.{group-words, group-in-form?}
 
 -- The groups from place k up to the count are in form.
 unfoldable pub groups-in-form? : ℕ → List ℕ → ℕ → ℕ → Bool
-groups-in-form? n book k count = all-of (λ i. group-in-form? n (group-words book i)) (range k (count - k))
+groups-in-form? n book k count = all-of (λ i. group-in-form? n (group-words book i)) (numbers-from k (count - k))

@@ -4,7 +4,7 @@ ghost use Prim.Native.Nat.{ℕ, _≤_, _<_, _+_, _^_};
 ghost use lib.ListN.{length};
 ghost use mathlib.Core.List.{List, []};
 ghost use Rattle.orders.specs.Lists.{elem};
-ghost use Rattle.calls.specs.Refusals.{down, bad-leaf, list-checks};
+ghost use Rattle.calls.specs.Refusals.{first-refusal, bad-leaf, list-checks};
 ghost use Rattle.calls.specs.Book.{group-in-form?, book-in-form?, booked, emptied};
 ghost use Rattle.book.specs.Groups.{groups-in-form?};
 ghost use Rattle.book.specs.Lists.{verdict, Seen};
@@ -100,7 +100,7 @@ fn bad_leaf(list: &[u16], n: usize, k: usize, seen: &mut [u64]) -> Checked
 // Checks 4, 5 and 6: whether the list is a group of a ring with n leaves.
 pub fn check_list(list: &[u16], n: usize) -> Checked
     requires { ⌜ n ≤ 256 ⌝ }
-    ensures { λ r. ⌜ verdict r ≡ down (list-checks n (now (list .entry))) ⌝ }
+    ensures { λ r. ⌜ verdict r ≡ first-refusal (list-checks n (now (list .entry))) ⌝ }
 {
     if list.len() == 0 {
         return Checked::Bad(Refusal::EmptyGroup);

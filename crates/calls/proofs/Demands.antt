@@ -26,7 +26,7 @@ use Rattle.calls.specs.declared.Answer.the-variants.{Done, Refused}
 use Rattle.calls.specs.Tables.{over}
 use Rattle.calls.specs.Book.{book-in-form?}
 use Rattle.calls.specs.NodeTable.{Holds, table-of, tree-in}
-use Rattle.calls.specs.Refusals.{refuse, down, bad-size, short, short-nodes, bad-leaf, list-checks}
+use Rattle.calls.specs.Refusals.{refuse, first-refusal, bad-size, short, short-nodes, bad-leaf, list-checks}
 use Rattle.calls.specs.Calls.{is-none, joined-tree, join-refusal, joined, join-call, order-refusal, order-call}
 use Rattle.calls.specs.Demands.{LentTree, LentRing, ImpossibleIff, NewTree, Joins}
 use Rattle.calls.proofs.NodeTables.{tree-in-holds, over-holds}
@@ -51,7 +51,7 @@ leaves-fine n seen k [] r d a = refl
 leaves-fine n seen k (b ∷ l) r d a =
     rw (ne-eqb b 0 (λ e. omega (arith, r .0 .0)), le-ltb n b (r .0 .1), a .0) (leaves-fine n (b ∷ seen) (suc k) l (r .1) (d .1) (new-more seen b l (a .1) (d .0)))
 
-pub well-formed-passes : (n : ℕ) (l : List ℕ) → WellFormed n l → down (list-checks n l) ≡ none
+pub well-formed-passes : (n : ℕ) (l : List ℕ) → WellFormed n l → first-refusal (list-checks n l) ≡ none
 well-formed-passes n [] w = absurd (omega (arith, w .some-leaf))
 well-formed-passes n (b ∷ l) w = rw (leaves-fine n [] 0 (b ∷ l) (w .in-range) (w .different) (new-none (b ∷ l)))
 
@@ -84,14 +84,14 @@ leaves-are n seen k (b ∷ l) e = go (leaves-are n (b ∷ seen) (suc k) l) (eqb 
     go more false z false q true r e = absurd (let i : _≡_ {A = ℕ} 0 1 = cc in omega arith)
     go more false z false q false r e = fine-more n seen b l z q r (more e)
 
-pub passes-iff : (n : ℕ) (l : List ℕ) → (down (list-checks n l) ≡ none) ↔ WellFormed n l
+pub passes-iff : (n : ℕ) (l : List ℕ) → (first-refusal (list-checks n l) ≡ none) ↔ WellFormed n l
 passes-iff n l = (from l, well-formed-passes n l)
   where
-    from : (l : List ℕ) → down (list-checks n l) ≡ none → WellFormed n l
+    from : (l : List ℕ) → first-refusal (list-checks n l) ≡ none → WellFormed n l
     from [] e = absurd (let i : _≡_ {A = ℕ} 0 1 = cc in omega arith)
     from (b ∷ l) e = let f = leaves-are n [] 0 (b ∷ l) (last (bad-leaf n [] 0 (b ∷ l)) e) in record { some-leaf = omega arith; in-range = f .0; different = f .1 }
       where
-        last : (r : Option Refusal) → down (r ∷ []) ≡ none → r ≡ none
+        last : (r : Option Refusal) → first-refusal (r ∷ []) ≡ none → r ≡ none
         last none e = refl
         last (some r) e = absurd (let i : _≡_ {A = ℕ} 0 1 = cc in omega arith)
 
@@ -111,14 +111,14 @@ module _ (n have : ℕ) (nodes book : List ℕ) (count : ℕ) (list : List ℕ) 
   unfolding joined-tree
   the-joined = rw the-tree
 
-  after-checks : (cs : List (Option Refusal)) → down (list-checks n list ++ cs) ≡ down cs
+  after-checks : (cs : List (Option Refusal)) → first-refusal (list-checks n list ++ cs) ≡ first-refusal cs
   after-checks cs = go list w
     where
-      go : (l : List ℕ) → WellFormed n l → down (list-checks n l ++ cs) ≡ down cs
+      go : (l : List ℕ) → WellFormed n l → first-refusal (list-checks n l ++ cs) ≡ first-refusal cs
       go [] w = absurd (omega (arith, w .some-leaf))
       go (b ∷ l) w = rw (leaves-fine n [] 0 (b ∷ l) (w .in-range) (w .different) (new-none (b ∷ l)))
 
-  the-refusal : join-refusal n have nodes book count list ≡ down (refuse (is-none (join (elem list) t)) Impossible ∷ [])
+  the-refusal : join-refusal n have nodes book count list ≡ first-refusal (refuse (is-none (join (elem list) t)) Impossible ∷ [])
   unfolding join-refusal
   the-refusal =
       rw (
@@ -143,7 +143,7 @@ module _ (n have : ℕ) (nodes book : List ℕ) (count : ℕ) (list : List ℕ) 
       t-form = h .lent .tree .in-form
 
       by-answer : (o : Option Forest) → join G t ≡ o
-          → Joins n G t (joined (down (refuse (is-none o) Impossible ∷ [])) o nodes book count list .answer) (joined (down (refuse (is-none o) Impossible ∷ [])) o nodes book count list .nodes)
+          → Joins n G t (joined (first-refusal (refuse (is-none o) Impossible ∷ [])) o nodes book count list .answer) (joined (first-refusal (refuse (is-none o) Impossible ∷ [])) o nodes book count list .nodes)
       by-answer none e = record { impossible = (λ q. join-none n G t t-form .0 e, λ q. refl); otherwise = λ q. absurd (q refl) }
       by-answer (some u) e =
           let j = join-some n G t u t-form e in

@@ -23,7 +23,7 @@ use Rattle.calls.specs.declared.Answer.the-variants.{Done, Refused}
 use Rattle.calls.specs.Tables.{over, padded}
 use Rattle.calls.specs.Book.{group-words, groups, book-in-form?, booked, emptied}
 use Rattle.calls.specs.NodeTable.{table-of, tree-in}
-use Rattle.calls.specs.Refusals.{refuse, down, bad-size, short, short-nodes, list-checks}
+use Rattle.calls.specs.Refusals.{refuse, first-refusal, bad-size, short, short-nodes, list-checks}
 
 -- A call that may change a ring's tables: its answer, and the tables afterwards.
 pub record Ring : Type 0 where
@@ -65,7 +65,7 @@ with-tree (some t) nodes = over (table-of t) nodes
 
 -- Opening: checks 1 and 2; the fresh ring, an empty book. Answers the count of the book's groups, 0.
 unfoldable pub open-refusal : ℕ → ℕ → List ℕ → List ℕ → Option Refusal
-open-refusal n have nodes book = down (table-checks n have nodes (short 384 book))
+open-refusal n have nodes book = first-refusal (table-checks n have nodes (short 384 book))
 
 unfoldable pub opened : Option Refusal → ℕ → List ℕ → List ℕ → Ring
 opened (some r) n nodes book = ring (Refused r) nodes book
@@ -80,7 +80,7 @@ joined-tree n nodes list = then (tree-in n nodes) (join (elem list))
 
 unfoldable pub join-refusal : ℕ → ℕ → List ℕ → List ℕ → ℕ → List ℕ → Option Refusal
 join-refusal n have nodes book count list =
-    down
+    first-refusal
     (ring-checks n have nodes book count
     ++ (list-checks n list ++ (refuse (eqb count 96) BookFull ∷ refuse (is-none (joined-tree n nodes list)) Impossible ∷ [])))
 
@@ -108,14 +108,14 @@ of-tree (some t) f = f t
 
 -- The standard order: checks 1, 2 (n places for the order), 3. Answers n.
 unfoldable pub order-refusal : ℕ → ℕ → List ℕ → List ℕ → Option Refusal
-order-refusal n have nodes order = down (tree-checks n have nodes (short n order))
+order-refusal n have nodes order = first-refusal (tree-checks n have nodes (short n order))
 
 unfoldable pub order-call : ℕ → ℕ → List ℕ → List ℕ → Filled
 order-call n have nodes order = filled (order-refusal n have nodes order) n (of-tree (tree-in n nodes) standard) order
 
 -- The tree text, written: checks 1, 2 (2,048 bytes), 3. Answers the length.
 unfoldable pub write-refusal : ℕ → ℕ → List ℕ → List ℕ → Option Refusal
-write-refusal n have nodes bytes = down (tree-checks n have nodes (short 2048 bytes))
+write-refusal n have nodes bytes = first-refusal (tree-checks n have nodes (short 2048 bytes))
 
 unfoldable pub write-call : ℕ → ℕ → List ℕ → List ℕ → Filled
 write-call n have nodes bytes =
@@ -136,7 +136,7 @@ group-numbered book k = marked (group-words book (k - 1))
 
 unfoldable pub aim-refusal : ℕ → ℕ → List ℕ → List ℕ → ℕ → ℕ → Option Refusal
 aim-refusal n have nodes book count k =
-    down
+    first-refusal
     (ring-checks n have nodes book count
     ++ (refuse (eqb k 0 || ltb count k) NoSuchGroup
     ∷ refuse (not (consecutive? (group-numbered book k) (of-tree (tree-in n nodes) standard))) NotConsecutive
@@ -153,7 +153,7 @@ aim-call n have nodes book count k =
 -- "A conflict call reads n, the book and a group, and makes checks 1 to 6." The list's 96 places are filled; answers the count of numbers.
 unfoldable pub conflict-refusal : ℕ → List ℕ → ℕ → List ℕ → List ℕ → Option Refusal
 conflict-refusal n book count list conflicts =
-    down
+    first-refusal
     (refuse (bad-size n) RingSize
     ∷ refuse (short 384 book || short 96 conflicts) ShortTable
     ∷ refuse (not (book-in-form? n book count)) NotInForm

@@ -8,7 +8,7 @@ use lib.ListN.{length}
 use Rattle.orders.specs.Tree.{Forest}
 use Rattle.tokens.specs.Tokens.{plain, encode, Wrote}
 use Rattle.calls.specs.Book.{book-in-form?}
-use Rattle.calls.specs.Refusals.{down}
+use Rattle.calls.specs.Refusals.{first-refusal}
 use Rattle.calls.specs.Calls.{tree-checks, ring-checks}
 use Rattle.calls.specs.Demands.{LentTree}
 use Rattle.checks.specs.declared.Lent.{Lent}
@@ -23,7 +23,7 @@ pub record TableLent (n have : ℕ) (nodes : List ℕ) (other : Bool) : Type 0 w
   pub long : other ≡ false
 
 pub record TreeLent (n have : ℕ) (nodes : List ℕ) (other : Bool) (old new : List ℕ) (k : ℕ) : Type 0 where
-  pub passes : down (tree-checks n have nodes other) ≡ none
+  pub passes : first-refusal (tree-checks n have nodes other) ≡ none
   pub long : other ≡ false
   pub tree : Forest
   pub lent : LentTree n have nodes tree
@@ -31,10 +31,10 @@ pub record TreeLent (n have : ℕ) (nodes : List ℕ) (other : Bool) (old new : 
 
 abbrev pub LendsTree : ℕ → ℕ → List ℕ → Bool → List ℕ → List ℕ → Lent → Type 0
 LendsTree n have nodes other old new (Tree k) = TreeLent n have nodes other old new k
-LendsTree n have nodes other old new (Refused r) = down (tree-checks n have nodes other) ≡ some r
+LendsTree n have nodes other old new (Refused r) = first-refusal (tree-checks n have nodes other) ≡ some r
 
 pub record RingLent (n have : ℕ) (nodes book : List ℕ) (count : ℕ) (old new : List ℕ) (k : ℕ) : Type 0 where
-  pub passes : down (ring-checks n have nodes book count) ≡ none
+  pub passes : first-refusal (ring-checks n have nodes book count) ≡ none
   pub all-words : 384 ≤ length book
   pub groups : book-in-form? n book count ≡ true
   pub tree : Forest
@@ -43,4 +43,4 @@ pub record RingLent (n have : ℕ) (nodes book : List ℕ) (count : ℕ) (old ne
 
 abbrev pub LendsRing : ℕ → ℕ → List ℕ → List ℕ → ℕ → List ℕ → List ℕ → Lent → Type 0
 LendsRing n have nodes book count old new (Tree k) = RingLent n have nodes book count old new k
-LendsRing n have nodes book count old new (Refused r) = down (ring-checks n have nodes book count) ≡ some r
+LendsRing n have nodes book count old new (Refused r) = first-refusal (ring-checks n have nodes book count) ≡ some r

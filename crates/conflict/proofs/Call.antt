@@ -9,7 +9,7 @@ use borrow.Author.Tests.{ne-eqb, le-ltb, eqb-false, ltb-false}
 use lib.Dec.{eqb, ltb}
 use lib.ListN.{length, take, drop, replicate, length-append, length-replicate}
 use lib.Seq.{take-append-seam}
-use Rattle.orders.specs.Lists.{elem, range}
+use Rattle.orders.specs.Lists.{elem, numbers-from}
 use Rattle.orders.specs.CircularOrder.{Restriction, WellFormed}
 use Rattle.orders.specs.Conflict.{conflict-list, Numbers}
 use Rattle.orders.proofs.Conflicts.{conflict-demand-3}
@@ -19,7 +19,7 @@ use Rattle.calls.specs.declared.Answer.{Answer}
 use Rattle.calls.specs.declared.Answer.the-variants.{Done, Refused}
 use Rattle.calls.specs.Tables.{over, padded}
 use Rattle.calls.specs.Book.{groups, book-in-form?}
-use Rattle.calls.specs.Refusals.{refuse, down, bad-size, list-checks}
+use Rattle.calls.specs.Refusals.{refuse, first-refusal, bad-size, list-checks}
 use Rattle.calls.specs.Calls.{Filled, filled-as, conflict-refusal, conflicts-of, conflict-call}
 use Rattle.calls.proofs.Demands.{passes-iff}
 use Rattle.book.specs.declared.Checked.{Checked}
@@ -41,7 +41,7 @@ module _ (n : ℕ) (book : List ℕ) (count : ℕ) (list table : List ℕ) where
     where
       go : (a : Bool) → eqb n 0 ≡ a → (b : Bool) → ltb 256 n ≡ b → (c : Bool) → ltb (length book) 384 ≡ c → (d : Bool) → ltb (length table) 96 ≡ d
           → (f : Bool) → book-in-form? n book count ≡ f
-          → down (refuse (a || b) RingSize ∷ (refuse (c || d) ShortTable ∷ (refuse (not f) NotInForm ∷ list-checks n list))) ≡ none
+          → first-refusal (refuse (a || b) RingSize ∷ (refuse (c || d) ShortTable ∷ (refuse (not f) NotInForm ∷ list-checks n list))) ≡ none
           → LentBook n book count list table
       go true p b q c r d s f w e = absurd (let i : _≡_ {A = ℕ} 0 1 = cc in omega arith)
       go false p true q c r d s f w e = absurd (let i : _≡_ {A = ℕ} 0 1 = cc in omega arith)
@@ -71,7 +71,7 @@ module _ (n : ℕ) (book : List ℕ) (count : ℕ) (list table : List ℕ) where
 
 -- The whole list.
 pub list-is : (n : ℕ) (book : List ℕ) (count : ℕ) (list : List ℕ)
-    → conflicts-among n (group book) (elem list ∷ []) (range 1 count) ≡ conflicts-of n book count list
+    → conflicts-among n (group book) (elem list ∷ []) (numbers-from 1 count) ≡ conflicts-of n book count list
 unfolding conflicts-of
 list-is n book count list =
     rule-list n (group book) (elem list) count ∙ ap (λ (Gs : List Restriction). conflict-list n Gs (elem list)) (sym (groups-numbered book count))

@@ -7,17 +7,17 @@ use mathlib.Core.List.{List, [], _∷_, _++_}
 use Prim.Native.Nat.{ℕ, zero, suc, _≤_}
 use native.Mathlib.Decide.{ℕ-discrete}
 use native.Mathlib.Omega.{arith}
-use Rattle.orders.specs.Lists.{All, In, filter}
+use Rattle.orders.specs.Lists.{All, In, those-of}
 use Rattle.orders.specs.CircularOrder.{others, CircularOrder, Restriction, Consecutive}
 use Rattle.orders.specs.Tree.{Forest, Allowed}
 use Rattle.orders.specs.Join.{join}
-use Rattle.orders.proofs.Perm.{perm-all, perm-distinct}
+use Rattle.orders.proofs.Rearranged.{perm-all, perm-distinct}
 use Rattle.orders.proofs.Members.{in-all, all-in}
-use Rattle.orders.proofs.Ranges.{in-filter, filter-in, range-in, filter-distinct}
+use Rattle.orders.proofs.Numbers.{in-those, those-in, numbers-in, those-distinct}
 use Rattle.orders.proofs.Forms.{others-range, others-distinct}
 use Rattle.orders.proofs.Fresh.{pack-leaves, others-rising, leaves-form}
 use Rattle.orders.proofs.Conflicts.{one-possible}
-use Rattle.orders.proofs.Unused.{rising-filter, narrow-consecutive, widen, behind, widen-consecutive, behind-alike, kept, dropped, narrow-order, widen-order}
+use Rattle.orders.proofs.Unused.{rising-those, narrow-consecutive, widen, behind, widen-consecutive, behind-alike, kept, dropped, narrow-order, widen-order}
 use Rattle.update.specs.Update.{FormWithin}
 use Rattle.stand_in.specs.StandIn.{Unused, Chosen, start, OrderOf, StandIn}
 use Rattle.leaving_out.specs.LeavingOut.{Represents}
@@ -25,13 +25,13 @@ use Rattle.leaving_out.proofs.Trees.{joined-represented, joined-not}
 
 others-in : (n b : ℕ) → 2 ≤ b → b ≤ n → In b (others n)
 others-in zero b h l = absurd (omega arith)
-others-in (suc n) b h l = range-in 2 n b h (omega arith)
+others-in (suc n) b h l = numbers-in 2 n b h (omega arith)
 
 module _ {n : ℕ} {new : Restriction} {f : ℕ → Restriction} {keep : Restriction} (c : Chosen n new f keep) where
   -- A leaf that is left out; the spare one is kept for such leaves.
   gone : (z : ℕ) → In z (dropped n keep) → (1 ≤ z) × (z ≤ n) × (keep z ≡ false)
   gone z i =
-      let r = in-filter (λ b. not (keep b)) (others n) z i in
+      let r = in-those (λ b. not (keep b)) (others n) z i in
       let s = all-in (λ b. (2 ≤ b) × (b ≤ n)) z (others n) (others-range n) (r .1) in
       (omega (arith, s .0), s .1, sym (Bool·not-not (keep z)) ∙ ap not (r .0))
 
@@ -40,7 +40,7 @@ module _ {n : ℕ} {new : Restriction} {f : ℕ → Restriction} {keep : Restric
     where
       go : Dec (c .spare ≡ 1) → In (c .spare) (1 ∷ kept n keep)
       go (yes e) = inl e
-      go (no u) = inr (filter-in keep (others n) (c .spare) (s .2) (others-in n (c .spare) (omega (arith, s .0)) (s .1)))
+      go (no u) = inr (those-in keep (others n) (c .spare) (s .2) (others-in n (c .spare) (omega (arith, s .0)) (s .1)))
 
   placed : In (c .spare) (1 ∷ kept n keep) ⊎ (dropped n keep ≡ [])
   placed = go (dropped n keep) refl
@@ -60,8 +60,8 @@ module _ {n : ℕ} {new : Restriction} {f : ℕ → Restriction} {keep : Restric
       (λ z i. let g = gone z i in u z (c .left-out z (g .0) (g .1) (g .2)) ∙ sym (u (c .spare) (c .for-them z (g .0) (g .1) (g .2) .3)))))
       ord
 
-  first-kept : (xs : List ℕ) → filter keep (1 ∷ xs) ≡ 1 ∷ filter keep xs
-  first-kept xs = ap (λ (b : Bool). cond b (1 ∷ filter keep xs) (filter keep xs)) (c .one)
+  first-kept : (xs : List ℕ) → those-of keep (1 ∷ xs) ≡ 1 ∷ those-of keep xs
+  first-kept xs = ap (λ (b : Bool). cond b (1 ∷ those-of keep xs) (those-of keep xs)) (c .one)
 
   wide-is-order : (ord : List ℕ) → OrderOf (kept n keep) ord → CircularOrder n (wide ord)
   unfolding widen
@@ -74,10 +74,10 @@ module _ {n : ℕ} {new : Restriction} {f : ℕ → Restriction} {keep : Restric
   stand-in : StandIn n f
   stand-in = record {
     leaves = kept n keep;
-    narrow = filter keep;
+    narrow = those-of keep;
     narrow-order = λ ord r. record {
-      after = filter keep (r .after);
-      one-first = ap (filter keep) (r .one-first) ∙ first-kept (r .after);
+      after = those-of keep (r .after);
+      one-first = ap (those-of keep) (r .one-first) ∙ first-kept (r .after);
       all-leaves = narrow-order n keep (r .all-leaves);
     };
     narrow-keeps = narrow-consecutive keep;
@@ -89,13 +89,13 @@ module _ {n : ℕ} {new : Restriction} {f : ℕ → Restriction} {keep : Restric
   pub start-form : FormWithin n (start n keep)
   unfolding start
   start-form =
-      let r = leaves-form (kept n keep) (rising-filter keep (others n) (others-rising n)) in
+      let r = leaves-form (kept n keep) (rising-those keep (others n) (others-rising n)) in
       record {
         single = r .0;
         canonical = r .1;
-        different = perm-distinct (r .2) (filter-distinct keep (others n) (others-distinct n));
+        different = perm-distinct (r .2) (those-distinct keep (others n) (others-distinct n));
         in-range = perm-all (λ b. (2 ≤ b) × (b ≤ n)) (r .2)
-            (in-all (λ b. (2 ≤ b) × (b ≤ n)) (kept n keep) (λ b i. all-in (λ b. (2 ≤ b) × (b ≤ n)) b (others n) (others-range n) (in-filter keep (others n) b i .1)));
+            (in-all (λ b. (2 ≤ b) × (b ≤ n)) (kept n keep) (λ b i. all-in (λ b. (2 ≤ b) × (b ≤ n)) b (others n) (others-range n) (in-those keep (others n) b i .1)));
       }
 
   start-represented : Represents n f [] (start n keep)

@@ -3,7 +3,7 @@ ghost use mathlib.Core.Path.{_≡_};
 ghost use mathlib.Core.List.{List};
 ghost use Prim.Native.Nat.{ℕ, _≤_};
 ghost use lib.ListN.{length};
-ghost use Rattle.orders.specs.Lists.{range};
+ghost use Rattle.orders.specs.Lists.{numbers-from};
 ghost use Rattle.orders.specs.CircularOrder.{WellFormed};
 ghost use Rattle.tokens.specs.Tokens.{Wrote};
 ghost use Rattle.calls.specs.Calls.{filled-as, conflict-refusal, conflicts-of, conflict-call};
@@ -17,7 +17,7 @@ use update::Updated;
 // Writes the numbers 1 to count, and says how many.
 fn rising(count: usize, out: &mut [u16]) -> usize
     requires { ⌜ (count ≤ 96) × (count ≤ length (now out)) ⌝ }
-    ensures { λ r. ⌜ Wrote (range 1 count) (now (out .entry)) (now (out .exit)) r ⌝ }
+    ensures { λ r. ⌜ Wrote (numbers-from 1 count) (now (out .entry)) (now (out .exit)) r ⌝ }
 {
     let mut i = 0;
     while i < count {

@@ -6,23 +6,23 @@ use Prim.Native.Nat.{ℕ, _≤_}
 use lib.ListN.{length, take, getD}
 use Rattle.syntax.specs.RingFile.{line}
 use Rattle.syntax.specs.Words.{spaced}
-use Rattle.syntax.specs.Scanner.{State, naming, due, got, step, text, Ok}
+use Rattle.syntax.specs.Scanner.{FileState, naming, due, got, step, text, Ok}
 use Rattle.cursor.specs.declared.Cursor.{Cursor}
 
 -- The cursor stands for the state; for the outcome of a step, where phase 3 is a refusal.
-abbrev pub Stands : Cursor → State → Type 0
-Stands c (naming ns w) = (c .phase ≡ 0) × (c .names ≡ length ns) × (c .start ≡ length (spaced ns))
-Stands c (due ns vss vs) = (c .phase ≡ 1) × (c .names ≡ length ns) × (c .start ≡ length (line ns)) × (c .got ≡ length vs) × (c .lines ≡ length vss)
-Stands c (got ns vss vs v) = (c .phase ≡ 2) × (c .names ≡ length ns) × (c .start ≡ length (line ns)) × (c .got ≡ length vs) × (c .lines ≡ length vss)
+abbrev pub CursorStands : Cursor → FileState → Type 0
+CursorStands c (naming ns w) = (c .phase ≡ 0) × (c .names ≡ length ns) × (c .start ≡ length (spaced ns))
+CursorStands c (due ns vss vs) = (c .phase ≡ 1) × (c .names ≡ length ns) × (c .start ≡ length (line ns)) × (c .got ≡ length vs) × (c .lines ≡ length vss)
+CursorStands c (got ns vss vs v) = (c .phase ≡ 2) × (c .names ≡ length ns) × (c .start ≡ length (line ns)) × (c .got ≡ length vs) × (c .lines ≡ length vss)
 
-abbrev pub Stepped : Cursor → Option State → Type 0
+abbrev pub Stepped : Cursor → Option FileState → Type 0
 Stepped c none = c .phase ≡ 3
-Stepped c (some s) = Stands c s
+Stepped c (some s) = CursorStands c s
 
 -- From the cursor c, byte number i of x leads to the cursor r.
 abbrev pub Advances : List ℕ → ℕ → Cursor → Cursor → Type 0
-Advances x i c r = (s : State) → Ok s → take i x ≡ text s → Stands c s → Stepped r (step s (getD x i 0))
+Advances x i c r = (s : FileState) → Ok s → take i x ≡ text s → CursorStands c s → Stepped r (step s (getD x i 0))
 
 -- The cursor's numbers after i bytes.
-abbrev pub Within : Cursor → ℕ → Type 0
-Within c i = (c .start ≤ i) × (c .names ≤ 256) × (c .got ≤ 256) × (c .lines ≤ i) × (c .phase ≤ 3)
+abbrev pub CursorWithin : Cursor → ℕ → Type 0
+CursorWithin c i = (c .start ≤ i) × (c .names ≤ 256) × (c .got ≤ 256) × (c .lines ≤ i) × (c .phase ≤ 3)

@@ -6,7 +6,7 @@ ghost use lib.ListN.{length, take, getD};
 ghost use Rattle.syntax.specs.RingFile.{Value};
 ghost use Rattle.syntax.specs.Words.{spaced};
 ghost use Rattle.syntax.specs.Scanner.{naming, due, got, step, Naming};
-ghost use Rattle.cursor.specs.Cursors.{Stands, Stepped, Advances, Within};
+ghost use Rattle.cursor.specs.Cursors.{CursorStands, Stepped, Advances, CursorWithin};
 
 // Where the scanner stands. phase: 0 in the names line, 1 a value is due, 2 after a value, 3 refused. names: whole names.
 // start: where the begun name starts; after the names line, its length. got: whole values of the line. lines: whole value lines.
@@ -34,7 +34,7 @@ pub fn at_phase(phase: u8, names: usize, start: usize) -> Cursor
 // The cursor after byte number `at`, in the names line.
 fn on_name(file: &[u8], at: usize, names: usize, start: usize) -> Cursor
     requires { ⌜ (at < length (now file)) × (start ≤ at) × (names ≤ 256) ⌝ }
-    ensures { λ r. ⌜ Within r (at + 1) ⌝ }
+    ensures { λ r. ⌜ CursorWithin r (at + 1) ⌝ }
     ensures { λ r. ⌜ ((ns : List (List ℕ)) (w : List ℕ) → Naming ns w → take at (now (file .entry)) ≡ spaced ns ++ w
         → names ≡ length ns → start ≡ length (spaced ns) → Stepped r (step (naming ns w) (getD (now (file .entry)) at 0))) ⌝ }
 {
@@ -69,9 +69,9 @@ fn on_name(file: &[u8], at: usize, names: usize, start: usize) -> Cursor
 
 // The cursor after the byte b, number `at`, where a value is due.
 fn on_value(b: u8, at: usize, c: Cursor) -> Cursor
-    requires { ⌜ Within c at ⌝ }
-    ensures { λ r. ⌜ Within r (at + 1) ⌝ }
-    ensures { λ r. ⌜ ((ns : List (List ℕ)) (vss : List (List Value)) (vs : List Value) → Stands c (due ns vss vs)
+    requires { ⌜ CursorWithin c at ⌝ }
+    ensures { λ r. ⌜ CursorWithin r (at + 1) ⌝ }
+    ensures { λ r. ⌜ ((ns : List (List ℕ)) (vss : List (List Value)) (vs : List Value) → CursorStands c (due ns vss vs)
         → Stepped r (step (due ns vss vs) b)) ⌝ }
 {
     let mut next = c;
@@ -86,9 +86,9 @@ fn on_value(b: u8, at: usize, c: Cursor) -> Cursor
 
 // The cursor after the byte b, number `at`, where a value was read.
 fn on_got(b: u8, at: usize, c: Cursor) -> Cursor
-    requires { ⌜ (Within c at) × (at < 65536) ⌝ }
-    ensures { λ r. ⌜ Within r (at + 1) ⌝ }
-    ensures { λ r. ⌜ ((ns : List (List ℕ)) (vss : List (List Value)) (vs : List Value) (v : Value) → Stands c (got ns vss vs v)
+    requires { ⌜ (CursorWithin c at) × (at < 65536) ⌝ }
+    ensures { λ r. ⌜ CursorWithin r (at + 1) ⌝ }
+    ensures { λ r. ⌜ ((ns : List (List ℕ)) (vss : List (List Value)) (vs : List Value) (v : Value) → CursorStands c (got ns vss vs v)
         → Stepped r (step (got ns vss vs v) b)) ⌝ }
 {
     let more = c.got + 1;
@@ -115,8 +115,8 @@ fn on_got(b: u8, at: usize, c: Cursor) -> Cursor
 
 // The cursor after byte number `at`.
 pub fn advance(file: &[u8], at: usize, c: Cursor) -> Cursor
-    requires { ⌜ (Within c at) × (at < length (now file)) × (length (now file) ≤ 65536) ⌝ }
-    ensures { λ r. ⌜ Within r (at + 1) ⌝ }
+    requires { ⌜ (CursorWithin c at) × (at < length (now file)) × (length (now file) ≤ 65536) ⌝ }
+    ensures { λ r. ⌜ CursorWithin r (at + 1) ⌝ }
     ensures { λ r. ⌜ Advances (now (file .entry)) at c r ⌝ }
 {
     let phase = c.phase;

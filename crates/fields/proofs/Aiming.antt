@@ -5,20 +5,20 @@ use Prim.Native.Nat.{ℕ, suc, _+_, _-_, _*_, _/_, _%_, _≤_, _<_}
 use native.Mathlib.Nat.{mod-lt}
 use native.Mathlib.Omega.{arith}
 use lib.ListN.{length, getD}
-use Rattle.orders.specs.Lists.{All, elem, range}
+use Rattle.orders.specs.Lists.{All, elem, numbers-from}
 use Rattle.orders.specs.CircularOrder.{Restriction, WellFormed}
 use Rattle.orders.specs.Tree.{frontier}
 use Rattle.orders.specs.Form.{standard}
 use Rattle.orders.specs.Aim.{count-in, run-start, aim-of}
 use Rattle.orders.proofs.ListLaws.{all-map, all-at}
 use Rattle.orders.proofs.Members.{in-all}
-use Rattle.orders.proofs.Perm.{perm-all}
-use Rattle.orders.proofs.Ranges.{in-range, count, count-elem}
+use Rattle.orders.proofs.Rearranged.{perm-all}
+use Rattle.orders.proofs.Numbers.{in-range, count, count-elem}
 use Rattle.orders.proofs.TextTree.{form-length}
 use Rattle.marks.specs.Marks.{marked, words-of, leaves-of}
 use Rattle.marks.proofs.Words.{length-words}
 use Rattle.marks.proofs.Leaves.{marked-group, size-of-list}
-use Rattle.aim.specs.Starts.{Within}
+use Rattle.aim.specs.Starts.{GroupWithin}
 use Rattle.aim.proofs.Sizes.{count-in-is, perm-count, all-standard}
 use Rattle.fields.specs.Ordered.{Ordered}
 
@@ -30,7 +30,7 @@ module _ {n : ℕ} {order : List ℕ} (o : Ordered n order) where
   order-all =
       rw (o .is)
       (perm-all (λ b. (1 ≤ b) × (b ≤ n)) (all-standard n (o .tree) (o .form) (o .some-leaf))
-      (in-all (λ b. (1 ≤ b) × (b ≤ n)) (range 1 n) (λ x i. let r = in-range 1 n x i in (r .0, omega (arith, r .1)))))
+      (in-all (λ b. (1 ≤ b) × (b ≤ n)) (numbers-from 1 n) (λ x i. let r = in-range 1 n x i in (r .0, omega (arith, r .1)))))
 
   pub aim-range : (G : Restriction) → (1 ≤ aim-of G order) × (aim-of G order ≤ n)
   unfolding aim-of
@@ -54,7 +54,7 @@ module _ {n : ℕ} {order : List ℕ} (o : Ordered n order) where
         ∙ sym (perm-count (elem list) (all-standard n (o .tree) (o .form) (o .some-leaf)))
         ∙ count-elem n list (g .different) (g .in-range)
 
-    pub kept-within : Within words order
+    pub kept-within : GroupWithin words order
     kept-within = record {
       four = ap length w ∙ length-words 4 (elem list);
       some-leaf = omega (arith, size, g .some-leaf);

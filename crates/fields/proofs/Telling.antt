@@ -14,12 +14,12 @@ use Rattle.orders.specs.Aim.{aim-of}
 use Rattle.orders.specs.Circles.{bytes}
 use Rattle.calls.specs.Book.{groups}
 use Rattle.calls.specs.Calls.{conflicts-of}
-use Rattle.ledger.specs.Ledger.{Outcome, kept, refused, State, joined, outcome, next}
-use Rattle.ledger.specs.Stands.{Stands}
+use Rattle.ledger.specs.Ledger.{Outcome, kept, refused, RingState, joined, outcome, next}
+use Rattle.ledger.specs.Stands.{RingStands}
 use Rattle.ledger.proofs.Outcomes.{outcome-empty, outcome-full, outcome-joined}
 use Rattle.fields.specs.Fields.{name, commas, fields}
 
-module _ (names : List (List ℕ)) (ord : List ℕ) (n : ℕ) (s : State) (list : List ℕ) where
+module _ (names : List (List ℕ)) (ord : List ℕ) (n : ℕ) (s : RingState) (list : List ℕ) where
   pub tells-empty : length list ≡ 0 → bytes " empty - -" ≡ fields names ord s list (outcome n s list)
   unfolding fields
   tells-empty h = rw (outcome-empty n s list h)
@@ -30,7 +30,7 @@ module _ (names : List (List ℕ)) (ord : List ℕ) (n : ℕ) (s : State) (list 
 
   module _ (k : ℕ) (toks : List ℕ) (m : ℕ) (book table : List ℕ) (after : ℕ) where
     abbrev After : Outcome → Type 0
-    After o = Stands n (next s k list o) toks m book table after
+    After o = RingStands n (next s k list o) toks m book table after
 
     kept-told : (o : Option Forest) → After (joined n s (elem list) o) → length (s .groups) < after
         → bytes " kept " ++ (name names (aim-of (elem list) ord) ++ bytes " -") ≡ fields names ord s list (joined n s (elem list) o)

@@ -4,12 +4,12 @@ use Prim.Native.Nat.{ℕ}
 use Rattle.orders.specs.Lists.{elem}
 use Rattle.orders.specs.Aim.{aim-of}
 use Rattle.orders.specs.Circles.{bytes}
-use Rattle.ledger.specs.Ledger.{Outcome, kept, refused, empty, full, State}
-pub use Rattle.series.specs.Series.{between, name, spaced, commas}
+use Rattle.ledger.specs.Ledger.{Outcome, kept, refused, empty, full, RingState}
+pub use Rattle.series.specs.Series.{between, name, spaced-names, commas}
 
 -- "Fields: group line from 1; `kept`, `refused`, `empty` or `full`; the aim's name in the final order; the input lines in conflict, rising,
 -- joined by commas. `-` marks a field that does not apply." What follows the line's number.
-unfoldable pub fields : List (List ℕ) → List ℕ → State → List ℕ → Outcome → List ℕ
+unfoldable pub fields : List (List ℕ) → List ℕ → RingState → List ℕ → Outcome → List ℕ
 fields names ord s list (kept t) = bytes " kept " ++ (name names (aim-of (elem list) ord) ++ bytes " -")
 fields names ord s list (refused ns) = bytes " refused - " ++ commas (s .lines) ns
 fields names ord s list empty = bytes " empty - -"

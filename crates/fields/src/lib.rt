@@ -9,9 +9,9 @@ ghost use Rattle.orders.specs.Aim.{aim-of};
 ghost use Rattle.orders.specs.Circles.{bytes};
 ghost use Rattle.calls.specs.Calls.{conflicts-of};
 ghost use Rattle.output.specs.Appends.{Appends};
-ghost use Rattle.ringfile.specs.RingFile.{Holds};
-ghost use Rattle.ledger.specs.Ledger.{State, outcome, next};
-ghost use Rattle.ledger.specs.Stands.{Stands, Line};
+ghost use Rattle.ringfile.specs.RingFile.{FileHolds};
+ghost use Rattle.ledger.specs.Ledger.{RingState, outcome, next};
+ghost use Rattle.ledger.specs.Stands.{RingStands, Line};
 ghost use Rattle.fields.specs.Fields.{name, commas, fields};
 ghost use Rattle.fields.specs.Ordered.{Ordered};
 use output::put;
@@ -48,8 +48,8 @@ fn put_kept(
     out: &mut [u8],
     at: usize,
 ) -> usize
-    requires { ⌜ (Holds (now file) names head lines) × (WellFormed names (now list)) × (Ordered names (now order)) × (at + 2048 ≤ length (now out)) ⌝ }
-    ensures { λ r. ⌜ (r ≤ at + 2048) × ((f : Holds (now (file .entry)) names head lines)
+    requires { ⌜ (FileHolds (now file) names head lines) × (WellFormed names (now list)) × (Ordered names (now order)) × (at + 2048 ≤ length (now out)) ⌝ }
+    ensures { λ r. ⌜ (r ≤ at + 2048) × ((f : FileHolds (now (file .entry)) names head lines)
         → Appends (bytes " kept " ++ (name (f .ns) (aim-of (elem (now (list .entry))) (now (order .entry))) ++ bytes " -")) at (now (out .entry)) (now (out .exit)) r) ⌝ }
 {
     let mut words = [0u64; 4];
@@ -75,11 +75,11 @@ pub fn put_fields(
     out: &mut [u8],
     at: usize,
 ) -> usize
-    requires { ⌜ (Holds (now file) names head lines) × (Line names (now list)) × (Ordered names (now order))
+    requires { ⌜ (FileHolds (now file) names head lines) × (Line names (now list)) × (Ordered names (now order))
         × (384 ≤ length (now book)) × (96 ≤ length (now table)) × (before ≤ 96) × (at + 2048 ≤ length (now out)) ⌝ }
-    ensures { λ r. ⌜ (r ≤ at + 2048) × ((f : Holds (now (file .entry)) names head lines) (s : State) (k : ℕ) (toks : List ℕ) (m : ℕ)
+    ensures { λ r. ⌜ (r ≤ at + 2048) × ((f : FileHolds (now (file .entry)) names head lines) (s : RingState) (k : ℕ) (toks : List ℕ) (m : ℕ)
         → before ≡ length (s .groups)
-        → Stands names (next s k (now (list .entry)) (outcome names s (now (list .entry)))) toks m (now (book .entry)) (now (table .entry)) after
+        → RingStands names (next s k (now (list .entry)) (outcome names s (now (list .entry)))) toks m (now (book .entry)) (now (table .entry)) after
         → Appends (fields (f .ns) (now (order .entry)) s (now (list .entry)) (outcome names s (now (list .entry)))) at (now (out .entry)) (now (out .exit)) r) ⌝ }
 {
     if list.len() == 0 {

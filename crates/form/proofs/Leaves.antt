@@ -8,11 +8,11 @@ use native.Mathlib.Omega.{arith}
 use borrow.Author.Tests.{ne-eqb, eqb-false, le-leb, lt-leb, leb-true, not-true}
 use lib.Dec.{eqb}
 use lib.ListN.{length}
-use Rattle.orders.specs.Lists.{All, Distinct, In, range, Perm, done, next, rearranged?}
+use Rattle.orders.specs.Lists.{All, Distinct, In, numbers-from, Rearranged, done, next, rearranged?}
 use Rattle.orders.specs.CircularOrder.{Restriction, others}
-use Rattle.orders.proofs.Perm.{pick-length, perm-length, perm-distinct, perm-all}
+use Rattle.orders.proofs.Rearranged.{pick-length, perm-length, perm-distinct, perm-all}
 use Rattle.orders.proofs.Members.{all-in, in-all, pick-in, in-pick}
-use Rattle.orders.proofs.Ranges.{range-length, range-distinct, in-range, range-in}
+use Rattle.orders.proofs.Numbers.{numbers-length, numbers-distinct, in-range, numbers-in}
 use Rattle.orders.proofs.FormTests.{rearranged-decides}
 use Rattle.orders.proofs.Tests.{both, false-if, same-tests}
 use Rattle.marks.specs.Marks.{words-of, marked, no-leaf, with-leaf}
@@ -114,7 +114,7 @@ new-decides n G (b ∷ l) = Iff·trans (both (leaf-decides n G b) (new-decides n
     )
 
 -- Different elements of m, as many as m has, are a rearrangement of m.
-pub all-there : (m l : List ℕ) → Distinct l → ((y : ℕ) → In y l → In y m) → length m ≤ length l → Perm m l
+pub all-there : (m l : List ℕ) → Distinct l → ((y : ℕ) → In y l → In y m) → length m ≤ length l → Rearranged m l
 all-there [] [] d h n = done
 all-there (x ∷ m) [] d h n = absurd (omega arith)
 all-there m (a ∷ l) d h n =
@@ -130,20 +130,20 @@ pub all-new : (n : ℕ) (l : List ℕ) → 0 < n → length l ≡ n - 1 → new-
 all-new zero l ne e = absurd (omega arith)
 all-new (suc k) l ne e = same-tests _ _ (λ t. rearranged-decides (others (suc k)) l .1 (to (new-decides (suc k) no-leaf l .0 t))) (λ t. new-decides (suc k) no-leaf l .1 (from (rearranged-decides (others (suc k)) l .0 t)))
   where
-    to : Fresh (suc k) no-leaf l → Perm (others (suc k)) l
-    to h = all-there (others (suc k)) l (h .1) (λ y i. let r = all-in (λ b. (2 ≤ b) × (b ≤ suc k)) y l (h .0) i in range-in 2 k y (r .0) (omega arith)) (omega (arith, range-length 2 k))
+    to : Fresh (suc k) no-leaf l → Rearranged (others (suc k)) l
+    to h = all-there (others (suc k)) l (h .1) (λ y i. let r = all-in (λ b. (2 ≤ b) × (b ≤ suc k)) y l (h .0) i in numbers-in 2 k y (r .0) (omega arith)) (omega (arith, numbers-length 2 k))
 
-    from : Perm (others (suc k)) l → Fresh (suc k) no-leaf l
+    from : Rearranged (others (suc k)) l → Fresh (suc k) no-leaf l
     from p = (
-      perm-all (λ b. (2 ≤ b) × (b ≤ suc k)) p (in-all (λ b. (2 ≤ b) × (b ≤ suc k)) (range 2 k) (λ y i. let r = in-range 2 k y i in (r .0, omega arith))),
-      perm-distinct p (range-distinct 2 k),
+      perm-all (λ b. (2 ≤ b) × (b ≤ suc k)) p (in-all (λ b. (2 ≤ b) × (b ≤ suc k)) (numbers-from 2 k) (λ y i. let r = in-range 2 k y i in (r .0, omega arith))),
+      perm-distinct p (numbers-distinct 2 k),
       in-all (λ b. no-leaf b ≡ false) l (λ y i. refl),
     )
 
 -- Too many or too few are none.
 pub wrong-number : (n : ℕ) (l : List ℕ) → 0 < n → (length l ≡ n - 1 → ⊥) → rearranged? (others n) l ≡ false
 wrong-number zero l ne h = absurd (omega arith)
-wrong-number (suc k) l ne h = false-if (rearranged? (others (suc k)) l) (λ t. h (omega (arith, perm-length (rearranged-decides (others (suc k)) l .0 t), range-length 2 k)))
+wrong-number (suc k) l ne h = false-if (rearranged? (others (suc k)) l) (λ t. h (omega (arith, perm-length (rearranged-decides (others (suc k)) l .0 t), numbers-length 2 k)))
 
 pub no-leaves : (l : List ℕ) → eqb (length l) 0 ≡ rearranged? (others 0) l
 no-leaves [] = refl

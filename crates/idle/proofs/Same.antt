@@ -9,7 +9,7 @@ use lib.Dec.{ltb}
 use lib.ListN.{length}
 use Rattle.orders.specs.Tree.{Kind, P, C, Forest, nil, leaf, node, Item, leaf-item, node-item, items, append}
 use Rattle.orders.specs.Form.{TwoItems, Sorted, Rising, Canonical}
-use Rattle.orders.specs.Reduce.{put, one, insert, pack}
+use Rattle.orders.specs.Reduce.{put, one, put-sorted, pack}
 use Rattle.orders.proofs.ReduceIdle.{back, orient-same, pack-two}
 use Rattle.tokens.specs.Tokens.{State, E, F, L, R, X, number, Judged, j-nil, j-leaf, j-node, tree, encode}
 use Rattle.tokens.specs.Views.{first-of}
@@ -71,7 +71,7 @@ node-same : (k : Kind) (i : Judged) → TwoItems (items (tree i)) → Sorted k (
 unfolding reduced-of c-node-of
 node-same P i h s w =
     let e = w .its-tree in
-    ap₂ (λ t f. pack (insert t f)) (w .gathers) (w .empties)
+    ap₂ (λ t f. pack (put-sorted t f)) (w .gathers) (w .empties)
     ∙ ap pack (back (w .before) (w .here) (w .after) (subst (λ f. Rising (items f)) e s) ∙ sym e)
     ∙ pack-two (tree i) h
 node-same C i h s w = rw w (ap (λ f. node C f nil) (orient-same (tree i) s))

@@ -11,7 +11,7 @@ use Rattle.orders.specs.TreeText.{digits}
 use Rattle.orders.proofs.Digits.{digits-one}
 use Rattle.tokens.specs.Tokens.{plain, leaf-token, encode, Wrote}
 use Rattle.tokens.proofs.Writes.{wrote-one}
-use Rattle.scanner.specs.Scan.{State, due, num, need, letter?, run-at, refused}
+use Rattle.scanner.specs.Scan.{TextState, due, num, need, letter?, run-at, refused}
 use Rattle.scanner.specs.Unused.{unused, any-start}
 use Rattle.scanner.proofs.Numbers.{first-digit, not-first, unused-set}
 use Rattle.scanner.proofs.Moves.{due-number, due-none}
@@ -20,7 +20,7 @@ use Rattle.numerals.specs.Numbers.{NumberRead}
 use Rattle.leaves.specs.Passages.{Marks, Passed, ItemRead}
 use Rattle.numerals.proofs.Numerals.{drop-step}
 
-pub refused-at : {x : List ℕ} {at : ℕ} {spell : Forest → List ℕ} {start : List ℕ → State} {end : List ℕ → List ℕ → State} {want many kept spared : ℕ}
+pub refused-at : {x : List ℕ} {at : ℕ} {spell : Forest → List ℕ} {start : List ℕ → TextState} {end : List ℕ → List ℕ → TextState} {want many kept spared : ℕ}
     {used old new : List ℕ} (p : ℕ) → ((cs : List ℕ) → need cs ≡ want → run-at x at (start cs) ≡ refused p)
     → Passed x at spell start end want many kept spared used old new (record { ok = false; at = p; left = 0; count = 0 })
 refused-at p h = record { stops = λ e. h; goes = λ e. absurd (true≢false (sym e)) }

@@ -8,7 +8,7 @@ use lib.ListN.{length, drop, getD}
 use Rattle.orders.specs.Tree.{Kind, P, C, Forest, items}
 use Rattle.orders.specs.TreeText.{text}
 use Rattle.tokens.specs.Tokens.{plain, encode, Wrote}
-use Rattle.scanner.specs.Scan.{State, open-due, due, after, need, run-at, refused}
+use Rattle.scanner.specs.Scan.{TextState, open-due, due, after, need, run-at, refused}
 use Rattle.scanner.specs.Unused.{unused}
 use Rattle.leaves.specs.declared.Reached.{Reached}
 
@@ -20,7 +20,7 @@ pub record Marks (many : ℕ) (used : List ℕ) : Type 0 where
 
 -- A part of the text from byte `at` on spells a sequence of items, whose tokens were written. It leads the scanner from `start` to `end`, whatever
 -- the nodes round it are that want `want` leaves. Of `many` unused leaves at least `kept` are left, and each token but `spared` took half a leaf or more.
-pub record Passage (x : List ℕ) (at : ℕ) (spell : Forest → List ℕ) (start : List ℕ → State) (end : List ℕ → List ℕ → State) (want many kept spared : ℕ)
+pub record Passage (x : List ℕ) (at : ℕ) (spell : Forest → List ℕ) (start : List ℕ → TextState) (end : List ℕ → List ℕ → TextState) (want many kept spared : ℕ)
     (used old new : List ℕ) (r : Reached) : Type 0 where
   pub forest : Forest
   pub some-item : 1 ≤ length (items forest)
@@ -34,7 +34,7 @@ pub record Passage (x : List ℕ) (at : ℕ) (spell : Forest → List ℕ) (star
   pub few : r .count + 2 * r .left + spared ≤ 2 * many
 
 -- The passage; or the scanner refuses the text.
-pub record Passed (x : List ℕ) (at : ℕ) (spell : Forest → List ℕ) (start : List ℕ → State) (end : List ℕ → List ℕ → State) (want many kept spared : ℕ)
+pub record Passed (x : List ℕ) (at : ℕ) (spell : Forest → List ℕ) (start : List ℕ → TextState) (end : List ℕ → List ℕ → TextState) (want many kept spared : ℕ)
     (used old new : List ℕ) (r : Reached) : Type 0 where
   pub stops : r .ok ≡ false → (cs : List ℕ) → need cs ≡ want → run-at x at (start cs) ≡ refused (r .at)
   pub goes : r .ok ≡ true → Passage x at spell start end want many kept spared used old new r

@@ -13,7 +13,7 @@ use Rattle.tokens.proofs.Writes.{read-part}
 use Rattle.parts.specs.Writers.{flat}
 use Rattle.update.specs.declared.Updated.{Updated}
 use Rattle.update.specs.declared.Updated.the-variants.{Impossible, Tokens}
-use Rattle.update.specs.Update.{Within, Answers, impossible, written}
+use Rattle.update.specs.Update.{TokensWithin, Answers, impossible, written}
 use Rattle.update.proofs.Updates.{join-form}
 
 pub record Next (G : Restriction) (t : Forest) (new : List ℕ) (m : ℕ) : Type 0 where
@@ -46,5 +46,5 @@ pub no-tree : {H G : Restriction} (t : Forest) {old new : List ℕ} {r : Updated
 no-tree t {old} {new} {r} g e a = answers-none e (subst (λ H. Answers (join H t) old new r) g a)
 
 -- The next tree is one of some of the leaves too.
-pub next-within : {n : ℕ} {l : List ℕ} (p : Within n l) {G : Restriction} {new : List ℕ} {m : ℕ} → Next G (p .0) new m → Within n (take (m - 0) (drop 0 new))
+pub next-within : {n : ℕ} {l : List ℕ} (p : TokensWithin n l) {G : Restriction} {new : List ℕ} {m : ℕ} → Next G (p .0) new m → TokensWithin n (take (m - 0) (drop 0 new))
 next-within p {G} x = (x .tree, x .text, join-form G (p .2) (x .is), p .3)

@@ -7,7 +7,7 @@ use mathlib.Core.List.{List, [], _∷_, _++_, map, map-append, append-assoc, app
 use Prim.Native.Nat.{ℕ, zero, suc, _≤_}
 use native.Mathlib.Omega.{arith}
 use lib.ListN.{length, take, drop, take-append-drop}
-use Rattle.orders.specs.Lists.{All, range}
+use Rattle.orders.specs.Lists.{All, numbers-from}
 use Rattle.orders.specs.CircularOrder.{Restriction, AllConsecutive, Possible}
 use Rattle.orders.specs.Conflict.{possible?, leave-out, conflict-list}
 use Rattle.orders.proofs.ListLaws.{all-append, all-left, all-right}
@@ -161,18 +161,18 @@ module _ (n : ℕ) (f : ℕ → Restriction) where
 
   -- The rule as it is written.
   rule-keeps : (new : Restriction) (kept : List Restriction) (k m : ℕ)
-      → keeps n f (new ∷ kept) (range k m) ≡ leave-out n new kept k (map f (range k m))
+      → keeps n f (new ∷ kept) (numbers-from k m) ≡ leave-out n new kept k (map f (numbers-from k m))
   unfolding keeps leave-out
   rule-keeps new kept k zero = refl
   rule-keeps new kept k (suc m) =
-      go (possible? n (new ∷ (kept ++ map f (range (suc k) m)))) (rule-keeps new (kept ++ (f k ∷ [])) (suc k) m) (rule-keeps new kept (suc k) m)
+      go (possible? n (new ∷ (kept ++ map f (numbers-from (suc k) m)))) (rule-keeps new (kept ++ (f k ∷ [])) (suc k) m) (rule-keeps new kept (suc k) m)
     where
       rest : List Restriction
-      rest = map f (range (suc k) m)
+      rest = map f (numbers-from (suc k) m)
 
-      go : (b : Bool) → keeps n f (new ∷ (kept ++ (f k ∷ []))) (range (suc k) m) ≡ leave-out n new (kept ++ (f k ∷ [])) (suc k) rest
-          → keeps n f (new ∷ kept) (range (suc k) m) ≡ leave-out n new kept (suc k) rest
-          → _≡_ {A = List ℕ} (elim b [ true ↦ k ∷ keeps n f (new ∷ (kept ++ (f k ∷ []))) (range (suc k) m) | false ↦ keeps n f (new ∷ kept) (range (suc k) m) ])
+      go : (b : Bool) → keeps n f (new ∷ (kept ++ (f k ∷ []))) (numbers-from (suc k) m) ≡ leave-out n new (kept ++ (f k ∷ [])) (suc k) rest
+          → keeps n f (new ∷ kept) (numbers-from (suc k) m) ≡ leave-out n new kept (suc k) rest
+          → _≡_ {A = List ℕ} (elim b [ true ↦ k ∷ keeps n f (new ∷ (kept ++ (f k ∷ []))) (numbers-from (suc k) m) | false ↦ keeps n f (new ∷ kept) (numbers-from (suc k) m) ])
           (elim b [ true ↦ k ∷ leave-out n new (kept ++ (f k ∷ [])) (suc k) rest | false ↦ leave-out n new kept (suc k) rest ])
       go true p q = ap (λ (l : List ℕ). k ∷ l) p
       go false p q = q
@@ -180,6 +180,6 @@ module _ (n : ℕ) (f : ℕ → Restriction) where
   unless : Bool → List ℕ → List ℕ
   unless b l = elim b [ true ↦ [] | false ↦ l ]
 
-  pub rule-list : (new : Restriction) (m : ℕ) → conflicts-among n f (new ∷ []) (range 1 m) ≡ conflict-list n (map f (range 1 m)) new
+  pub rule-list : (new : Restriction) (m : ℕ) → conflicts-among n f (new ∷ []) (numbers-from 1 m) ≡ conflict-list n (map f (numbers-from 1 m)) new
   unfolding conflicts-among conflict-list unless
-  rule-list new m = ap (unless (possible? n (new ∷ map f (range 1 m)))) (rule-keeps new [] 1 m)
+  rule-list new m = ap (unless (possible? n (new ∷ map f (numbers-from 1 m)))) (rule-keeps new [] 1 m)

@@ -5,11 +5,11 @@ use Prim.Native.Nat.{ℕ, zero, suc, _+_, _-_, _*_, _≤_, _<_}
 use native.Mathlib.Omega.{arith}
 use lib.ListN.{length, take, drop, getD, take-append-drop}
 use lib.Seq.{drop-cons}
-use Rattle.orders.specs.Lists.{range}
+use Rattle.orders.specs.Lists.{numbers-from}
 use Rattle.orders.specs.CircularOrder.{Restriction}
 use Rattle.orders.proofs.ListLaws.{all-left, all-right}
 use Rattle.orders.proofs.Members.{in-all}
-use Rattle.orders.proofs.Ranges.{range-length, range-append, in-range}
+use Rattle.orders.proofs.Numbers.{numbers-length, numbers-append, in-range}
 use Rattle.marks.specs.Marks.{marked}
 use Rattle.calls.specs.Book.{group-words, groups}
 use Rattle.book.proofs.Laws.{group-part}
@@ -17,14 +17,14 @@ use Rattle.stand_in.specs.StandIn.{group}
 use Rattle.leaving_out.specs.LeavingOut.{InBook}
 
 -- The groups are those with the numbers from 1 on.
-numbered : (book : List ℕ) (a m : ℕ) → map (λ k. marked (group-words book k)) (range a m) ≡ map (group book) (range (suc a) m)
+numbered : (book : List ℕ) (a m : ℕ) → map (λ k. marked (group-words book k)) (numbers-from a m) ≡ map (group book) (numbers-from (suc a) m)
 unfolding group
 numbered book a zero = refl
 numbered book a (suc m) =
     let e : a ≡ suc a - 1 = omega arith in
     ap₂ (λ (G : Restriction) (l : List Restriction). G ∷ l) (ap (λ (k : ℕ). marked (group-words book k)) e) (numbered book (suc a) m)
 
-pub groups-numbered : (book : List ℕ) (count : ℕ) → groups book count ≡ map (group book) (range 1 count)
+pub groups-numbered : (book : List ℕ) (count : ℕ) → groups book count ≡ map (group book) (numbers-from 1 count)
 unfolding groups
 groups-numbered book count = numbered book 0 count
 
@@ -33,7 +33,7 @@ map-length f [] = refl
 map-length f (x ∷ l) = ap suc (map-length f l)
 
 pub groups-length : (book : List ℕ) (count : ℕ) → length (groups book count) ≡ count
-groups-length book count = ap length (groups-numbered book count) ∙ map-length (group book) (range 1 count) ∙ range-length 1 count
+groups-length book count = ap length (groups-numbered book count) ∙ map-length (group book) (numbers-from 1 count) ∙ numbers-length 1 count
 
 -- The part of the book that a function is lent.
 pub part-group : (book : List ℕ) (j : ℕ) → marked (take (4 * (j - 1) + 4 - 4 * (j - 1)) (drop (4 * (j - 1)) book)) ≡ group book j
@@ -59,8 +59,8 @@ book-at [] i h a = absurd (omega arith)
 book-at (x ∷ l) zero h a = a .0
 book-at (x ∷ l) (suc i) h a = book-at l i (omega arith) (a .1)
 
-pub numbers-in-book : (count : ℕ) → count ≤ 96 → InBook (range 1 count)
-numbers-in-book count h = in-all (λ j. (1 ≤ j) × (j ≤ 96)) (range 1 count) (λ j i. let r = in-range 1 count j i in (r .0, omega (arith, r .1)))
+pub numbers-in-book : (count : ℕ) → count ≤ 96 → InBook (numbers-from 1 count)
+numbers-in-book count h = in-all (λ j. (1 ≤ j) × (j ≤ 96)) (numbers-from 1 count) (λ j i. let r = in-range 1 count j i in (r .0, omega (arith, r .1)))
 
-pub numbers-more : (i : ℕ) → range 1 (i + 1) ≡ range 1 i ++ ((i + 1) ∷ [])
-numbers-more i = let e : 1 + i ≡ i + 1 = omega arith in range-append 1 i 1 ∙ ap (λ (k : ℕ). range 1 i ++ (k ∷ [])) e
+pub numbers-more : (i : ℕ) → numbers-from 1 (i + 1) ≡ numbers-from 1 i ++ ((i + 1) ∷ [])
+numbers-more i = let e : 1 + i ≡ i + 1 = omega arith in numbers-append 1 i 1 ∙ ap (λ (k : ℕ). numbers-from 1 i ++ (k ∷ [])) e

@@ -16,10 +16,10 @@ use Rattle.orders.proofs.StandardOrders.{standard-allowed}
 use Rattle.orders.proofs.Joining.{Allows, orders-left}
 use Rattle.orders.proofs.Conflicts.{fewer}
 use Rattle.parts.specs.Writers.{flat}
-use Rattle.update.specs.Update.{Within}
+use Rattle.update.specs.Update.{TokensWithin}
 use Rattle.update.proofs.Updates.{join-form}
 use Rattle.stand_in.specs.StandIn.{OrderOf}
-use Rattle.leaving_out.specs.LeavingOut.{Represents, Stands, Walked, Stops, keeps, goes-on, conflicts-among}
+use Rattle.leaving_out.specs.LeavingOut.{Represents, TokensRepresent, Walked, Stops, keeps, goes-on, conflicts-among}
 use Rattle.leaving_out.proofs.Keeping.{keeps-behind, keeps-next, goes-on-none, among-none, among-some}
 use Rattle.leaving_out.proofs.Places.{from-before}
 
@@ -60,7 +60,7 @@ represented-possible {t = t} rep =
       hang = rep .wide-keeps-all (standard t) (r .1);
     }
 
-pub stands-within : {n : ℕ} {f : ℕ → Restriction} {toks : List ℕ} → Stands n f toks → Within n toks
+pub stands-within : {n : ℕ} {f : ℕ → Restriction} {toks : List ℕ} → TokensRepresent n f toks → TokensWithin n toks
 stands-within s = (s .0, s .2, s .3 .form, s .4)
 
 -- One group more, anywhere.
@@ -110,7 +110,7 @@ module _ {n : ℕ} {f : ℕ → Restriction} {Gs : List Restriction} where
   pub walk-ends : {js : List ℕ} → Stops n f Gs js 0
   walk-ends = record { one-more = λ h. absurd (omega (arith, h)) }
 
-  pub walked-stands : {js : List ℕ} {left : ℕ} {toks : List ℕ} → Walked n f Gs js left toks → n ≤ 256 → Stands n f toks
+  pub walked-stands : {js : List ℕ} {left : ℕ} {toks : List ℕ} → Walked n f Gs js left toks → n ≤ 256 → TokensRepresent n f toks
   walked-stands {js} {left} w h = (w .tree, Gs ++ map f (drop left js), w .text, w .stands, h)
 
   pub walked-all : {js : List ℕ} {left : ℕ} {toks : List ℕ} (w : Walked n f Gs js left toks) → left ≡ 0 → Represents n f (Gs ++ map f js) (w .tree)

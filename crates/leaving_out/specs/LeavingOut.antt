@@ -26,8 +26,8 @@ pub record Represents (n : ℕ) (f : ℕ → Restriction) (Gs : List Restriction
   pub wide-keeps-all : (ord : List ℕ) → AllConsecutive Gs ord → AllConsecutive Gs (over .wide ord)
 
 -- The tokens are those of such a tree, for at most 256 leaves.
-abbrev pub Stands : ℕ → (ℕ → Restriction) → List ℕ → Type 0
-Stands n f toks = (t : Forest) × (Gs : List Restriction) × (toks ≡ flat t) × Represents n f Gs t × (n ≤ 256)
+abbrev pub TokensRepresent : ℕ → (ℕ → Restriction) → List ℕ → Type 0
+TokensRepresent n f toks = (t : Forest) × (Gs : List Restriction) × (toks ≡ flat t) × Represents n f Gs t × (n ≤ 256)
 
 -- Going down from the last of the numbers, f their groups: the tokens are those of the tree of Gs and of the groups behind the first `left`
 -- numbers.

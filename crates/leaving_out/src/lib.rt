@@ -8,7 +8,7 @@ ghost use Rattle.orders.specs.Tree.{Forest};
 ghost use Rattle.tokens.specs.Tokens.{Wrote};
 ghost use Rattle.parts.specs.Writers.{flat};
 ghost use Rattle.stand_in.specs.StandIn.{group};
-ghost use Rattle.leaving_out.specs.LeavingOut.{InBook, Represents, Stands, Walked, Stops, keeps, goes-on, conflicts-among};
+ghost use Rattle.leaving_out.specs.LeavingOut.{InBook, Represents, TokensRepresent, Walked, Stops, keeps, goes-on, conflicts-among};
 use update::Updated;
 
 // Where a walk ended: how many numbers are left, and how many tokens its tree has.
@@ -19,7 +19,7 @@ pub struct Reached {
 
 // Joins the groups with these numbers to the tree, from the last one on, up to one that cannot join. Writes the tree that comes out.
 fn walk(toks: &[u16], book: &[u64], n: usize, numbers: &[u16], out: &mut [u16]) -> Reached
-    requires { ⌜ (Stands n (group (now book)) (now toks)) × (384 ≤ length (now book)) × (InBook (now numbers)) × (512 ≤ length (now out)) ⌝ }
+    requires { ⌜ (TokensRepresent n (group (now book)) (now toks)) × (384 ≤ length (now book)) × (InBook (now numbers)) × (512 ≤ length (now out)) ⌝ }
     ensures { λ r. ⌜ (r .left ≤ length (now (numbers .entry))) × (r .tokens ≤ length (now (out .exit)))
         × ((t : Forest) (Gs : List Restriction) → now (toks .entry) ≡ flat t → Represents n (group (now (book .entry))) Gs t
         → Walked n (group (now (book .entry))) Gs (now (numbers .entry)) (r .left) (take (r .tokens) (now (out .exit)))
@@ -48,7 +48,7 @@ fn walk(toks: &[u16], book: &[u64], n: usize, numbers: &[u16], out: &mut [u16]) 
 // first half is decided with the whole second half staying, then the second half with what is kept of the first. Where the second half by
 // itself cannot hang together with the tree's groups, the number at which the walk stops is the first one kept.
 fn halves(toks: &[u16], book: &[u64], n: usize, numbers: &[u16], out: &mut [u16]) -> usize
-    requires { ⌜ (Stands n (group (now book)) (now toks)) × (384 ≤ length (now book)) × (InBook (now numbers)) × (length (now numbers) ≤ length (now out)) ⌝ }
+    requires { ⌜ (TokensRepresent n (group (now book)) (now toks)) × (384 ≤ length (now book)) × (InBook (now numbers)) × (length (now numbers) ≤ length (now out)) ⌝ }
     ensures { λ r. ⌜ (r ≤ length (now (numbers .entry)))
         × ((t : Forest) (Gs : List Restriction) → now (toks .entry) ≡ flat t → Represents n (group (now (book .entry))) Gs t
         → Wrote (keeps n (group (now (book .entry))) Gs (now (numbers .entry))) (now (out .entry)) (now (out .exit)) r) ⌝ }
@@ -74,7 +74,7 @@ fn halves(toks: &[u16], book: &[u64], n: usize, numbers: &[u16], out: &mut [u16]
 // The first k numbers of out are kept. Writes those that the rule then keeps of the other numbers behind them, and says how many there are in
 // all.
 fn go_on(toks: &[u16], book: &[u64], n: usize, k: usize, numbers: &[u16], out: &mut [u16]) -> usize
-    requires { ⌜ (Stands n (group (now book)) (now toks)) × (384 ≤ length (now book)) × (InBook (now numbers)) × (k + length (now numbers) ≤ length (now out))
+    requires { ⌜ (TokensRepresent n (group (now book)) (now toks)) × (384 ≤ length (now book)) × (InBook (now numbers)) × (k + length (now numbers) ≤ length (now out))
         × (InBook (take k (now out))) ⌝ }
     ensures { λ r. ⌜ (r ≤ k + length (now (numbers .entry)))
         × ((t : Forest) (Gs : List Restriction) → now (toks .entry) ≡ flat t → Represents n (group (now (book .entry))) Gs t
@@ -93,7 +93,7 @@ fn go_on(toks: &[u16], book: &[u64], n: usize, k: usize, numbers: &[u16], out: &
 // Writes those of the numbers that the leaving-out rule keeps, and says how many: none where all of their groups can hang together with the
 // tree's.
 pub fn leave_out(toks: &[u16], book: &[u64], n: usize, numbers: &[u16], out: &mut [u16]) -> usize
-    requires { ⌜ (Stands n (group (now book)) (now toks)) × (384 ≤ length (now book)) × (InBook (now numbers)) × (length (now numbers) ≤ length (now out)) ⌝ }
+    requires { ⌜ (TokensRepresent n (group (now book)) (now toks)) × (384 ≤ length (now book)) × (InBook (now numbers)) × (length (now numbers) ≤ length (now out)) ⌝ }
     ensures { λ r. ⌜ ((t : Forest) (Gs : List Restriction) → now (toks .entry) ≡ flat t → Represents n (group (now (book .entry))) Gs t
         → Wrote (conflicts-among n (group (now (book .entry))) Gs (now (numbers .entry))) (now (out .entry)) (now (out .exit)) r) ⌝ }
 {

@@ -7,9 +7,9 @@ use native.Mathlib.Omega.{arith}
 use native.Mathlib.Numerals.{add-one}
 use lib.ListN.{length, take, drop, set, length-append, length-take, length-drop, take-append-drop}
 use lib.Seq.{take-append-le, drop-append-le, take-append-seam, drop-at, length-take-le, take-suc-set}
-use Rattle.orders.specs.Lists.{In, range}
+use Rattle.orders.specs.Lists.{In, numbers-from}
 use Rattle.orders.specs.CircularOrder.{Restriction}
-use Rattle.orders.proofs.Ranges.{range-append, in-range}
+use Rattle.orders.proofs.Numbers.{numbers-append, in-range}
 use Rattle.marks.specs.Marks.{marked, words-of}
 use Rattle.marks.proofs.Words.{length-words}
 use Rattle.calls.specs.Book.{group-words, groups, booked}
@@ -45,9 +45,9 @@ module _ (book : List ℕ) (c : ℕ) (G : Restriction) (h : 4 * c + 4 ≤ length
       let z : 0 + c ≡ c = omega arith in
       let f : ℕ → Restriction = λ k. marked (group-words (booked book c G) k) in
       let g : ℕ → Restriction = λ k. marked (group-words book k) in
-      ap (map f) (range-append 0 c 1)
-      ∙ map-append f (range 0 c) (range (0 + c) 1)
-      ∙ ap₂ _++_ (map-agree f g (range 0 c) (λ x i. ap marked (before x (omega (arith, in-range 0 c x i .1)))))
+      ap (map f) (numbers-append 0 c 1)
+      ∙ map-append f (numbers-from 0 c) (numbers-from (0 + c) 1)
+      ∙ ap₂ _++_ (map-agree f g (numbers-from 0 c) (λ x i. ap marked (before x (omega (arith, in-range 0 c x i .1)))))
       (ap (λ (k : ℕ). f k ∷ []) z ∙ ap (λ (w : List ℕ). marked w ∷ []) at-place)
 
 pub table-more : (table : List ℕ) (c line : ℕ) → c < length table

@@ -5,10 +5,10 @@ use Prim.Native.Nat.{ℕ, _+_, _≤_, _<_}
 use native.Mathlib.Omega.{arith}
 use lib.ListN.{length, getD, length-map, List·getD-map}
 use Rattle.orders.specs.Lists.{All}
-use Rattle.ringfile.specs.RingFile.{Value, leaves-on, Holds}
+use Rattle.ringfile.specs.RingFile.{Value, leaves-on, FileHolds}
 use Rattle.ringfile.proofs.Groups.{leaves-different, leaves-within, line-length}
-use Rattle.ledger.specs.Ledger.{State, opened, outcome, next, state-at}
-use Rattle.ledger.specs.Stands.{Stands, Line, lists-of, StandsAt}
+use Rattle.ledger.specs.Ledger.{RingState, opened, outcome, next, state-at}
+use Rattle.ledger.specs.Stands.{RingStands, Line, lists-of, StandsAt}
 use Rattle.ledger.proofs.Runs.{state-none, state-more}
 
 -- The leaves of a line of values.
@@ -22,7 +22,7 @@ leaves-line n vs e h = record {
   };
 }
 
-module _ {x : List ℕ} {n h k : ℕ} (f : Holds x n h k) where
+module _ {x : List ℕ} {n h k : ℕ} (f : FileHolds x n h k) where
   pub few-names : n ≤ 256
   few-names = omega (arith, f .leaves, f .rules .names .few-names)
 
@@ -40,13 +40,13 @@ module _ {x : List ℕ} {n h k : ℕ} (f : Holds x n h k) where
 
   -- The ring after one line more; before the first.
   pub stands-more : (l : ℕ) {list toks book table : List ℕ} {m count : ℕ} → l < k → list ≡ leaves-on (getD (f .vss) l [])
-      → Stands n (next (state-at n (lists-of f) l) (l + 1) list (outcome n (state-at n (lists-of f) l) list)) toks m book table count
+      → RingStands n (next (state-at n (lists-of f) l) (l + 1) list (outcome n (state-at n (lists-of f) l) list)) toks m book table count
       → StandsAt f (l + 1) toks m book table count
   stands-more l {list} {toks} {book} {table} {m} {count} q e s =
-      subst (λ (u : State). Stands n u toks m book table count)
+      subst (λ (u : RingState). RingStands n u toks m book table count)
       (ap (λ (list : List ℕ). next (state-at n (lists-of f) l) (l + 1) list (outcome n (state-at n (lists-of f) l) list)) (e ∙ sym (list-at l))
       ∙ sym (state-more n (lists-of f) l (omega (arith, lists-length))))
       s
 
-  pub stands-none : {toks book table : List ℕ} {m count : ℕ} → Stands n (opened n) toks m book table count → StandsAt f 0 toks m book table count
-  stands-none {toks} {book} {table} {m} {count} s = subst (λ (u : State). Stands n u toks m book table count) (sym (state-none n (lists-of f))) s
+  pub stands-none : {toks book table : List ℕ} {m count : ℕ} → RingStands n (opened n) toks m book table count → StandsAt f 0 toks m book table count
+  stands-none {toks} {book} {table} {m} {count} s = subst (λ (u : RingState). RingStands n u toks m book table count) (sym (state-none n (lists-of f))) s

@@ -24,14 +24,14 @@ use Rattle.update.specs.declared.Updated.{Updated}
 use Rattle.update.specs.declared.Updated.the-variants.{Impossible, Tokens}
 use Rattle.update.specs.Update.{Answers as Joined, Published}
 use Rattle.leaving_out.proofs.Joined.{answers-tree, no-tree}
-use Rattle.ledger.specs.Ledger.{Outcome, kept, refused, empty, full, State, opened, joined, outcome, next}
+use Rattle.ledger.specs.Ledger.{Outcome, kept, refused, empty, full, RingState, opened, joined, outcome, next}
 use Rattle.ledger.specs.declared.Tried.{Tried}
 use Rattle.ledger.specs.declared.Tried.the-variants.{Kept, Stays}
-use Rattle.ledger.specs.Stands.{Stands, Line, Answers, is-kept, is-refused, is-empty, is-full}
+use Rattle.ledger.specs.Stands.{RingStands, Line, Answers, is-kept, is-refused, is-empty, is-full}
 use Rattle.ledger.proofs.Books.{groups-booked, table-more}
 
 -- The fresh ring.
-pub opened-stands : (n : ℕ) {old toks : List ℕ} {m : ℕ} → Wrote (flat (fresh n)) old toks m → (book table : List ℕ) → Stands n (opened n) toks m book table 0
+pub opened-stands : (n : ℕ) {old toks : List ℕ} {m : ℕ} → Wrote (flat (fresh n)) old toks m → (book table : List ℕ) → RingStands n (opened n) toks m book table 0
 unfolding groups
 opened-stands n w book table = record {
   form = fresh-form n;
@@ -44,11 +44,11 @@ opened-stands n w book table = record {
 }
 
 -- The tokens that are read.
-pub stands-published : {n : ℕ} {s : State} {toks book table : List ℕ} {m count : ℕ} → Stands n s toks m book table count → n ≤ 256
+pub stands-published : {n : ℕ} {s : RingState} {toks book table : List ℕ} {m count : ℕ} → RingStands n s toks m book table count → n ≤ 256
     → Published n (take (m - 0) (drop 0 toks))
 stands-published {s = s} h l = (s .tree, h .tokens, h .form, l)
 
-module _ (n : ℕ) (s : State) where
+module _ (n : ℕ) (s : RingState) where
   pub outcome-empty : (list : List ℕ) → length list ≡ 0 → outcome n s list ≡ empty
   unfolding outcome
   outcome-empty [] h = refl
@@ -96,14 +96,14 @@ answers-kept e is-empty = absurd (let z : _≡_ {A = ℕ} 0 1 = cc in omega (ari
 answers-kept e is-full = absurd (let z : _≡_ {A = ℕ} 0 1 = cc in omega (arith, z))
 
 pub answers-stays : {o : Outcome} {old new : List ℕ} {r : Tried} → r ≡ Stays → Answers o old new r
-    → (s : State) (line : ℕ) (list : List ℕ) → next s line list o ≡ s
+    → (s : RingState) (line : ℕ) (list : List ℕ) → next s line list o ≡ s
 answers-stays h (is-kept {k = k} w) s line list = absurd (let z : _≡_ {A = ℕ} 0 1 = cc in omega (arith, z))
 answers-stays h is-refused s line list = refl
 answers-stays h is-empty s line list = refl
 answers-stays h is-full s line list = refl
 
 -- A line that is kept has a leaf, the book has a place, and the group joins.
-join-kept : (n : ℕ) (s : State) (G : Restriction) (o : Option Forest) (t : Forest) → joined n s G o ≡ kept t → o ≡ some t
+join-kept : (n : ℕ) (s : RingState) (G : Restriction) (o : Option Forest) (t : Forest) → joined n s G o ≡ kept t → o ≡ some t
 join-kept n s G (some u) t e = ap some cc
 join-kept n s G none t e = absurd (let z : _≡_ {A = ℕ} 0 1 = cc in omega (arith, z))
 
@@ -111,7 +111,7 @@ full-kept : (b : Bool) (x : Outcome) (t : Forest) → cond b full x ≡ kept t �
 full-kept true x t e = absurd (let z : _≡_ {A = ℕ} 0 1 = cc in omega (arith, z))
 full-kept false x t e = (refl, e)
 
-pub outcome-kept : (n : ℕ) (s : State) (list : List ℕ) (t : Forest) → outcome n s list ≡ kept t
+pub outcome-kept : (n : ℕ) (s : RingState) (list : List ℕ) (t : Forest) → outcome n s list ≡ kept t
     → (1 ≤ length list) × (length (s .groups) ≡ 96 → ⊥) × (join (elem list) (s .tree) ≡ some t)
 unfolding outcome
 outcome-kept n s [] t e = absurd (let z : _≡_ {A = ℕ} 0 1 = cc in omega (arith, z))
@@ -120,10 +120,10 @@ outcome-kept n s (b ∷ l) t e =
     (omega arith, eqb-false (length (s .groups)) 96 (x .0), join-kept n s (elem (b ∷ l)) (join (elem (b ∷ l)) (s .tree)) t (x .1))
 
 -- The ring after a line that is kept.
-module _ (n : ℕ) (s : State) (line : ℕ) (list : List ℕ) {toks book table : List ℕ} {m count : ℕ} (h : Stands n s toks m book table count) where
+module _ (n : ℕ) (s : RingState) (line : ℕ) (list : List ℕ) {toks book table : List ℕ} {m count : ℕ} (h : RingStands n s toks m book table count) where
   pub stays : {old new : List ℕ} {r : Tried} → r ≡ Stays → Answers (outcome n s list) old new r
-      → Stands n (next s line list (outcome n s list)) toks m book table count
-  stays e a = subst (λ (u : State). Stands n u toks m book table count) (sym (answers-stays e a s line list)) h
+      → RingStands n (next s line list (outcome n s list)) toks m book table count
+  stays e a = subst (λ (u : RingState). RingStands n u toks m book table count) (sym (answers-stays e a s line list)) h
 
   module _ {old tree : List ℕ} {r : Tried} {k : ℕ} (e : r ≡ Kept k) (a : Answers (outcome n s list) old tree r) where
     x : (t : Forest) × (outcome n s list ≡ kept t) × Wrote (flat t) old tree k
@@ -137,7 +137,7 @@ module _ (n : ℕ) (s : State) (line : ℕ) (list : List ℕ) {toks book table :
 
     pub kept-stands : {toks′ book′ : List ℕ} {j : ℕ} → Line n list → Wrote (take (k - 0) (drop 0 tree)) toks toks′ j
         → book′ ≡ booked book count (elem list) → 384 ≤ length book → 96 ≤ length table
-        → Stands n (next s line list (outcome n s list)) toks′ k book′ (set table count line) (count + 1)
+        → RingStands n (next s line list (outcome n s list)) toks′ k book′ (set table count line) (count + 1)
     kept-stands {toks′} {book′} {j} l w b all-words all-places =
         let t = x .0 in
         let o = outcome-kept n s list t (x .1) in

@@ -6,10 +6,10 @@ use native.Mathlib.Omega.{arith}
 use native.Mathlib.Numerals.{add-one}
 use lib.ListN.{length, getD, take}
 use lib.Seq.{take-length}
-use Rattle.ledger.specs.Ledger.{State, opened, outcome, next, run, state-at}
+use Rattle.ledger.specs.Ledger.{RingState, opened, outcome, next, run, state-at}
 
 module _ (n : ℕ) where
-  run-more : (s : State) (k : ℕ) (lists : List (List ℕ)) (l : ℕ) → l < length lists
+  run-more : (s : RingState) (k : ℕ) (lists : List (List ℕ)) (l : ℕ) → l < length lists
       → run n s k (take (suc l) lists)
       ≡ next (run n s k (take l lists)) (k + l) (getD lists l []) (outcome n (run n s k (take l lists)) (getD lists l []))
   unfolding run

@@ -9,13 +9,13 @@ use Rattle.orders.specs.Form.{InForm}
 use Rattle.calls.specs.Book.{groups}
 use Rattle.tokens.specs.Tokens.{Wrote}
 use Rattle.parts.specs.Writers.{flat}
-use Rattle.ringfile.specs.RingFile.{leaves-on, Holds}
-use Rattle.ledger.specs.Ledger.{Outcome, kept, refused, empty, full, State, state-at}
+use Rattle.ringfile.specs.RingFile.{leaves-on, FileHolds}
+use Rattle.ledger.specs.Ledger.{Outcome, kept, refused, empty, full, RingState, state-at}
 use Rattle.ledger.specs.declared.Tried.{Tried}
 use Rattle.ledger.specs.declared.Tried.the-variants.{Kept, Stays}
 
 -- The tables hold the ring: its tree in the first m tokens, its groups in the book up to the count, and the input line of each in a table.
-pub record Stands (n : ℕ) (s : State) (toks : List ℕ) (m : ℕ) (book table : List ℕ) (count : ℕ) : Type 0 where
+pub record RingStands (n : ℕ) (s : RingState) (toks : List ℕ) (m : ℕ) (book table : List ℕ) (count : ℕ) : Type 0 where
   pub form : InForm n (s .tree)
   pub tokens : take (m - 0) (drop 0 toks) ≡ flat (s .tree)
   pub all-tokens : m ≤ length toks
@@ -38,12 +38,12 @@ pub data Answers : Outcome → List ℕ → List ℕ → Tried → Type 0 where
   is-full : {old new : List ℕ} → Answers full old new Stays
 
 -- The groups of an accepted file, in the sequence of its lines.
-abbrev pub lists-of : {x : List ℕ} {n h l : ℕ} → Holds x n h l → List (List ℕ)
+abbrev pub lists-of : {x : List ℕ} {n h l : ℕ} → FileHolds x n h l → List (List ℕ)
 lists-of f = map leaves-on (f .vss)
 
 -- The tables hold the ring after the first l group lines of the file.
-abbrev pub StandsAt : {x : List ℕ} {n h k : ℕ} → Holds x n h k → ℕ → List ℕ → ℕ → List ℕ → List ℕ → ℕ → Type 0
-StandsAt {n = n} f l toks m book table count = Stands n (state-at n (lists-of f) l) toks m book table count
+abbrev pub StandsAt : {x : List ℕ} {n h k : ℕ} → FileHolds x n h k → ℕ → List ℕ → ℕ → List ℕ → List ℕ → ℕ → Type 0
+StandsAt {n = n} f l toks m book table count = RingStands n (state-at n (lists-of f) l) toks m book table count
 
 -- The tables are long enough for any ring.
 abbrev pub Tables : List ℕ → List ℕ → List ℕ → Type 0

@@ -3,11 +3,11 @@ ghost use mathlib.Core.Path.{_≡_};
 ghost use mathlib.Core.List.{List};
 ghost use Prim.Native.Nat.{ℕ, _+_, _≤_, _<_};
 ghost use lib.ListN.{length};
-ghost use Rattle.ringfile.specs.RingFile.{Holds};
+ghost use Rattle.ringfile.specs.RingFile.{FileHolds};
 ghost use Rattle.parts.specs.Writers.{flat};
 ghost use Rattle.update.specs.Update.{Published};
-ghost use Rattle.ledger.specs.Ledger.{State, opened, outcome, next};
-ghost use Rattle.ledger.specs.Stands.{Stands, Line, Answers, StandsAt, Tables};
+ghost use Rattle.ledger.specs.Ledger.{RingState, opened, outcome, next};
+ghost use Rattle.ledger.specs.Stands.{RingStands, Line, Answers, StandsAt, Tables};
 use update::Updated;
 
 // The sizes of a ring in lent tables: how many tokens its tree has, and how many groups its book.
@@ -25,7 +25,7 @@ enum Tried {
 // Opens the ring of n leaves: writes its fresh tree, and has no group.
 pub fn fresh_ring(n: usize, toks: &mut [u16]) -> Ring
     requires { ⌜ (n ≤ 256) × (512 ≤ length (now toks)) ⌝ }
-    ensures { λ r. ⌜ ((book table : List ℕ) → Stands n (opened n) (now (toks .exit)) (r .tokens) book table (r .count)) ⌝ }
+    ensures { λ r. ⌜ ((book table : List ℕ) → RingStands n (opened n) (now (toks .exit)) (r .tokens) book table (r .count)) ⌝ }
 {
     let m = tokens::fresh(n, toks);
     Ring {
@@ -37,7 +37,7 @@ pub fn fresh_ring(n: usize, toks: &mut [u16]) -> Ring
 // What the group line with these leaves does, for a tree and a count of groups. Writes the new tree to the start of out.
 fn attempt(toks: &[u16], n: usize, count: usize, list: &[u16], out: &mut [u16]) -> Tried
     requires { ⌜ (Published n (now toks)) × (Line n (now list)) × (512 ≤ length (now out)) ⌝ }
-    ensures { λ r. ⌜ ((s : State) → now (toks .entry) ≡ flat (s .tree) → count ≡ length (s .groups)
+    ensures { λ r. ⌜ ((s : RingState) → now (toks .entry) ≡ flat (s .tree) → count ≡ length (s .groups)
         → Answers (outcome n s (now (list .entry))) (now (out .entry)) (now (out .exit)) r) ⌝ }
 {
     if list.len() == 0 {
@@ -65,10 +65,10 @@ pub fn advance(
     book: &mut [u64],
     table: &mut [usize],
 ) -> Ring
-    requires { ⌜ ((s : State) × (Stands n s (now toks) (ring .tokens) (now book) (now table) (ring .count))
+    requires { ⌜ ((s : RingState) × (RingStands n s (now toks) (ring .tokens) (now book) (now table) (ring .count))
         × (Line n (now list)) × (Tables (now toks) (now book) (now table))) ⌝ }
-    ensures { λ r. ⌜ ((s : State) → Stands n s (now (toks .entry)) (ring .tokens) (now (book .entry)) (now (table .entry)) (ring .count)
-        → Stands n (next s line (now (list .entry)) (outcome n s (now (list .entry)))) (now (toks .exit)) (r .tokens) (now (book .exit)) (now (table .exit)) (r .count)) ⌝ }
+    ensures { λ r. ⌜ ((s : RingState) → RingStands n s (now (toks .entry)) (ring .tokens) (now (book .entry)) (now (table .entry)) (ring .count)
+        → RingStands n (next s line (now (list .entry)) (outcome n s (now (list .entry)))) (now (toks .exit)) (r .tokens) (now (book .exit)) (now (table .exit)) (r .count)) ⌝ }
 {
     let m = ring.tokens;
     let count = ring.count;
@@ -98,9 +98,9 @@ fn join_line(
     book: &mut [u64],
     table: &mut [usize],
 ) -> Ring
-    requires { ⌜ ((f : Holds (now file) names head lines) × (l < lines) × (Tables (now toks) (now book) (now table))
+    requires { ⌜ ((f : FileHolds (now file) names head lines) × (l < lines) × (Tables (now toks) (now book) (now table))
         × (StandsAt f l (now toks) (ring .tokens) (now book) (now table) (ring .count))) ⌝ }
-    ensures { λ r. ⌜ ((f : Holds (now (file .entry)) names head lines)
+    ensures { λ r. ⌜ ((f : FileHolds (now (file .entry)) names head lines)
         → StandsAt f l (now (toks .entry)) (ring .tokens) (now (book .entry)) (now (table .entry)) (ring .count)
         → StandsAt f (l + 1) (now (toks .exit)) (r .tokens) (now (book .exit)) (now (table .exit)) (r .count)) ⌝ }
 {
@@ -120,8 +120,8 @@ pub fn replay(
     book: &mut [u64],
     table: &mut [usize],
 ) -> Ring
-    requires { ⌜ (Holds (now file) names head lines) × (upto ≤ lines) × (Tables (now toks) (now book) (now table)) ⌝ }
-    ensures { λ r. ⌜ ((f : Holds (now (file .entry)) names head lines)
+    requires { ⌜ (FileHolds (now file) names head lines) × (upto ≤ lines) × (Tables (now toks) (now book) (now table)) ⌝ }
+    ensures { λ r. ⌜ ((f : FileHolds (now (file .entry)) names head lines)
         → StandsAt f upto (now (toks .exit)) (r .tokens) (now (book .exit)) (now (table .exit)) (r .count)) ⌝ }
 {
     let mut ring = fresh_ring(names, toks);

@@ -21,10 +21,10 @@ use Rattle.update.specs.Update.{Published}
 use Rattle.output.specs.Appends.{Appends}
 use Rattle.ringfile.specs.declared.Scanned.{Scanned}
 use Rattle.ringfile.specs.declared.Scanned.the-variants.{Ring, Refused}
-use Rattle.ringfile.specs.RingFile.{Value, file-bytes, Rules, leaves-on, RefusedAt, Accepted, Holds, Says}
+use Rattle.ringfile.specs.RingFile.{Value, file-bytes, Rules, leaves-on, RefusedAt, Accepted, FileHolds, Says}
 use Rattle.ringfile.proofs.Answers.{ring-holds, refused-byte, refused-is, refused-at}
 use Rattle.syntax.proofs.Exact.{parts-once, not-both, one-byte}
-use Rattle.ledger.specs.Ledger.{State, opened, run, state-at}
+use Rattle.ledger.specs.Ledger.{RingState, opened, run, state-at}
 use Rattle.ledger.specs.Stands.{lists-of, StandsAt}
 use Rattle.ledger.proofs.Runs.{state-all}
 use Rattle.ledger.proofs.Files.{few-names, lists-length}
@@ -37,14 +37,14 @@ use Rattle.listing.specs.Lists.{Lists, accepted, too-long, malformed, Li
 use Rattle.listing.proofs.Parts.{shown-none}
 
 -- The ring after all lines.
-module _ {x : List ℕ} {n h k : ℕ} (f : Holds x n h k) {toks book table : List ℕ} {m count : ℕ} (s : StandsAt f k toks m book table count) where
+module _ {x : List ℕ} {n h k : ℕ} (f : FileHolds x n h k) {toks book table : List ℕ} {m count : ℕ} (s : StandsAt f k toks m book table count) where
   abbrev t : Forest
   t = final (f .ns) (lists-of f)
 
   last-tree : state-at n (lists-of f) k .tree ≡ t
   unfolding final
   last-tree =
-      ap (λ (u : State). u .tree) (state-all n (lists-of f) k (sym (lists-length f)))
+      ap (λ (u : RingState). u .tree) (state-all n (lists-of f) k (sym (lists-length f)))
       ∙ ap (λ (i : ℕ). run i (opened i) 1 (lists-of f) .tree) (f .leaves)
 
   pub final-tokens : take (m - 0) (drop 0 toks) ≡ flat t
@@ -99,11 +99,11 @@ error-part byte from {old} {a} {b} {new} {i} {j} {r} z v p q e =
 
 -- What the scan says, and what is printed.
 module _ {x : List ℕ} {r : Scanned} (s : Says x r) where
-  pub found-ring : {n h l : ℕ} → r ≡ Ring n h l → Holds x n h l
+  pub found-ring : {n h l : ℕ} → r ≡ Ring n h l → FileHolds x n h l
   found-ring e = ring-holds (subst (Says x) e s)
 
   pub found-listed : {n h l from : ℕ} {old new : List ℕ} {p : Piece} (e : r ≡ Ring n h l)
-      → ((f : Holds x n h l) → Parts (listing (f .ns) (lists-of f)) from old new p) → Listed x from old new p
+      → ((f : FileHolds x n h l) → Parts (listing (f .ns) (lists-of f)) from old new p) → Listed x from old new p
   found-listed e w =
       let f = found-ring e in
       record { lines = listing (f .ns) (lists-of f); all-lines = accepted (f .rules) (f .bytes) (f .size); part = w f }

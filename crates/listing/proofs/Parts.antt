@@ -7,7 +7,7 @@ use lib.ListN.{length, getD, take, drop, length-append}
 use Rattle.tokens.specs.Tokens.{Wrote}
 use Rattle.tokens.proofs.Writes.{wrote-none}
 use Rattle.output.specs.Appends.{Appends}
-use Rattle.ringfile.specs.RingFile.{line, value-lines, file-bytes, Holds}
+use Rattle.ringfile.specs.RingFile.{line, value-lines, file-bytes, FileHolds}
 use Rattle.ringfile.proofs.Values.{lines-long}
 use Rattle.listing.specs.declared.Piece.{Piece}
 use Rattle.printing.specs.Listing.{printed}
@@ -15,7 +15,7 @@ use Rattle.listing.specs.Parts.{Parts}
 use Rattle.printing.proofs.Lines.{printed-none, printed-more}
 
 -- A file has fewer group lines than bytes.
-pub lines-few : {x : List ℕ} {n h k : ℕ} → Holds x n h k → k ≤ 65536
+pub lines-few : {x : List ℕ} {n h k : ℕ} → FileHolds x n h k → k ≤ 65536
 lines-few f =
     omega (arith, f .lines, f .size, ap length (f .bytes), length-append (line (f .ns)) (value-lines (f .vss)), lines-long (f .vss))
 

@@ -3,7 +3,7 @@ ghost use mathlib.Core.Path.{_≡_};
 ghost use mathlib.Core.List.{[], _∷_};
 ghost use Prim.Native.Nat.{_+_, _-_, _≤_, _<_};
 ghost use Rattle.update.specs.Update.{Published};
-ghost use Rattle.ringfile.specs.RingFile.{Holds};
+ghost use Rattle.ringfile.specs.RingFile.{FileHolds};
 ghost use Rattle.ledger.specs.Stands.{lists-of, Tables};
 ghost use Rattle.fields.specs.Ordered.{Ordered};
 ghost use Rattle.printing.specs.Listing.{listing, error-line};
@@ -36,9 +36,9 @@ fn print_lines(
     table: &mut [usize],
     out: &mut [u8],
 ) -> Piece
-    requires { ⌜ ((f : Holds (now file) names head lines) × (Before f from (now toks) (first .tokens) (now book) (now table) (first .count))
+    requires { ⌜ ((f : FileHolds (now file) names head lines) × (Before f from (now toks) (first .tokens) (now book) (now table) (first .count))
         × (Final f (now tree) (now order)) × (Tables (now toks) (now book) (now table)) × (Published names (now tree)) × (Ordered names (now order))) ⌝ }
-    ensures { λ r. ⌜ ((f : Holds (now (file .entry)) names head lines)
+    ensures { λ r. ⌜ ((f : FileHolds (now (file .entry)) names head lines)
         → Before f from (now (toks .entry)) (first .tokens) (now (book .entry)) (now (table .entry)) (first .count)
         → Final f (now (tree .entry)) (now (order .entry))
         → Parts (listing (f .ns) (lists-of f)) from (now (out .entry)) (now (out .exit)) r) ⌝ }
@@ -100,8 +100,8 @@ fn print_from(
     order: &[u16],
     out: &mut [u8],
 ) -> Piece
-    requires { ⌜ ((f : Holds (now file) names head lines) × (Final f (now tree) (now order)) × (Published names (now tree)) × (Ordered names (now order))) ⌝ }
-    ensures { λ r. ⌜ ((f : Holds (now (file .entry)) names head lines) → Final f (now (tree .entry)) (now (order .entry))
+    requires { ⌜ ((f : FileHolds (now file) names head lines) × (Final f (now tree) (now order)) × (Published names (now tree)) × (Ordered names (now order))) ⌝ }
+    ensures { λ r. ⌜ ((f : FileHolds (now (file .entry)) names head lines) → Final f (now (tree .entry)) (now (order .entry))
         → Parts (listing (f .ns) (lists-of f)) from (now (out .entry)) (now (out .exit)) r) ⌝ }
 {
     let mut toks = [0u16; 512];
@@ -143,8 +143,8 @@ fn print_listing(
     from: usize,
     out: &mut [u8],
 ) -> Piece
-    requires { ⌜ Holds (now file) names head lines ⌝ }
-    ensures { λ r. ⌜ ((f : Holds (now (file .entry)) names head lines)
+    requires { ⌜ FileHolds (now file) names head lines ⌝ }
+    ensures { λ r. ⌜ ((f : FileHolds (now (file .entry)) names head lines)
         → Parts (listing (f .ns) (lists-of f)) from (now (out .entry)) (now (out .exit)) r) ⌝ }
 {
     let mut toks = [0u16; 512];

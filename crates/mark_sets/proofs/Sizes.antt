@@ -10,21 +10,21 @@ use lib.ListN.{length, getD}
 use lib.Arith.{lt-one}
 use lib.Pow.{shr-lt}
 use lib.Count.{ones, ones-step, ones-ones}
-use Rattle.orders.specs.Lists.{range}
+use Rattle.orders.specs.Lists.{numbers-from}
 use Rattle.marks.specs.Marks.{bit, marked, leaves-of}
-use Rattle.orders.proofs.Ranges.{range-append, count, count-cons, count-append}
+use Rattle.orders.proofs.Numbers.{numbers-append, count, count-cons, count-append}
 use Rattle.marks.proofs.Word.{digit-times, bit-zero, bit-half}
 use Rattle.marks.proofs.Words.{Words, marked-at}
 
 -- The marks of one word, and of all of them.
-count-word : (k w a : ℕ) (p : ℕ → Bool) → w < 2 ^ k → ((j : ℕ) → j < k → p (a + j) ≡ bit w j) → ones w ≡ count p (range a k)
+count-word : (k w a : ℕ) (p : ℕ → Bool) → w < 2 ^ k → ((j : ℕ) → j < k → p (a + j) ≡ bit w j) → ones w ≡ count p (numbers-from a k)
 count-word zero w a p l h = ap ones (lt-one l) ∙ ones-ones 0
 count-word (suc k) w a p l h =
     omega (
       arith,
       ones-step w,
       digit-times (w % 2) 1 (p a) (mod-lt w (omega arith)) (sym (bit-zero w) ∙ sym (h 0 (omega arith)) ∙ ap p (add-zero a)),
-      count-cons p a (range (suc a) k),
+      count-cons p a (numbers-from (suc a) k),
       count-word k (w / 2) (suc a) p (shr-lt k 1 (rw add-one l)) (λ j m. ap p (suc-add a j ∙ sym (add-suc a j)) ∙ h (suc j) (omega arith) ∙ sym (bit-half w j)),
     )
 
@@ -34,13 +34,13 @@ sum-ones (w ∷ ws) = ones w + sum-ones ws
 
 -- (For words of any width: at 64 the range would be written out.)
 count-words : (width : ℕ) (ws : List ℕ) (a : ℕ) (p : ℕ → Bool) → ((i : ℕ) → getD ws i 0 < 2 ^ width)
-    → ((i j : ℕ) → j < width → p (a + (width * i + j)) ≡ bit (getD ws i 0) j) → sum-ones ws ≡ count p (range a (width * length ws))
+    → ((i j : ℕ) → j < width → p (a + (width * i + j)) ≡ bit (getD ws i 0) j) → sum-ones ws ≡ count p (numbers-from a (width * length ws))
 count-words width [] a p v h = rw mul-zero
 count-words width (w ∷ ws) a p v h =
     ap₂ (λ (x y : ℕ). x + y) (count-word width w a p (v 0) (λ j m. ap p (first j) ∙ h 0 j m))
     (count-words width ws (a + width) p (λ i. v (suc i)) (λ i j m. ap p (next i j) ∙ h (suc i) j m))
-    ∙ sym (count-append p (range a width) (range (a + width) (width * length ws)))
-    ∙ ap (count p) (sym (range-append a width (width * length ws)) ∙ ap (range a) (all (length ws)))
+    ∙ sym (count-append p (numbers-from a width) (numbers-from (a + width) (width * length ws)))
+    ∙ ap (count p) (sym (numbers-append a width (width * length ws)) ∙ ap (numbers-from a) (all (length ws)))
   where
     first : (j : ℕ) → a + j ≡ a + (width * 0 + j)
     first j = omega arith

@@ -22,7 +22,7 @@ use Rattle.calls.specs.declared.Answer.the-variants.{Refused}
 use Rattle.calls.specs.Tables.{over}
 use Rattle.calls.specs.NodeTable.{table-of, tree-in}
 use Rattle.calls.specs.Book.{book-in-form?}
-use Rattle.calls.specs.Refusals.{refuse, down, short, list-checks}
+use Rattle.calls.specs.Refusals.{refuse, first-refusal, short, list-checks}
 use Rattle.calls.specs.Calls.{Ring, ring, is-none, table-checks, ring-checks, open-refusal, opened, open-call, joined-tree, join-refusal, joined, join-call, read-outcome, ReadCall, unread, read}
 use Rattle.calls.specs.Demands.{LentRing, Joins}
 use Rattle.calls.proofs.NodeTables.{tree-in-holds}
@@ -87,10 +87,10 @@ open-left n ns book r fs book′ sound long e =
 
 -- ---- joining
 
-down-first : (xs ys : List (Option Refusal)) → down (xs ++ ys) ≡ none → down xs ≡ none
-down-first [] ys e = refl
-down-first (none ∷ xs) ys e = down-first xs ys e
-down-first (some x ∷ xs) ys e = e
+first-refusal-before : (xs ys : List (Option Refusal)) → first-refusal (xs ++ ys) ≡ none → first-refusal xs ≡ none
+first-refusal-before [] ys e = refl
+first-refusal-before (none ∷ xs) ys e = first-refusal-before xs ys e
+first-refusal-before (some x ∷ xs) ys e = e
 
 module _ (n have : ℕ) (nodes book : List ℕ) (count : ℕ) (list : List ℕ) where
   ring-lent : join-refusal n have nodes book count list ≡ none → TableLent n have nodes (short 384 book)
@@ -99,7 +99,7 @@ module _ (n have : ℕ) (nodes book : List ℕ) (count : ℕ) (list : List ℕ) 
       let of-form = refuse (is-none (tree-in n nodes) || not (book-in-form? n book count)) NotInForm ∷ [] in
       let of-group = list-checks n list ++ (refuse (eqb count 96) BookFull ∷ refuse (is-none (joined-tree n nodes list)) Impossible ∷ []) in
       tables-lent n have nodes (short 384 book)
-      (down-first (table-checks n have nodes (short 384 book)) of-form (down-first (ring-checks n have nodes book count) of-group e))
+      (first-refusal-before (table-checks n have nodes (short 384 book)) of-form (first-refusal-before (ring-checks n have nodes book count) of-group e))
 
   joined-form : (u : Forest) → n ≤ 256 → joined-tree n nodes list ≡ some u → InForm n u
   unfolding joined-tree

@@ -7,12 +7,12 @@ use Prim.Native.Nat.{_+_, _<_, _≤_, suc, ℕ}
 use native.Mathlib.Omega.{arith}
 use borrow.Author.Tests.{eq-eqb, ne-eqb}
 use lib.ListN.{length}
-use Rattle.orders.specs.Lists.{All, elem, Perm, done}
+use Rattle.orders.specs.Lists.{All, elem, Rearranged, done}
 use Rattle.orders.specs.CircularOrder.{others, Restriction, AllConsecutive, Possible}
 use Rattle.orders.specs.Join.{side}
 use Rattle.orders.specs.Conflict.{possible?, leave-out, conflict-list, named, Numbers, Demand-3}
 use Rattle.orders.proofs.ListLaws.{all-append, all-left, all-right, all-map}
-use Rattle.orders.proofs.Perm.{perm-insert, perm-skip, pick-middle}
+use Rattle.orders.proofs.Rearranged.{perm-insert, perm-skip, pick-middle}
 use Rattle.orders.proofs.Members.{all-in, elem-in, nil-not}
 use Rattle.orders.proofs.Contiguous.{Early, sided-before, sided-last, early-con}
 use Rattle.orders.proofs.CircleAndLine.{consecutive-side}
@@ -23,13 +23,13 @@ pub fewer : (n : ℕ) (Gs Hs : List Restriction) → ((ord : List ℕ) → AllCo
 fewer n Gs Hs h p = record { order = p .order; is-order = p .is-order; hang = h (p .order) (p .hang) }
 
 -- One restriction by itself: the leaves of its side first, and then the others.
-side-first : (S : Restriction) (l : List ℕ) → (xs : List ℕ) × Perm l xs × Early S xs
+side-first : (S : Restriction) (l : List ℕ) → (xs : List ℕ) × Rearranged l xs × Early S xs
 side-first S [] = ([], done, sided-last S true false [] tt)
 side-first S (x ∷ l) = go (S x) refl (side-first S l)
   where
-    go : (b : Bool) → S x ≡ b → (xs : List ℕ) × Perm l xs × Early S xs → (xs : List ℕ) × Perm (x ∷ l) xs × Early S xs
+    go : (b : Bool) → S x ≡ b → (xs : List ℕ) × Rearranged l xs × Early S xs → (xs : List ℕ) × Rearranged (x ∷ l) xs × Early S xs
     go true q (xs, p, h) = (x ∷ xs, perm-skip x p, sided-before S true false (x ∷ []) xs refl (q, tt) h)
-    go false q (xs, p, h) = (h .0 ++ (x ∷ h .1), perm-insert (pick-middle (h .0) x (h .1)) (subst (Perm l) (h .2) p), (h .0, x ∷ h .1, refl, h .3, (q, h .4)))
+    go false q (xs, p, h) = (h .0 ++ (x ∷ h .1), perm-insert (pick-middle (h .0) x (h .1)) (subst (Rearranged l) (h .2) p), (h .0, x ∷ h .1, refl, h .3, (q, h .4)))
 
 pub one-possible : (n : ℕ) (G : Restriction) → Possible n (G ∷ [])
 one-possible n G =

@@ -7,7 +7,7 @@ use Prim.Native.Nat.{ℕ}
 use Rattle.orders.specs.Lists.{All}
 use Rattle.orders.specs.CircularOrder.{Restriction, Inside, Outside}
 use Rattle.orders.proofs.ListLaws.{all-append, all-left, all-right}
-use Rattle.orders.proofs.Perm.{perm-all}
+use Rattle.orders.proofs.Rearranged.{perm-all}
 use Rattle.orders.proofs.Members.{perm-reverse, Later, cut}
 
 -- A list of leaves.

@@ -6,12 +6,12 @@ use mathlib.Core.Bool.{Bool, cond, false, true, true≢false}
 use mathlib.Core.Option.{some}
 use mathlib.Core.List.{List, [], _++_, _∷_, append-assoc, append-nil, map}
 use Prim.Native.Nat.{ℕ}
-use Rattle.orders.specs.Lists.{In, all-of, Pick, here, there, Perm, done, next}
+use Rattle.orders.specs.Lists.{In, all-of, Pick, here, there, Rearranged, done, next}
 use Rattle.orders.specs.CircularOrder.{others, Restriction, Inside, Outside, Consecutive, AllConsecutive, Possible}
 use Rattle.orders.specs.Tree.{Forest}
 use Rattle.orders.specs.Join.{fresh, joins}
 use Rattle.orders.specs.Conflict.{spread, spread-all, perms, turns, none-in, run-first, consecutive?, possible?}
-use Rattle.orders.proofs.Perm.{perm-insert, perm-sym, nil-perm}
+use Rattle.orders.proofs.Rearranged.{perm-insert, perm-sym, nil-perm}
 use Rattle.orders.proofs.Members.{in-left, in-right, in-append, of-some, to-some, all-decides}
 use Rattle.orders.proofs.Contiguous.{L, Early, sided-before, sided-last}
 use Rattle.orders.proofs.Fresh.{possible-joins}
@@ -107,18 +107,18 @@ module _ {A : Type 0} where
   to-spread-all x (m ∷ ls) l q (inl e) j = in-left q (spread x m) (spread-all x ls) (subst (λ l. In q (spread x l)) e j)
   to-spread-all x (m ∷ ls) l q (inr i) j = in-right q (spread x m) (spread-all x ls) (to-spread-all x ls l q i j)
 
-  of-perms : (l q : List A) → In q (perms l) → Perm l q
-  of-perms [] q (inl e) = subst (Perm []) (sym e) done
+  of-perms : (l q : List A) → In q (perms l) → Rearranged l q
+  of-perms [] q (inl e) = subst (Rearranged []) (sym e) done
   of-perms [] q (inr i) = absurd i
   of-perms (x ∷ l) q i =
       let r = of-spread-all x (perms l) q i in
       perm-insert (of-spread x (r .0) q (r .2)) (of-perms l (r .0) (r .1))
 
-  to-perms : (l q : List A) → Perm l q → In q (perms l)
+  to-perms : (l q : List A) → Rearranged l q → In q (perms l)
   to-perms [] q p = inl (nil-perm p)
   to-perms (x ∷ l) q p = go (perm-sym p) (to-perms l)
     where
-      go : Perm q (x ∷ l) → ((m : List A) → Perm l m → In m (perms l)) → In q (spread-all x (perms l))
+      go : Rearranged q (x ∷ l) → ((m : List A) → Rearranged l m → In m (perms l)) → In q (spread-all x (perms l))
       go (next {k = m} k r) h = to-spread-all x (perms l) m q (h m (perm-sym r)) (to-spread k)
 
 pub possible-decides : (n : ℕ) (Gs : List Restriction) → (possible? n Gs ≡ true) ↔ Possible n Gs

@@ -10,7 +10,7 @@ use Rattle.orders.specs.CircularOrder.{Restriction, Inside, Outside}
 use Rattle.orders.specs.Tree.{Forest, nil, Item, append, rev, Consistent, no-items}
 use Rattle.orders.specs.Reduce.{put, one, Class, empty, full, partial, complement, class-by, class, is, Part, whole, every, _⊕_, up, down, middle}
 use Rattle.orders.proofs.ListLaws.{all-append, all-left, all-right}
-use Rattle.orders.proofs.Perm.{perm-sym, perm-all}
+use Rattle.orders.proofs.Rearranged.{perm-sym, perm-all}
 use Rattle.orders.proofs.Members.{NonEmpty, perm-reverse}
 use Rattle.orders.proofs.Contiguous.{L, Contiguous, Pure, Late, Early, sided-cut, sided-before, sided-after, sided-first, sided-tail, sided-both, sided-rev, sided-unrev, con-cut, con-late, con-out, con-end, out-con, con-front, con-back, con-both}
 use Rattle.orders.proofs.CircleAndLine.{complement-in, uncomplement-out}

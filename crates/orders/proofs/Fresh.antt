@@ -10,13 +10,13 @@ use native.Mathlib.Omega.{arith}
 use borrow.Author.Tests.{ltb-true}
 use lib.Dec.{ltb}
 use lib.ListN.{length}
-use Rattle.orders.specs.Lists.{range, Perm}
+use Rattle.orders.specs.Lists.{numbers-from, Rearranged}
 use Rattle.orders.specs.CircularOrder.{others, CircularOrder, Restriction, Consecutive, AllConsecutive, Possible}
 use Rattle.orders.specs.Tree.{P, Forest, nil, leaf, node, leaf-item, items, frontier, Consistent, no-items, leaf-first, Allowed}
 use Rattle.orders.specs.Form.{Rises, Rising, Canonical, Single, InForm, standard}
 use Rattle.orders.specs.Reduce.{pack}
 use Rattle.orders.specs.Join.{leaf-items, fresh, join, then, joins}
-use Rattle.orders.proofs.Perm.{perm-refl, perm-sym}
+use Rattle.orders.proofs.Rearranged.{perm-refl, perm-sym}
 use Rattle.orders.proofs.Members.{perm-map, perm-unmap}
 use Rattle.orders.proofs.Laws.{consistent-perm}
 use Rattle.orders.proofs.First.{frontier-allowed}
@@ -43,17 +43,17 @@ leaves-order : (l : List ℕ) {xs : List ℕ} → Consistent (leaf-items l) xs �
 leaves-order [] no-items = refl
 leaves-order (b ∷ l) (leaf-first s) = ap (λ m. b ∷ m) (leaves-order l s)
 
-pub pack-leaves : (l xs : List ℕ) → Consistent (pack (leaf-items l)) xs ↔ Perm l xs
+pub pack-leaves : (l xs : List ℕ) → Consistent (pack (leaf-items l)) xs ↔ Rearranged l xs
 pack-leaves l xs = Iff·trans (gives-pack (leaf-items l) xs) (to, from)
   where
-    to : Consistent (node P (leaf-items l) nil) xs → Perm l xs
+    to : Consistent (node P (leaf-items l) nil) xs → Rearranged l xs
     to s =
         let r = node-out s in
         let m = perm-unmap leaf-item l (items-leaves l) (r .turn) in
         let e : r .turned ≡ leaf-items (m .0) = sym (forest-items (r .turned)) ∙ ap forest (m .2) ∙ forest-leaves (m .0) in
-        subst (Perm l) (sym (leaves-order (m .0) (subst (λ g. Consistent g xs) e (r .order)))) (m .1)
+        subst (Rearranged l) (sym (leaves-order (m .0) (subst (λ g. Consistent g xs) e (r .order)))) (m .1)
 
-    from : Perm l xs → Consistent (node P (leaf-items l) nil) xs
+    from : Rearranged l xs → Consistent (node P (leaf-items l) nil) xs
     from p = node-in {j = leaf-items xs} (rw (items-leaves l, items-leaves xs) (perm-map leaf-item p)) (subst (Consistent (leaf-items xs)) (frontier-leaves xs) (frontier-allowed (leaf-items xs)))
 
 -- One P-node with rising leaves is in form, so the fresh ring is, for every n.
@@ -61,14 +61,14 @@ pub leaves-canonical : (l : List ℕ) → Canonical (leaf-items l)
 leaves-canonical [] = tt
 leaves-canonical (b ∷ l) = leaves-canonical l
 
-range-rises : (m a n : ℕ) → m < a → Rises m (items (leaf-items (range a n)))
-range-rises m a zero h = tt
-range-rises m a (suc n) h = (h, range-rises a (suc a) n (omega arith))
+numbers-rise : (m a n : ℕ) → m < a → Rises m (items (leaf-items (numbers-from a n)))
+numbers-rise m a zero h = tt
+numbers-rise m a (suc n) h = (h, numbers-rise a (suc a) n (omega arith))
 
 pub others-rising : (n : ℕ) → Rising (items (leaf-items (others n)))
 others-rising zero = tt
 others-rising (suc zero) = tt
-others-rising (suc (suc n)) = range-rises 2 3 n (omega arith)
+others-rising (suc (suc n)) = numbers-rise 2 3 n (omega arith)
 
 pack-canonical : (f : Forest) → Canonical f → Rising (items f) → Canonical (pack f)
 pack-canonical f c r = go (ltb 1 (length (items f))) refl
@@ -81,7 +81,7 @@ leaves-single : (l : List ℕ) → Single (items (pack (leaf-items l)))
 leaves-single [] = tt
 leaves-single (b ∷ l) = let r = pack-single (leaf-items (b ∷ l)) (omega arith) in subst (λ g. Single (items g)) (sym (r .1)) (one-single (r .0))
 
-pub leaves-form : (l : List ℕ) → Rising (items (leaf-items l)) → Single (items (pack (leaf-items l))) × Canonical (pack (leaf-items l)) × Perm l (frontier (pack (leaf-items l)))
+pub leaves-form : (l : List ℕ) → Rising (items (leaf-items l)) → Single (items (pack (leaf-items l))) × Canonical (pack (leaf-items l)) × Rearranged l (frontier (pack (leaf-items l)))
 leaves-form l r = (
   leaves-single l,
   pack-canonical (leaf-items l) (leaves-canonical l) r,

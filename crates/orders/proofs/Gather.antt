@@ -7,12 +7,12 @@ use mathlib.Core.List.{List, [], _++_, _∷_, append-assoc, append-nil, reverse,
 use Prim.Native.Nat.{_≤_}
 use native.Mathlib.Omega.{arith}
 use lib.ListN.{length}
-use Rattle.orders.specs.Lists.{All, here, Perm, next}
+use Rattle.orders.specs.Lists.{All, here, Rearranged, next}
 use Rattle.orders.specs.CircularOrder.{Restriction, Inside}
 use Rattle.orders.specs.Tree.{Consistent}
 use Rattle.orders.specs.Reduce.{one, pack, Class, empty, full, partial, is, Part, whole, only, _⊕_, reversed, c-node, gather}
 use Rattle.orders.proofs.ListLaws.{all-append}
-use Rattle.orders.proofs.Perm.{perm-refl, perm-trans, perm-all, perm-append, perm-swap, perm-length, two-picks, nil-perm, short-perm}
+use Rattle.orders.proofs.Rearranged.{perm-refl, perm-trans, perm-all, perm-append, perm-swap, perm-length, two-picks, nil-perm, short-perm}
 use Rattle.orders.proofs.Members.{NonEmpty, perm-reverse}
 use Rattle.orders.proofs.Contiguous.{L, Contiguous, Early, sided-before, sided-unrev, Contiguous-cut, con-cut, con-late, early-con, in-con, con-unrev}
 use Rattle.orders.proofs.Laws.{leaves-of}
@@ -24,7 +24,7 @@ use Rattle.orders.proofs.Reading.{one-unmirror, whole-mirror, Gives-bac
 module _ (S : Restriction) where
   -- The items in some sequence, with the marked leaves contiguous.
   abbrev pub Arranged : List Part → L → Type 0
-  Arranged X y = (bs : List Part) × Perm X bs × Consistent (whole bs) y × Contiguous S y
+  Arranged X y = (bs : List Part) × Rearranged X bs × Consistent (whole bs) y × Contiguous S y
 
   arr-mirror : (X : List Part) (y : L) → Arranged X (reverse y) → Arranged X y
   arr-mirror X y r = (reverse (r .0), perm-trans (r .1) (perm-reverse (r .0)), subst (Consistent (whole (reverse (r .0)))) (reverse-reverse y) (whole-mirror (r .0) (r .2)), con-unrev S y (r .3))
@@ -32,10 +32,10 @@ module _ (S : Restriction) where
   -- Two items or more, none empty: full ones with at most one partial item at the end; or a partial item, and then the same.
   abbrev Ended : List Part → List Part → List Part → L → Type 0
   Ended M0 G0 [] y = ⊥
-  Ended M0 G0 (p ∷ M) y = (G : List Part) × Perm G0 G × (Gives (p .linear) ⊗ (Consistent (whole G) ⊗ Gives-back M)) y
+  Ended M0 G0 (p ∷ M) y = (G : List Part) × Rearranged G0 G × (Gives (p .linear) ⊗ (Consistent (whole G) ⊗ Gives-back M)) y
 
   abbrev Pattern : List Part → List Part → L → Type 0
-  Pattern M0 G0 y = ((M : List Part) × (G : List Part) × Perm M0 M × Perm G0 G × (Consistent (whole G) ⊗ Gives-back M) y) ⊎ ((M : List Part) × Perm M0 M × Ended M0 G0 M y)
+  Pattern M0 G0 y = ((M : List Part) × (G : List Part) × Rearranged M0 M × Rearranged G0 G × (Consistent (whole G) ⊗ Gives-back M) y) ⊎ ((M : List Part) × Rearranged M0 M × Ended M0 G0 M y)
 
   some-head : (p : Part) (ps : List Part) → only empty (p ∷ ps) ≡ [] → (is empty (p .sort) ≡ false) × (only empty ps ≡ [])
   some-head p ps e = go (is empty (p .sort)) refl e
@@ -44,14 +44,14 @@ module _ (S : Restriction) where
       go true q e = absurd (subst NonEmpty e tt)
       go false q e = (q, e)
 
-  pattern : (M0 G0 : List Part) → Of partial M0 → Of full G0 → (p q : Part) (bs : List Part) → All (Fit S) (p ∷ (q ∷ bs)) → Perm (M0 ++ G0) (p ∷ (q ∷ bs)) → (y : L) → Consistent (whole (p ∷ (q ∷ bs))) y → Contiguous S y → Pattern M0 G0 y
+  pattern : (M0 G0 : List Part) → Of partial M0 → Of full G0 → (p q : Part) (bs : List Part) → All (Fit S) (p ∷ (q ∷ bs)) → Rearranged (M0 ++ G0) (p ∷ (q ∷ bs)) → (y : L) → Consistent (whole (p ∷ (q ∷ bs))) y → Contiguous S y → Pattern M0 G0 y
   pattern M0 G0 hm hg p q bs f pm y s c = go (p .sort) refl (f .0 .marked) (con-cut S (k .0) (k .1) (k .2) c)
     where
       k : (Consistent (one (p .item)) ⊗ Consistent (whole (q ∷ bs))) y
       k = consistent-cons (p .item) (whole (q ∷ bs)) y .0 s
 
       none-e : only empty (p ∷ (q ∷ bs)) ≡ []
-      none-e = nil-perm (subst (λ l. Perm l (only empty (p ∷ (q ∷ bs)))) (only-append empty M0 G0 ∙ ap₂ _++_ (only-none empty partial refl M0 hm) (only-none empty full refl G0 hg)) (only-perm empty pm))
+      none-e = nil-perm (subst (λ l. Rearranged l (only empty (p ∷ (q ∷ bs)))) (only-append empty M0 G0 ∙ ap₂ _++_ (only-none empty partial refl M0 hm) (only-none empty full refl G0 hg)) (only-perm empty pm))
 
       here-some : is empty (p .sort) ≡ false
       here-some = some-head p (q ∷ bs) none-e .0
@@ -59,11 +59,11 @@ module _ (S : Restriction) where
       rest-some : only empty (q ∷ bs) ≡ []
       rest-some = some-head p (q ∷ bs) none-e .1
 
-      perm-m : Perm M0 (only partial (p ∷ (q ∷ bs)))
-      perm-m = subst (λ l. Perm l (only partial (p ∷ (q ∷ bs)))) (only-append partial M0 G0 ∙ ap₂ _++_ (only-all partial M0 hm) (only-none partial full refl G0 hg) ∙ append-nil M0) (only-perm partial pm)
+      perm-m : Rearranged M0 (only partial (p ∷ (q ∷ bs)))
+      perm-m = subst (λ l. Rearranged l (only partial (p ∷ (q ∷ bs)))) (only-append partial M0 G0 ∙ ap₂ _++_ (only-all partial M0 hm) (only-none partial full refl G0 hg) ∙ append-nil M0) (only-perm partial pm)
 
-      perm-g : Perm G0 (only full (p ∷ (q ∷ bs)))
-      perm-g = subst (λ l. Perm l (only full (p ∷ (q ∷ bs)))) (only-append full M0 G0 ∙ ap₂ _++_ (only-none full partial refl M0 hm) (only-all full G0 hg)) (only-perm full pm)
+      perm-g : Rearranged G0 (only full (p ∷ (q ∷ bs)))
+      perm-g = subst (λ l. Rearranged l (only full (p ∷ (q ∷ bs)))) (only-append full M0 G0 ∙ ap₂ _++_ (only-none full partial refl M0 hm) (only-all full G0 hg)) (only-perm full pm)
 
       fall : Early S (k .1) → Read S true (q ∷ bs) (k .1)
       fall h = read S true (q ∷ bs) (f .1) (k .1) (k .4) h
@@ -90,22 +90,22 @@ module _ (S : Restriction) where
           inl (
             r .ms,
             p ∷ r .bs,
-            subst (Perm M0) (take partial full e ∙ only-read S true r .1) perm-m,
-            subst (Perm G0) (take full full e ∙ ap (λ l. p ∷ l) (only-read S true r .0)) perm-g,
+            subst (Rearranged M0) (take partial full e ∙ only-read S true r .1) perm-m,
+            subst (Rearranged G0) (take full full e ∙ ap (λ l. p ∷ l) (only-read S true r .0)) perm-g,
             (k .0 ++ o .0, o .1, k .2 ∙ ap (_++_ (k .0)) (o .2) ∙ sym (append-assoc (k .0) (o .0) (o .1)), consistent-cons (p .item) (whole (r .bs)) (k .0 ++ o .0) .1 (k .0, o .0, refl, k .3, o .3), o .4),
           )
       go partial e m (inr (inr x)) =
           let r = fall (x .1) in
           inr (
             p ∷ r .ms,
-            subst (Perm M0) (take partial partial e ∙ ap (λ l. p ∷ l) (only-read S true r .1)) perm-m,
-            (r .bs, subst (Perm G0) (take full partial e ∙ only-read S true r .0) perm-g, (k .0, k .1, k .2, f .0 .linear-ok (k .0) .1 (k .3, x .0), last r)),
+            subst (Rearranged M0) (take partial partial e ∙ ap (λ l. p ∷ l) (only-read S true r .1)) perm-m,
+            (r .bs, subst (Rearranged G0) (take full partial e ∙ only-read S true r .0) perm-g, (k .0, k .1, k .2, f .0 .linear-ok (k .0) .1 (k .3, x .0), last r)),
           )
 
   pattern-of : (M0 G0 : List Part) → All (Fit S) (M0 ++ G0) → Of partial M0 → Of full G0 → 2 ≤ length (M0 ++ G0) → (y : L) → Arranged (M0 ++ G0) y → Pattern M0 G0 y
   pattern-of M0 G0 f hm hg n y r = go (r .0) (r .1) (r .2)
     where
-      go : (bs : List Part) → Perm (M0 ++ G0) bs → Consistent (whole bs) y → Pattern M0 G0 y
+      go : (bs : List Part) → Rearranged (M0 ++ G0) bs → Consistent (whole bs) y → Pattern M0 G0 y
       go [] pm s = absurd (omega (arith, perm-length pm))
       go (p ∷ []) pm s = absurd (omega (arith, perm-length pm))
       go (p ∷ (q ∷ bs)) pm s = pattern M0 G0 hm hg p q bs (perm-all (Fit S) pm f) pm y s (r .3)
@@ -114,12 +114,12 @@ module _ (S : Restriction) where
   one-length M z g = one-at-most M (reverse z) g
 
   -- The full items in any sequence, all inside.
-  full-from : (G : List Part) → All (Fit S) G → Of full G → (y : L) → Consistent (pack (whole G)) y → (bs : List Part) × Perm G bs × Consistent (whole bs) y × Inside S y
+  full-from : (G : List Part) → All (Fit S) G → Of full G → (y : L) → Consistent (pack (whole G)) y → (bs : List Part) × Rearranged G bs × Consistent (whole bs) y × Inside S y
   full-from G f h y s =
       let a = pack-from G s in
       (a .0, a .1, a .2, of-pure S true (a .0) (perm-all (Fit S) (a .1) f) (perm-all _ (a .1) h) y (a .2))
 
-  pack-mirror : {G bs : List Part} (y : L) → Perm G bs → Consistent (whole bs) y → Consistent (pack (whole G)) (reverse y)
+  pack-mirror : {G bs : List Part} (y : L) → Rearranged G bs → Consistent (whole bs) y → Consistent (pack (whole G)) (reverse y)
   pack-mirror {bs = bs} y pm s = pack-to (perm-trans pm (perm-reverse bs)) (whole-mirror bs s)
 
   linear-back : (m : Part) → Fit S m → (z : L) → Gives (m .linear) (reverse z) → Consistent (one (m .item)) z × Early S z
@@ -219,7 +219,7 @@ module _ (S : Restriction) where
   too-many M0 G0 n y (inl r) = omega (arith, perm-length (r .2), one-length (r .0) (r .4 .1) (r .4 .4))
   too-many M0 G0 n y (inr r) = go (r .0) (r .1) (r .2)
     where
-      go : (M : List Part) → Perm M0 M → Ended M0 G0 M y → ⊥
+      go : (M : List Part) → Rearranged M0 M → Ended M0 G0 M y → ⊥
       go [] pm q = q
       go (p ∷ M) pm q = omega (arith, perm-length pm, one-length M (q .2 .4 .1) (q .2 .4 .4))
 

@@ -8,17 +8,17 @@ use mathlib.Core.List.{List, [], _∷_}
 use Prim.Native.Nat.{_+_, _≤_, suc, zero, ℕ}
 use native.Mathlib.Omega.{arith}
 use lib.ListN.{length}
-use Rattle.orders.specs.Lists.{All, Distinct, In, elem, range, Perm}
+use Rattle.orders.specs.Lists.{All, Distinct, In, elem, numbers-from, Rearranged}
 use Rattle.orders.specs.CircularOrder.{others, Restriction, WellFormed, Consecutive}
 use Rattle.orders.specs.Tree.{Forest, items, frontier, Consistent, Allowed}
 use Rattle.orders.specs.Form.{Canonical, Single, InForm, StandardOrder, standard}
 use Rattle.orders.specs.Reduce.{complement, reduce}
 use Rattle.orders.specs.Join.{side, join}
-use Rattle.orders.proofs.Perm.{perm-trans, perm-sym}
+use Rattle.orders.proofs.Rearranged.{perm-trans, perm-sym}
 use Rattle.orders.proofs.Members.{in-one, all-in, in-all, perm-in, elem-in, in-elem, all-but-one}
 use Rattle.orders.proofs.Contiguous.{L, Contiguous}
 use Rattle.orders.proofs.CircleAndLine.{complement-out, consecutive-side}
-use Rattle.orders.proofs.Ranges.{range-length, range-in}
+use Rattle.orders.proofs.Numbers.{numbers-length, numbers-in}
 use Rattle.orders.proofs.Parts.{canonical-forked}
 use Rattle.orders.proofs.Forms.{not-one, form-distinct}
 use Rattle.orders.proofs.Gives.{Gives}
@@ -55,7 +55,7 @@ module _ (G : Restriction) (t : Forest) (one : Single (items t)) (c : Canonical 
   unfolding join
   orders-left = circular (reduce (side 1 G) t) t G (reduce-ok (side 1 G) t one (canonical-forked t c))
 
-  pub tree-left : (t′ : Forest) → Distinct (frontier t) → join G t ≡ some t′ → Single (items t′) × Canonical t′ × Perm (frontier t) (frontier t′)
+  pub tree-left : (t′ : Forest) → Distinct (frontier t) → join G t ≡ some t′ → Single (items t′) × Canonical t′ × Rearranged (frontier t) (frontier t′)
   unfolding join
   tree-left t′ d e = (
     reduce-single (side 1 G) t t′ one (canonical-forked t c) e,
@@ -78,11 +78,11 @@ module _ (n : ℕ) (G : Restriction) (t : Forest) (f : InForm n t) where
 -- A tree comes out.
 pub record Joined (n : ℕ) (G : Restriction) (t t′ : Forest) : Type 0 where
   pub form : InForm n t′
-  pub leaves : Perm (frontier t) (frontier t′)
+  pub leaves : Rearranged (frontier t) (frontier t′)
   pub orders : (ord : List ℕ) → Allowed t′ ord ↔ (Allowed t ord × Consecutive G ord)
   pub standard-first : StandardOrder t′ (standard t′)
 
-join-form : (n : ℕ) (G : Restriction) (t t′ : Forest) → InForm n t → join G t ≡ some t′ → InForm n t′ × Perm (frontier t) (frontier t′)
+join-form : (n : ℕ) (G : Restriction) (t t′ : Forest) → InForm n t → join G t ≡ some t′ → InForm n t′ × Rearranged (frontier t) (frontier t′)
 join-form n G t t′ f e =
     let r = tree-left G t (f .single) (f .canonical) t′ (form-distinct n t f) e in
     (record { single = r .0; canonical = r .1; all-leaves = perm-trans (f .all-leaves) (r .2) }, r .2)
@@ -140,5 +140,5 @@ join-idle n l t w f (inr e) = most-leaves n w f (size e)
         no-leaf [] h a = absurd (omega arith)
         no-leaf (x ∷ l) h a = absurd (omega (arith, a .0 .0, a .0 .1))
     most-leaves (suc n) w f e =
-        let r = all-but-one l (range 1 (suc n)) (w .different) (λ y i. let b = all-in (λ b. (1 ≤ b) × (b ≤ suc n)) y l (w .in-range) i in range-in 1 (suc n) y (b .0) (omega (arith, b .1))) (omega (arith, range-length 1 (suc n))) in
+        let r = all-but-one l (numbers-from 1 (suc n)) (w .different) (λ y i. let b = all-in (λ b. (1 ≤ b) × (b ≤ suc n)) y l (w .in-range) i in numbers-in 1 (suc n) y (b .0) (omega (arith, b .1))) (omega (arith, numbers-length 1 (suc n))) in
         join-stays (suc n) (elem l) t f false (r .0) (λ y i q. r .1 y i (λ j. true≢false (sym (in-elem l y j) ∙ q)))

@@ -1,10 +1,10 @@
 -- Laws of tests, and of lists.
 pub mod Tests
 pub mod ListLaws
-pub mod Perm
+pub mod Rearranged
 pub mod Members
-pub mod Ranges
-pub mod Lex
+pub mod Numbers
+pub mod NotAfter
 -- Round the circle and on the line.
 pub mod Contiguous
 pub mod CircleAndLine
@@ -13,7 +13,7 @@ pub mod Laws
 pub mod First
 pub mod Parts
 pub mod Mirror
-pub mod Insert
+pub mod PutSorted
 pub mod Forms
 -- The update: the linear and reduced forms of a node; what reducing keeps.
 pub mod Gives

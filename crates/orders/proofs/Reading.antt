@@ -10,7 +10,7 @@ use Rattle.orders.specs.Lists.{All}
 use Rattle.orders.specs.CircularOrder.{Restriction, Outside}
 use Rattle.orders.specs.Tree.{nil, Item, leaf-item, node-item, Consistent, no-items}
 use Rattle.orders.specs.Reduce.{one, Class, empty, full, partial, is, Part, whole, only, linear-partial}
-use Rattle.orders.proofs.Perm.{short-perm}
+use Rattle.orders.proofs.Rearranged.{short-perm}
 use Rattle.orders.proofs.Members.{perm-reverse}
 use Rattle.orders.proofs.Contiguous.{L, Contiguous, Pure, Sided, Late, Early, Sided-cut, sided-cut, sided-first, sided-last, sided-rev, Contiguous-cut, con-cut, out-con, con-front, con-back, con-early}
 use Rattle.orders.proofs.Laws.{leaves-of, consistent-split}

@@ -13,13 +13,13 @@ use Rattle.orders.specs.Lists.{All, Distinct}
 use Rattle.orders.specs.CircularOrder.{Restriction, Inside, Outside}
 use Rattle.orders.specs.Tree.{Kind, P, C, Forest, nil, leaf, node, Item, leaf-item, node-item, items, append, rev, frontier}
 use Rattle.orders.specs.Form.{first, first-of, Rises, Rising, Sorted, Every, TwoItems, Canonical, Single}
-use Rattle.orders.specs.Reduce.{put, one, insert, orient, pack, Class, empty, full, partial, class, is, Part, whole, only, every, _⊕_, reversed, or-else, c-node, up, down, middle, linear-partial, gather, among, linear-node, reduced-node, settled, node-part, parts, reduce}
-use Rattle.orders.proofs.Perm.{perm-all, perm-length, perm-distinct}
+use Rattle.orders.specs.Reduce.{put, one, put-sorted, orient, pack, Class, empty, full, partial, class, is, Part, whole, only, every, _⊕_, reversed, or-else, c-node, up, down, middle, linear-partial, gather, among, linear-node, reduced-node, settled, node-part, parts, reduce}
+use Rattle.orders.proofs.Rearranged.{perm-all, perm-length, perm-distinct}
 use Rattle.orders.proofs.Members.{distinct-left, distinct-right, perm-reverse}
 use Rattle.orders.proofs.Laws.{items-append, rev-perm, leaves-of, flat, frontier-flat, Every-of, every-all, all-every, every-perm, every-append, every-map, Forked, Node-canonical}
 use Rattle.orders.proofs.First.{two-nonempty, Starts}
 use Rattle.orders.proofs.Parts.{items-put, canonical-forked, forked-nonempty}
-use Rattle.orders.proofs.Insert.{insert-perm, orient-perm, Climbs, Climbing, climbing-insert, orient-ends, head-differs, all-start, ends-differ}
+use Rattle.orders.proofs.PutSorted.{put-sorted-perm, orient-perm, Climbs, Climbing, climbing-put-sorted, orient-ends, head-differs, all-start, ends-differ}
 use Rattle.orders.proofs.Fits.{Mark, mark, Of, Single-item, leaf-pure, Fit}
 use Rattle.orders.proofs.Classes.{items-whole, only-of, keep-only}
 use Rattle.orders.proofs.Reduced.{single-gather, some-other}
@@ -202,12 +202,12 @@ gather-at-least (p ∷ (p′ ∷ (p″ ∷ M))) G q o n g = tt
 
 among-at-least : (e : Forest) (o : Option Forest) → Climbing (items e) → Formed e → Single-item o → AtLeast 1 o → AtLeast 1 (among e o)
 among-at-least e none c h l g = tt
-among-at-least e (some t) c h (u, q) g = subst (λ z. AtLeast 1 (some (pack (insert z e)))) (sym q) (put-in (subst Formed q (g .0)))
+among-at-least e (some t) c h (u, q) g = subst (λ z. AtLeast 1 (some (pack (put-sorted z e)))) (sym q) (put-in (subst Formed q (g .0)))
   where
-    put-in : Formed (one u) → AtLeast 1 (some (pack (insert (one u) e)))
+    put-in : Formed (one u) → AtLeast 1 (some (pack (put-sorted (one u) e)))
     put-in g =
-        let r = at-least-pack (insert (one u) e) (climbing-insert u e c) (every-perm Node-formed (append (one u) e) (insert (one u) e) (insert-perm (one u) e) (every-append Node-formed (one u) e g h)) in
-        (r .0, omega (arith, perm-length (insert-perm (one u) e), ap length (items-append (one u) e), length-append (items (one u)) (items e), ap length (items-put u nil)))
+        let r = at-least-pack (put-sorted (one u) e) (climbing-put-sorted u e c) (every-perm Node-formed (append (one u) e) (put-sorted (one u) e) (put-sorted-perm (one u) e) (every-append Node-formed (one u) e g h)) in
+        (r .0, omega (arith, perm-length (put-sorted-perm (one u) e), ap length (items-append (one u) e), length-append (items (one u)) (items e), ap length (items-put u nil)))
 
 reduced-at-least : (k : Kind) (ps : List Part) → Sloped k (whole ps) → 2 ≤ length ps → All Made ps → 1 ≤ length (only partial ps ++ only full ps) → Single-item (gather (only partial ps) (only full ps)) → AtLeast 1 (reduced-node k ps)
 reduced-at-least P ps h n m a o =

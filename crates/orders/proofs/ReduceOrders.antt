@@ -7,7 +7,7 @@ use mathlib.Core.List.{List, [], _∷_}
 use Prim.Native.Nat.{_≤_, suc, ℕ}
 use native.Mathlib.Omega.{arith}
 use lib.ListN.{length}
-use Rattle.orders.specs.Lists.{All, Perm}
+use Rattle.orders.specs.Lists.{All, Rearranged}
 use Rattle.orders.specs.CircularOrder.{Restriction, Inside, Outside}
 use Rattle.orders.specs.Tree.{Kind, Forest, nil, leaf, node, Item, leaf-item, node-item, items, frontier, Consistent}
 use Rattle.orders.specs.Form.{Single}
@@ -79,7 +79,7 @@ module _ (S : Restriction) where
   reduce-some t t′ l h e xs = subst (λ o. Gives o xs ↔ (Consistent t xs × Contiguous S xs)) e (reduce-ok t l h xs)
 
   -- The leaves are rearranged.
-  pub reduce-frontier : (t t′ : Forest) → Single (items t) → Forked t → reduce S t ≡ some t′ → Perm (frontier t) (frontier t′)
+  pub reduce-frontier : (t t′ : Forest) → Single (items t) → Forked t → reduce S t ≡ some t′ → Rearranged (frontier t) (frontier t′)
   reduce-frontier t t′ l h e = consistent-perm (reduce-some t t′ l h e (frontier t′) .0 (frontier-allowed t′) .0)
 
   -- One item stays one item.

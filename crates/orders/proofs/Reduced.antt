@@ -9,16 +9,16 @@ use native.Mathlib.Omega.{arith}
 use borrow.Author.Tests.{ltb-false}
 use lib.Dec.{ltb}
 use lib.ListN.{length}
-use Rattle.orders.specs.Lists.{All, here, Perm, next}
+use Rattle.orders.specs.Lists.{All, here, Rearranged, next}
 use Rattle.orders.specs.CircularOrder.{Restriction, Outside}
 use Rattle.orders.specs.Tree.{Kind, P, C, Forest, nil, leaf, node, Item, leaf-item, node-item, items, frontier, Consistent}
-use Rattle.orders.specs.Reduce.{put, one, insert, orient, pack, Class, empty, full, partial, is, Part, whole, only, _⊕_, reversed, c-node, middle, gather, among, reduced-node, settled}
+use Rattle.orders.specs.Reduce.{put, one, put-sorted, orient, pack, Class, empty, full, partial, is, Part, whole, only, _⊕_, reversed, c-node, middle, gather, among, reduced-node, settled}
 use Rattle.orders.proofs.ListLaws.{all-left, all-right}
-use Rattle.orders.proofs.Perm.{perm-refl, perm-trans, perm-sym, perm-all, perm-left, pick-middle, perm-append, perm-swap, perm-length, pull-out}
+use Rattle.orders.proofs.Rearranged.{perm-refl, perm-trans, perm-sym, perm-all, perm-left, pick-middle, perm-append, perm-swap, perm-length, pull-out}
 use Rattle.orders.proofs.Contiguous.{L, Contiguous, Pure, con-out, con-end, con-rev, con-unrev}
 use Rattle.orders.proofs.First.{frontier-allowed}
 use Rattle.orders.proofs.Parts.{put-one}
-use Rattle.orders.proofs.Insert.{insert-perm, insert-consistent}
+use Rattle.orders.proofs.PutSorted.{put-sorted-perm, put-sorted-consistent}
 use Rattle.orders.proofs.Gives.{Gives, _⊗_, consistent-cons, node-C, gives-C, gives-pack}
 use Rattle.orders.proofs.Fits.{Of, Single-item, pure, Fit, of-pure, middle-ok}
 use Rattle.orders.proofs.Classes.{P-to, P-from, whole-consistent, only-of, keep-only, only-all, only-none, only-append, only-perm, parted}
@@ -28,7 +28,7 @@ use Rattle.orders.proofs.Gather.{Arranged, gather-ok}
 module _ (S : Restriction) where
   -- The empty items, and the others, of a P-node's items in some sequence.
   abbrev Around : List Part → L → Type 0
-  Around ps xs = (ls : List Part) × (cs : List Part) × Perm (only empty ps) (ls ++ cs) × (Consistent (whole ls) ⊗ (Arranged S (only partial ps ++ only full ps) ⊗ Consistent (whole cs))) xs
+  Around ps xs = (ls : List Part) × (cs : List Part) × Rearranged (only empty ps) (ls ++ cs) × (Consistent (whole ls) ⊗ (Arranged S (only partial ps ++ only full ps) ⊗ Consistent (whole cs))) xs
 
   around-to : (ps : List Part) → All (Fit S) ps → (xs : L) → Consistent (node P (whole ps) nil) xs → Contiguous S xs → Around ps xs
   around-to ps f xs s c =
@@ -38,11 +38,11 @@ module _ (S : Restriction) where
       let v = o .4 in
       let only-these : (c : Class) → only c (a .0) ≡ only c (r .ls) ++ (only c (r .bs) ++ only c (r .cs)) = λ c. ap (only c) (r .is-these) ∙ only-append c (r .ls) (r .bs ++ r .cs) ∙ ap (λ l. only c (r .ls) ++ l) (only-append c (r .bs) (r .cs)) in
       let in-bs : (c : Class) → is c empty ≡ false → only c (a .0) ≡ only c (r .bs) = λ c n. only-these c ∙ ap₂ _++_ (only-none c empty n (r .ls) (r .all-a)) (ap (λ l. only c (r .bs) ++ l) (only-none c empty n (r .cs) (r .all-c)) ∙ append-nil (only c (r .bs))) in
-      let pe : Perm (only empty ps) (r .ls ++ r .cs) =
-      subst (Perm (only empty ps)) (only-these empty ∙ ap₂ _++_ (only-all empty (r .ls) (r .all-a)) (ap₂ _++_ (r .none-b) (only-all empty (r .cs) (r .all-c)))) (only-perm empty (a .1)) in
-      let pb : Perm (only partial ps ++ only full ps) (only empty (r .bs) ++ (only partial (r .bs) ++ only full (r .bs))) =
-      subst (λ l. Perm (only partial ps ++ only full ps) (l ++ (only partial (r .bs) ++ only full (r .bs)))) (sym (r .none-b))
-      (perm-append (subst (Perm (only partial ps)) (in-bs partial refl) (only-perm partial (a .1))) (subst (Perm (only full ps)) (in-bs full refl) (only-perm full (a .1)))) in
+      let pe : Rearranged (only empty ps) (r .ls ++ r .cs) =
+      subst (Rearranged (only empty ps)) (only-these empty ∙ ap₂ _++_ (only-all empty (r .ls) (r .all-a)) (ap₂ _++_ (r .none-b) (only-all empty (r .cs) (r .all-c)))) (only-perm empty (a .1)) in
+      let pb : Rearranged (only partial ps ++ only full ps) (only empty (r .bs) ++ (only partial (r .bs) ++ only full (r .bs))) =
+      subst (λ l. Rearranged (only partial ps ++ only full ps) (l ++ (only partial (r .bs) ++ only full (r .bs)))) (sym (r .none-b))
+      (perm-append (subst (Rearranged (only partial ps)) (in-bs partial refl) (only-perm partial (a .1))) (subst (Rearranged (only full ps)) (in-bs full refl) (only-perm full (a .1)))) in
       (r .ls, r .cs, pe, (o .0, o .1, o .2, o .3, (v .0, v .1, v .2, (r .bs, perm-trans pb (perm-sym (parted (r .bs))), v .3 .0, v .3 .1), v .4)))
 
   around-from : (ps : List Part) → All (Fit S) ps → (xs : L) → Around ps xs → Consistent (node P (whole ps) nil) xs × Contiguous S xs
@@ -55,8 +55,8 @@ module _ (S : Restriction) where
       let fe : All (Fit S) (ls ++ cs) = perm-all (Fit S) (r .2) (keep-only (Fit S) empty ps f) in
       let he : Of empty (ls ++ cs) = perm-all _ (r .2) (only-of empty ps) in
       let X = only partial ps ++ only full ps in
-      let p1 : Perm (only empty ps ++ X) ((ls ++ cs) ++ bs) = perm-append (r .2) (v .3 .1) in
-      let p2 : Perm ((ls ++ cs) ++ bs) (ls ++ (bs ++ cs)) = subst (λ l. Perm l (ls ++ (bs ++ cs))) (sym (append-assoc ls cs bs)) (perm-left ls (perm-swap cs bs)) in (
+      let p1 : Rearranged (only empty ps ++ X) ((ls ++ cs) ++ bs) = perm-append (r .2) (v .3 .1) in
+      let p2 : Rearranged ((ls ++ cs) ++ bs) (ls ++ (bs ++ cs)) = subst (λ l. Rearranged l (ls ++ (bs ++ cs))) (sym (append-assoc ls cs bs)) (perm-left ls (perm-swap cs bs)) in (
         P-to (perm-trans (parted ps) (perm-trans p1 p2)) (subst (Consistent (whole (ls ++ (bs ++ cs)))) (sym (o .2 ∙ ap (_++_ (o .0)) (v .2))) (whole-consistent ls (bs ++ cs) (o .3) (whole-consistent bs cs (v .3 .2) (v .4)))),
         con-out S (o .0) (o .1) (o .2) (of-pure S false ls (all-left _ ls cs fe) (all-left _ ls cs he) (o .0) (o .3))
             (con-end S (v .0) (v .1) (v .2) (v .3 .3) (of-pure S false cs (all-right _ ls cs fe) (all-right _ ls cs he) (v .1) (v .4))),
@@ -127,16 +127,16 @@ module _ (S : Restriction) where
       F : List Part
       F = only full ps
 
-      all-b : (b : Bool) → M ++ only (pure (not b)) ps ≡ [] → Perm ps (only (pure b) ps)
-      all-b false e = subst (Perm ps) (ap (λ l. E ++ l) e ∙ append-nil E) (parted ps)
-      all-b true e = subst (λ l. Perm ps (l ++ F)) e (perm-trans (parted ps) (subst (λ l. Perm l ((M ++ E) ++ F)) (append-assoc E M F) (perm-append (perm-swap E M) (perm-refl F))))
+      all-b : (b : Bool) → M ++ only (pure (not b)) ps ≡ [] → Rearranged ps (only (pure b) ps)
+      all-b false e = subst (Rearranged ps) (ap (λ l. E ++ l) e ∙ append-nil E) (parted ps)
+      all-b true e = subst (λ l. Rearranged ps (l ++ F)) e (perm-trans (parted ps) (subst (λ l. Rearranged l ((M ++ E) ++ F)) (append-assoc E M F) (perm-append (perm-swap E M) (perm-refl F))))
 
       go : (X : List Part) → M ++ only (pure (not b)) ps ≡ X → 1 ≤ length X
       go [] e = absurd (u (of-pure S b ps f (perm-all _ (perm-sym (all-b b e)) (only-of (pure b) ps)) (frontier (whole ps)) (frontier-allowed (whole ps))))
       go (x ∷ X) e = omega arith
 
-  insert-single : (u : Item) (e : Forest) → (t : Item) × (pack (insert (one u) e) ≡ one t)
-  insert-single u e = pack-single (insert (one u) e) (omega (arith, perm-length (insert-perm (one u) e), subst (λ g. 1 ≤ length (items g)) (sym (put-one u e)) (put-length u e)))
+  put-sorted-single : (u : Item) (e : Forest) → (t : Item) × (pack (put-sorted (one u) e) ≡ one t)
+  put-sorted-single u e = pack-single (put-sorted (one u) e) (omega (arith, perm-length (put-sorted-perm (one u) e), subst (λ g. 1 ≤ length (items g)) (sym (put-one u e)) (put-length u e)))
 
   reduced-P : (ps : List Part) → All (Fit S) ps → (Outside S (frontier (whole ps)) → ⊥)
       → ((xs : L) → Gives (reduced-node P ps) xs ↔ (Consistent (node P (whole ps) nil) xs × Contiguous S xs)) × Single-item (reduced-node P ps)
@@ -152,11 +152,11 @@ module _ (S : Restriction) where
       go none h l = ((λ xs. ((λ g. absurd g), (λ r. let v = around-to S ps f xs (r .0) (r .1) .3 .4 in h (v .0) .1 (v .3)))), tt)
       go (some t) h (w, e) =
           let h′ : (y : L) → Consistent (one w) y ↔ Arranged S (only partial ps ++ only full ps) y = subst (λ g. (y : L) → Consistent g y ↔ Arranged S (only partial ps ++ only full ps) y) e h in (
-            (λ xs. subst (λ g. Consistent (pack (insert g E)) xs ↔ (Consistent (node P (whole ps) nil) xs × Contiguous S xs)) (sym e)
-                (Iff·trans (gives-pack (insert (one w) E) xs) (Iff·trans (insert-consistent (one w) E nil xs)
+            (λ xs. subst (λ g. Consistent (pack (put-sorted g E)) xs ↔ (Consistent (node P (whole ps) nil) xs × Contiguous S xs)) (sym e)
+                (Iff·trans (gives-pack (put-sorted (one w) E) xs) (Iff·trans (put-sorted-consistent (one w) E nil xs)
                 (subst (λ g. Consistent (node P g nil) xs ↔ (Consistent (node P (whole ps) nil) xs × Contiguous S xs)) (sym (put-one w E))
                 ((λ s. around-from S ps f xs (among-to S ps (settled partial w) h′ xs s)), (λ r. among-from S ps (settled partial w) h′ xs (around-to S ps f xs (r .0) (r .1)))))))),
-            subst (λ g. (t : Item) × (pack (insert g E) ≡ one t)) (sym e) (insert-single w E),
+            subst (λ g. (t : Item) × (pack (put-sorted g E) ≡ one t)) (sym e) (put-sorted-single w E),
           )
 
   reduced-C : (ps : List Part) → All (Fit S) ps → (xs : L) → Gives (reduced-node C ps) xs ↔ (Consistent (node C (whole ps) nil) xs × Contiguous S xs)

@@ -3,10 +3,10 @@ use mathlib.Core.Path.{_≡_, refl, subst, sym}
 use mathlib.Core.Logic.{_↔_, inr}
 use mathlib.Core.List.{List}
 use Prim.Native.Nat.{ℕ}
-use Rattle.orders.specs.Lists.{Lex}
+use Rattle.orders.specs.Lists.{NotAfter}
 use Rattle.orders.specs.Tree.{Forest, frontier, Allowed}
 use Rattle.orders.specs.Form.{InForm, StandardOrder, standard}
-use Rattle.orders.proofs.Lex.{lex-antisym}
+use Rattle.orders.proofs.NotAfter.{not-after-antisym}
 use Rattle.orders.proofs.First.{frontier-allowed, frontier-first}
 
 pub standard-allowed : (t : Forest) → Allowed t (standard t)
@@ -15,11 +15,11 @@ standard-allowed t = record { after = frontier t; one-first = refl; order = fron
 pub standard-is : (n : ℕ) (t : Forest) → InForm n t → StandardOrder t (standard t)
 standard-is n t f = record {
   allowed = standard-allowed t;
-  least = λ other a. subst (Lex (standard t)) (sym (a .one-first)) (inr (refl, frontier-first (a .order) (f .canonical)));
+  least = λ other a. subst (NotAfter (standard t)) (sym (a .one-first)) (inr (refl, frontier-first (a .order) (f .canonical)));
 }
 
 pub standard-unique : (t : Forest) (a b : List ℕ) → StandardOrder t a → StandardOrder t b → a ≡ b
-standard-unique t a b p q = lex-antisym a b (p .least b (q .allowed)) (q .least a (p .allowed))
+standard-unique t a b p q = not-after-antisym a b (p .least b (q .allowed)) (q .least a (p .allowed))
 
 pub standard-iff : (n : ℕ) (t : Forest) → InForm n t → (ord : List ℕ) → StandardOrder t ord ↔ (ord ≡ standard t)
 standard-iff n t f ord = ((λ s. standard-unique t ord (standard t) s (standard-is n t f)), (λ e. subst (StandardOrder t) (sym e) (standard-is n t f)))

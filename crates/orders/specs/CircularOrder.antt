@@ -5,19 +5,19 @@ use mathlib.Core.Bool.{Bool, true, false}
 use mathlib.Core.List.{List, [], _∷_, _++_}
 use Prim.Native.Nat.{ℕ, zero, suc, _≤_}
 use lib.ListN.{length}
-use Rattle.orders.specs.Lists.{All, Distinct, Perm, range}
+use Rattle.orders.specs.Lists.{All, Distinct, Rearranged, numbers-from}
 
 -- The leaves of a ring of n but leaf 1: 2 to n.
 abbrev pub others : ℕ → List ℕ
 others zero = []
-others (suc n) = range 2 n
+others (suc n) = numbers-from 2 n
 
 -- "A ring order is a circle of all n bins, read clockwise from bin 1": leaf 1, then the others in some sequence.
 -- So a circle and its mirror image are two orders.
 pub record CircularOrder (n : ℕ) (ord : List ℕ) : Type 0 where
   pub after : List ℕ
   pub one-first : ord ≡ 1 ∷ after
-  pub all-leaves : Perm (others n) after
+  pub all-leaves : Rearranged (others n) after
 
 -- A group, as the test which leaves are in it.
 abbrev pub Restriction : Type 0

@@ -4,7 +4,7 @@ use mathlib.Core.List.{List, [], _∷_}
 use Prim.Native.Nat.{ℕ, suc, _+_, _≤_, _<_}
 use lib.Dec.{leb, ltb}
 use lib.ListN.{length}
-use Rattle.orders.specs.Lists.{Perm, Lex, rearranged?}
+use Rattle.orders.specs.Lists.{Rearranged, NotAfter, rearranged?}
 use Rattle.orders.specs.CircularOrder.{others}
 use Rattle.orders.specs.Tree.{Kind, P, C, Forest, nil, leaf, node, Item, leaf-item, node-item, items, rev, frontier, Allowed}
 
@@ -57,12 +57,12 @@ Single (t ∷ (u ∷ ts)) = ⊥
 pub record InForm (n : ℕ) (t : Forest) : Type 0 where
   pub single : Single (items t)
   pub canonical : Canonical t
-  pub all-leaves : Perm (others n) (frontier t)
+  pub all-leaves : Rearranged (others n) (frontier t)
 
 -- "The standard order is the first, in dictionary order of bin numbers, of all allowed orders."
 pub record StandardOrder (t : Forest) (ord : List ℕ) : Type 0 where
   pub allowed : Allowed t ord
-  pub least : (other : List ℕ) → Allowed t other → Lex ord other
+  pub least : (other : List ℕ) → Allowed t other → NotAfter ord other
 
 -- How many inner nodes.
 abbrev pub nodes : Forest → ℕ

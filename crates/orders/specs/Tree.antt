@@ -5,7 +5,7 @@ use mathlib.Core.Path.{_≡_}
 use mathlib.Core.Logic.{_⊎_}
 use mathlib.Core.List.{List, [], _∷_, _++_}
 use Prim.Native.Nat.{ℕ}
-use Rattle.orders.specs.Lists.{Perm}
+use Rattle.orders.specs.Lists.{Rearranged}
 
 pub data Kind : Type 0 where
   P C : Kind
@@ -46,7 +46,7 @@ frontier (node k i f) = frontier i ++ frontier f
 -- How the items of a node may stand. "P-nodes, whose neighbours may be set round them in any circular order, and C-nodes, whose
 -- neighbours have one circular order or its reverse."
 abbrev pub Turn : Kind → Forest → Forest → Type 0
-Turn P f g = Perm (items f) (items g)
+Turn P f g = Rearranged (items f) (items g)
 Turn C f g = (g ≡ f) ⊎ (g ≡ rev f)
 
 -- The orders of its leaves that a sequence allows: an order of each item, one after the other; of a node, an order of its items as they may stand.

@@ -18,7 +18,7 @@ use Rattle.calls.specs.declared.Answer.the-variants.{Done, Refused}
 use Rattle.calls.specs.Tables.{over}
 use Rattle.calls.specs.Book.{booked, emptied}
 use Rattle.calls.specs.NodeTable.{table-of, tree-in}
-use Rattle.calls.specs.Refusals.{down, short}
+use Rattle.calls.specs.Refusals.{first-refusal, short}
 use Rattle.calls.specs.Calls.{ring, filled-as, filled, of-tree, table-checks, tree-checks, open-refusal, opened, open-call, joined-tree, join-refusal, joined, join-call, trial-call, order-refusal, order-call}
 use Rattle.calls.specs.Demands.{LentTree, LentRing, ImpossibleIff, Joins}
 use Rattle.calls.proofs.NodeTables.{tree-in-holds}
@@ -29,11 +29,11 @@ use Rattle.attempts.specs.Attempts.{JoinedRing}
 -- ---- opening
 
 module _ (n have : ℕ) (nodes book : List ℕ) where
-  pub open-refused : (r : Refusal) → down (table-checks n have nodes (short 384 book)) ≡ some r → ring (Refused r) nodes book ≡ open-call n have nodes book
+  pub open-refused : (r : Refusal) → first-refusal (table-checks n have nodes (short 384 book)) ≡ some r → ring (Refused r) nodes book ≡ open-call n have nodes book
   unfolding open-call open-refusal opened
   open-refused r e = ap (λ o. opened o n nodes book) (sym e)
 
-  pub opens : (nodes′ book′ : List ℕ) → down (table-checks n have nodes (short 384 book)) ≡ none → nodes′ ≡ over (table-of (fresh n)) nodes
+  pub opens : (nodes′ book′ : List ℕ) → first-refusal (table-checks n have nodes (short 384 book)) ≡ none → nodes′ ≡ over (table-of (fresh n)) nodes
       → book′ ≡ emptied book → ring (Done 0) nodes′ book′ ≡ open-call n have nodes book
   unfolding open-call open-refusal opened
   opens nodes′ book′ e p q = ap₂ (ring (Done 0)) p q ∙ ap (λ o. opened o n nodes book) (sym e)
@@ -72,7 +72,7 @@ module _ (n have : ℕ) (nodes book : List ℕ) (count : ℕ) (list : List ℕ) 
 -- ---- the standard order
 
 module _ (n have : ℕ) (nodes order : List ℕ) where
-  pub order-refused : (r : Refusal) → down (tree-checks n have nodes (short n order)) ≡ some r → filled-as (Refused r) order ≡ order-call n have nodes order
+  pub order-refused : (r : Refusal) → first-refusal (tree-checks n have nodes (short n order)) ≡ some r → filled-as (Refused r) order ≡ order-call n have nodes order
   unfolding order-call order-refusal
   order-refused r e = ap (λ o. filled o n (of-tree (tree-in n nodes) standard) order) (sym e)
 

@@ -9,19 +9,19 @@ use lib.Seq.{take-length, take-suc, getD-append-add, getD-drop}
 use Rattle.orders.specs.Form.{standard}
 use Rattle.orders.specs.TreeText.{digits}
 use Rattle.orders.specs.Circles.{bytes}
-use Rattle.ledger.specs.Ledger.{State, opened, outcome, next, run, state-at}
+use Rattle.ledger.specs.Ledger.{RingState, opened, outcome, next, run, state-at}
 use Rattle.fields.specs.Fields.{fields}
 use Rattle.printing.specs.Listing.{group-lines, listing, printed}
 use Rattle.printing.specs.Printing.{group-line, final, ending}
 
 -- The group lines.
 module _ (names : List (List ℕ)) (ord : List ℕ) where
-  pub group-length : (s : State) (k : ℕ) (lists : List (List ℕ)) → length (group-lines names ord s k lists) ≡ length lists
+  pub group-length : (s : RingState) (k : ℕ) (lists : List (List ℕ)) → length (group-lines names ord s k lists) ≡ length lists
   unfolding group-lines
   group-length s k [] = refl
   group-length s k (list ∷ lists) = ap suc (group-length (next s k list (outcome (length names) s list)) (suc k) lists)
 
-  group-at : (s : State) (k : ℕ) (lists : List (List ℕ)) (l : ℕ) → l < length lists
+  group-at : (s : RingState) (k : ℕ) (lists : List (List ℕ)) (l : ℕ) → l < length lists
       → getD (group-lines names ord s k lists) l []
       ≡ digits (k + l)
       ++ fields names ord (run (length names) s k (take l lists)) (getD lists l []) (outcome (length names) (run (length names) s k (take l lists)) (getD lists l []))

@@ -14,17 +14,17 @@ use Rattle.tokens.proofs.Sequences.{tree-plain}
 use Rattle.update.specs.Update.{Published}
 use Rattle.output.specs.Appends.{Appends}
 use Rattle.output.proofs.Laws.{appends-then, appends-as}
-use Rattle.ringfile.specs.RingFile.{leaves-on, Holds}
+use Rattle.ringfile.specs.RingFile.{leaves-on, FileHolds}
 use Rattle.ledger.specs.Ledger.{outcome, state-at}
 use Rattle.ledger.specs.Stands.{lists-of, StandsAt}
 use Rattle.ledger.proofs.Files.{list-at, lists-length}
-use Rattle.fields.specs.Fields.{spaced, fields}
+use Rattle.fields.specs.Fields.{spaced-names, fields}
 use Rattle.printing.specs.Listing.{listing}
 use Rattle.printing.specs.Printing.{group-line, final, ending}
 use Rattle.printing.proofs.Lines.{listing-length, head-line, middle-line, end-line}
 
 -- A group line of the file: its number and its fields.
-pub line-appends : {x : List ℕ} {n h k : ℕ} (f : Holds x n h k) (ord : List ℕ) (l : ℕ) {list old mid new : List ℕ} {at a r : ℕ} → list ≡ leaves-on (getD (f .vss) l [])
+pub line-appends : {x : List ℕ} {n h k : ℕ} (f : FileHolds x n h k) (ord : List ℕ) (l : ℕ) {list old mid new : List ℕ} {at a r : ℕ} → list ≡ leaves-on (getD (f .vss) l [])
     → Appends (digits (l + 1)) at old mid a
     → Appends (fields (f .ns) ord (state-at n (lists-of f) l) list (outcome n (state-at n (lists-of f) l) list)) a mid new r
     → Appends (group-line (f .ns) ord (lists-of f) l) at old new r
@@ -41,9 +41,9 @@ module _ (names : List (List ℕ)) (t : Forest) {j : ℕ} where
   unfolding ending
   end-order e = rw e
 
-  pub end-names : j ≡ 1 → {order : List ℕ} → order ≡ standard t → spaced names order ≡ getD (ending names t) j []
+  pub end-names : j ≡ 1 → {order : List ℕ} → order ≡ standard t → spaced-names names order ≡ getD (ending names t) j []
   unfolding ending
-  end-names e g = rw e (ap (spaced names) g)
+  end-names e g = rw e (ap (spaced-names names) g)
 
   pub end-tree : j ≡ 2 → bytes "tree" ≡ getD (ending names t) j []
   unfolding ending
@@ -58,7 +58,7 @@ pub short-text : {n : ℕ} {toks : List ℕ} (p : Published n toks) → length (
 short-text {n} p = rw (tree-plain (p .0)) (text-length n (p .0) (p .2) (p .3))
 
 -- The lines of the listing of a file.
-module _ {x : List ℕ} {n h k : ℕ} (f : Holds x n h k) where
+module _ {x : List ℕ} {n h k : ℕ} (f : FileHolds x n h k) where
   pub stands-at : {a b : ℕ} {toks book table : List ℕ} {m count : ℕ} → a ≡ b → StandsAt f a toks m book table count → StandsAt f b toks m book table count
   stands-at {toks = toks} {book} {table} {m} {count} e s = subst (λ (l : ℕ). StandsAt f l toks m book table count) e s
 

@@ -5,11 +5,11 @@ use lib.ListN.{length}
 use Rattle.orders.specs.Form.{standard}
 use Rattle.orders.specs.TreeText.{digits, tree-text}
 use Rattle.orders.specs.Circles.{bytes}
-use Rattle.ledger.specs.Ledger.{State, opened, outcome, next, run}
-use Rattle.fields.specs.Fields.{spaced, fields}
+use Rattle.ledger.specs.Ledger.{RingState, opened, outcome, next, run}
+use Rattle.fields.specs.Fields.{spaced-names, fields}
 
 -- The printed lines of the group lines from number k on, and all printed lines, each without its byte 10.
-unfoldable pub group-lines : List (List ℕ) → List ℕ → State → ℕ → List (List ℕ) → List (List ℕ)
+unfoldable pub group-lines : List (List ℕ) → List ℕ → RingState → ℕ → List (List ℕ) → List (List ℕ)
 group-lines names ord s k [] = []
 group-lines names ord s k (list ∷ lists) =
     let o = outcome (length names) s list in
@@ -20,7 +20,7 @@ listing names lists =
     let n = length names in
     let t = run n (opened n) 1 lists .tree in
     bytes "line answer aim conflict"
-    ∷ (group-lines names (standard t) (opened n) 1 lists ++ (bytes "order" ∷ spaced names (standard t) ∷ bytes "tree" ∷ tree-text t ∷ []))
+    ∷ (group-lines names (standard t) (opened n) 1 lists ++ (bytes "order" ∷ spaced-names names (standard t) ∷ bytes "tree" ∷ tree-text t ∷ []))
 
 -- "A malformed file gives only `error 11 at byte B`."
 unfoldable pub error-line : ℕ → List ℕ

@@ -8,10 +8,10 @@ use Rattle.orders.specs.Form.{standard}
 use Rattle.orders.specs.TreeText.{digits, tree-text}
 use Rattle.orders.specs.Circles.{bytes}
 use Rattle.parts.specs.Writers.{flat}
-use Rattle.ringfile.specs.RingFile.{Holds}
+use Rattle.ringfile.specs.RingFile.{FileHolds}
 use Rattle.ledger.specs.Ledger.{opened, outcome, run, state-at}
 use Rattle.ledger.specs.Stands.{lists-of, StandsAt}
-use Rattle.fields.specs.Fields.{spaced, fields}
+use Rattle.fields.specs.Fields.{spaced-names, fields}
 use Rattle.printing.specs.Listing.{printed}
 
 -- The line of group line l, from 0, without its byte 10.
@@ -24,13 +24,13 @@ unfoldable pub final : List (List ℕ) → List (List ℕ) → Forest
 final names lists = run (length names) (opened (length names)) 1 lists .tree
 
 unfoldable pub ending : List (List ℕ) → Forest → List (List ℕ)
-ending names t = bytes "order" ∷ spaced names (standard t) ∷ bytes "tree" ∷ tree-text t ∷ []
+ending names t = bytes "order" ∷ spaced-names names (standard t) ∷ bytes "tree" ∷ tree-text t ∷ []
 
 -- Before printed line i: the tables hold the ring after the group lines before it.
-abbrev pub Before : {x : List ℕ} {n h k : ℕ} → Holds x n h k → ℕ → List ℕ → ℕ → List ℕ → List ℕ → ℕ → Type 0
+abbrev pub Before : {x : List ℕ} {n h k : ℕ} → FileHolds x n h k → ℕ → List ℕ → ℕ → List ℕ → List ℕ → ℕ → Type 0
 Before {k = k} f i toks m book table count = i ≤ k → StandsAt f (i - 1) toks m book table count
 
 -- The tree and the order after all lines of the file.
-pub record Final {x : List ℕ} {n h k : ℕ} (f : Holds x n h k) (toks order : List ℕ) : Type 0 where
+pub record Final {x : List ℕ} {n h k : ℕ} (f : FileHolds x n h k) (toks order : List ℕ) : Type 0 where
   pub tokens : toks ≡ flat (final (f .ns) (lists-of f))
   pub standard-order : order ≡ standard (final (f .ns) (lists-of f))

@@ -8,7 +8,7 @@ ghost use Rattle.orders.specs.Form.{standard};
 ghost use Rattle.parts.specs.Writers.{flat};
 ghost use Rattle.update.specs.Update.{Published};
 ghost use Rattle.output.specs.Appends.{Appends};
-ghost use Rattle.ringfile.specs.RingFile.{Holds};
+ghost use Rattle.ringfile.specs.RingFile.{FileHolds};
 ghost use Rattle.ledger.specs.Stands.{lists-of, StandsAt, Tables};
 ghost use Rattle.fields.specs.Ordered.{Ordered};
 ghost use Rattle.printing.specs.Listing.{listing};
@@ -38,9 +38,9 @@ fn print_group(
     out: &mut [u8],
     at: usize,
 ) -> Printed
-    requires { ⌜ ((f : Holds (now file) names head lines) × (StandsAt f l (now toks) (ring .tokens) (now book) (now table) (ring .count))
+    requires { ⌜ ((f : FileHolds (now file) names head lines) × (StandsAt f l (now toks) (ring .tokens) (now book) (now table) (ring .count))
         × (l < lines) × (Tables (now toks) (now book) (now table)) × (Ordered names (now order)) × (at + 4096 ≤ length (now out))) ⌝ }
-    ensures { λ r. ⌜ (r .at ≤ at + 4095) × ((f : Holds (now (file .entry)) names head lines)
+    ensures { λ r. ⌜ (r .at ≤ at + 4095) × ((f : FileHolds (now (file .entry)) names head lines)
         → StandsAt f l (now (toks .entry)) (ring .tokens) (now (book .entry)) (now (table .entry)) (ring .count)
         → (StandsAt f (l + 1) (now (toks .exit)) (r .tokens) (now (book .exit)) (now (table .exit)) (r .count))
         × (Appends (group-line (f .ns) (now (order .entry)) (lists-of f) l) at (now (out .entry)) (now (out .exit)) (r .at))) ⌝ }
@@ -83,8 +83,8 @@ fn print_end(
     out: &mut [u8],
     at: usize,
 ) -> usize
-    requires { ⌜ (Holds (now file) names head lines) × (Published names (now tree)) × (Ordered names (now order)) × (at + 4096 ≤ length (now out)) ⌝ }
-    ensures { λ r. ⌜ (r ≤ at + 4095) × ((f : Holds (now (file .entry)) names head lines) (t : Forest)
+    requires { ⌜ (FileHolds (now file) names head lines) × (Published names (now tree)) × (Ordered names (now order)) × (at + 4096 ≤ length (now out)) ⌝ }
+    ensures { λ r. ⌜ (r ≤ at + 4095) × ((f : FileHolds (now (file .entry)) names head lines) (t : Forest)
         → now (tree .entry) ≡ flat t → now (order .entry) ≡ standard t → j < 4
         → Appends (getD (ending (f .ns) t) j []) at (now (out .entry)) (now (out .exit)) r) ⌝ }
 {
@@ -116,9 +116,9 @@ pub fn print_line(
     out: &mut [u8],
     at: usize,
 ) -> Printed
-    requires { ⌜ ((f : Holds (now file) names head lines) × (Before f i (now toks) (ring .tokens) (now book) (now table) (ring .count))
+    requires { ⌜ ((f : FileHolds (now file) names head lines) × (Before f i (now toks) (ring .tokens) (now book) (now table) (ring .count))
         × (Tables (now toks) (now book) (now table)) × (Published names (now tree)) × (Ordered names (now order)) × (at + 4096 ≤ length (now out))) ⌝ }
-    ensures { λ r. ⌜ (r .at ≤ at + 4095) × ((f : Holds (now (file .entry)) names head lines)
+    ensures { λ r. ⌜ (r .at ≤ at + 4095) × ((f : FileHolds (now (file .entry)) names head lines)
         → Before f i (now (toks .entry)) (ring .tokens) (now (book .entry)) (now (table .entry)) (ring .count)
         → Final f (now (tree .entry)) (now (order .entry)) → i < lines + 5
         → (Before f (i + 1) (now (toks .exit)) (r .tokens) (now (book .exit)) (now (table .exit)) (r .count))

@@ -7,9 +7,9 @@ use lib.ListN.{length}
 use Rattle.calls.specs.declared.Refusal.{Refusal}
 use Rattle.calls.specs.declared.Refusal.the-variants.{RingFile}
 use Rattle.ringfile.specs.declared.Scanned.the-variants.{Ring, Refused}
-use Rattle.ringfile.specs.RingFile.{Holds, RefusedAt, Says, ring, too-long, malformed}
+use Rattle.ringfile.specs.RingFile.{FileHolds, RefusedAt, Says, ring, too-long, malformed}
 
-pub ring-holds : {x : List ℕ} {n h l : ℕ} → Says x (Ring n h l) → Holds x n h l
+pub ring-holds : {x : List ℕ} {n h l : ℕ} → Says x (Ring n h l) → FileHolds x n h l
 ring-holds (ring h) = h
 
 -- The byte of a refusal.

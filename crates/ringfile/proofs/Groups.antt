@@ -7,9 +7,9 @@ use native.Mathlib.Omega.{arith}
 use native.Mathlib.Numerals.{add-one}
 use lib.ListN.{length, length-append, drop, getD, set}
 use lib.Seq.{append-snoc}
-use Rattle.orders.specs.Lists.{All, Distinct, filter, range}
+use Rattle.orders.specs.Lists.{All, Distinct, those-of, numbers-from}
 use Rattle.orders.proofs.Members.{in-all}
-use Rattle.orders.proofs.Ranges.{filter-different, in-filter, in-range}
+use Rattle.orders.proofs.Numbers.{those-different, in-those, in-range}
 use Rattle.orders.proofs.ListLaws.{all-at}
 use Rattle.tokens.specs.Tokens.{Wrote}
 use Rattle.tokens.proofs.Writes.{write-step}
@@ -19,24 +19,24 @@ use Rattle.syntax.specs.Words.{leaves-after}
 -- The leaves of a group are different leaves of the ring.
 pub leaves-different : (vs : List Value) → Distinct (leaves-on vs)
 unfolding leaves-on
-leaves-different vs = filter-different (λ b. in-group (getD vs (b - 1) off)) 1 (length vs)
+leaves-different vs = those-different (λ b. in-group (getD vs (b - 1) off)) 1 (length vs)
 
 pub leaves-within : (vs : List Value) → All (λ b. (1 ≤ b) × (b ≤ length vs)) (leaves-on vs)
 unfolding leaves-on
 leaves-within vs =
-    in-all (λ b. (1 ≤ b) × (b ≤ length vs)) (filter p (range 1 (length vs)))
-    (λ b i. let r = in-range 1 (length vs) b (in-filter p (range 1 (length vs)) b i .1) in (r .0, omega (arith, r .1)))
+    in-all (λ b. (1 ≤ b) × (b ≤ length vs)) (those-of p (numbers-from 1 (length vs)))
+    (λ b i. let r = in-range 1 (length vs) b (in-those p (numbers-from 1 (length vs)) b i .1) in (r .0, omega (arith, r .1)))
   where
     p : ℕ → Bool
     p b = in-group (getD vs (b - 1) off)
 
 pub leaves-all : (vs : List Value) → leaves-after 0 vs ≡ leaves-on vs
 unfolding leaves-on leaves-after
-leaves-all vs = let e : length vs - 0 ≡ length vs = omega arith in ap (λ k. filter (λ b. in-group (getD vs (b - 1) off)) (range 1 k)) e
+leaves-all vs = let e : length vs - 0 ≡ length vs = omega arith in ap (λ k. those-of (λ b. in-group (getD vs (b - 1) off)) (numbers-from 1 k)) e
 
 pub leaves-none : (i : ℕ) (vs : List Value) → length vs ≤ i → leaves-after i vs ≡ []
 unfolding leaves-after
-leaves-none i vs h = let e : length vs - i ≡ 0 = omega arith in ap (λ k. filter (λ b. in-group (getD vs (b - 1) off)) (range (suc i) k)) e
+leaves-none i vs h = let e : length vs - i ≡ 0 = omega arith in ap (λ k. those-of (λ b. in-group (getD vs (b - 1) off)) (numbers-from (suc i) k)) e
 
 pub leaves-next : (i : ℕ) (vs : List Value) → i < length vs
     → leaves-after i vs ≡ cond (in-group (getD vs i off)) ((i + 1) ∷ leaves-after (i + 1) vs) (leaves-after (i + 1) vs)
@@ -44,13 +44,13 @@ unfolding leaves-after
 leaves-next i vs h =
     let e : length vs - i ≡ suc (length vs - (i + 1)) = omega arith in
     let p : suc i - 1 ≡ i = omega arith in
-    ap (λ k. filter on? (range (suc i) k)) e ∙ ap₂ (λ j s. cond (in-group (getD vs j off)) (s ∷ later s) (later s)) p (sym (add-one i))
+    ap (λ k. those-of on? (numbers-from (suc i) k)) e ∙ ap₂ (λ j s. cond (in-group (getD vs j off)) (s ∷ later s) (later s)) p (sym (add-one i))
   where
     on? : ℕ → Bool
     on? b = in-group (getD vs (b - 1) off)
 
     later : ℕ → List ℕ
-    later s = filter on? (range (suc s) (length vs - (i + 1)))
+    later s = those-of on? (numbers-from (suc s) (length vs - (i + 1)))
 
 -- Every line has a value for each name.
 pub line-length : (ns : List (List ℕ)) (vss : List (List Value)) (l : ℕ) → Rules ns vss → l < length vss → length (getD vss l []) ≡ length ns

@@ -9,8 +9,8 @@ use lib.ListN.{length, length-take, take, drop, getD, take-append-drop}
 use lib.Seq.{take-suc, drop-cons, take-all}
 use Rattle.calls.specs.declared.Refusal.the-variants.{RingFile}
 use Rattle.ringfile.specs.RingFile.{Value, RefusedAt, Says, ring, malformed}
-use Rattle.syntax.specs.Scanner.{State, naming, due, got, start, step}
-use Rattle.cursor.specs.Cursors.{Stands, Stepped, Advances}
+use Rattle.syntax.specs.Scanner.{FileState, naming, due, got, start, step}
+use Rattle.cursor.specs.Cursors.{CursorStands, Stepped, Advances}
 use Rattle.cursor.specs.declared.Cursor.{Cursor}
 use Rattle.ringfile.specs.declared.Scanned.the-variants.{Ring, Refused}
 use Rattle.syntax.proofs.Steps.{Run, done, then, run-append, step-relates}
@@ -19,9 +19,9 @@ use Rattle.syntax.proofs.Exact.{bad-byte, whole-file, too-short}
 
 -- The cursor stands for the state after i bytes of x.
 pub record Reach (x : List ℕ) (i : ℕ) (c : Cursor) : Type 0 where
-  pub state : State
+  pub state : FileState
   pub run : Run start (take i x) state
-  pub stands : Stands c state
+  pub stands : CursorStands c state
 
 pub reach-start : (x : List ℕ) (c : Cursor) → c .phase ≡ 0 → c .names ≡ 0 → c .start ≡ 0 → Reach x 0 c
 reach-start x c p n s = record { state = start; run = done; stands = (p, n, s) }
@@ -30,7 +30,7 @@ module _ (x : List ℕ) (i : ℕ) (c r : Cursor) (inside : i < length x) (h : Ad
   came : Stepped r (step (k .state) (getD x i 0))
   came = h (k .state) (run-ok (k .run) ok-start) (sym (run-text (k .run))) (k .stands)
 
-  not-three : (s : State) → Stands r s → r .phase ≡ 3 → ⊥
+  not-three : (s : FileState) → CursorStands r s → r .phase ≡ 3 → ⊥
   not-three (naming ns w) q e = omega (arith, q .0)
   not-three (due ns vss vs) q e = omega (arith, q .0)
   not-three (got ns vss vs v) q e = omega (arith, q .0)
@@ -38,7 +38,7 @@ module _ (x : List ℕ) (i : ℕ) (c r : Cursor) (inside : i < length x) (h : Ad
   pub reach-next : (r .phase ≡ 3 → ⊥) → Reach x (i + 1) r
   reach-next n = go (step (k .state) (getD x i 0)) refl came
     where
-      go : (o : Option State) → step (k .state) (getD x i 0) ≡ o → Stepped r o → Reach x (i + 1) r
+      go : (o : Option FileState) → step (k .state) (getD x i 0) ≡ o → Stepped r o → Reach x (i + 1) r
       go none e q = absurd (n q)
       go (some t) e q = record {
         state = t;
@@ -51,7 +51,7 @@ module _ (x : List ℕ) (i : ℕ) (c r : Cursor) (inside : i < length x) (h : Ad
   says-bad l e =
       malformed l (at-end-of (bad-byte (k .state) (take i x) (getD x i 0) (drop (suc i) x) (k .run) (none-of (step (k .state) (getD x i 0)) came)))
     where
-      none-of : (o : Option State) → Stepped r o → o ≡ none
+      none-of : (o : Option FileState) → Stepped r o → o ≡ none
       none-of none q = refl
       none-of (some t) q = absurd (not-three t q e)
 
@@ -68,7 +68,7 @@ module _ (x : List ℕ) (i : ℕ) (c : Cursor) (l : length x ≤ 65536) (k : Rea
   pub says-ring : c .phase ≡ 1 → c .got ≡ 0 → Says x (Ring (c .names) (c .start) (c .lines))
   says-ring p g = go (k .state) (k .stands) ran
     where
-      go : (s : State) → Stands c s → Run start x s → Says x (Ring (c .names) (c .start) (c .lines))
+      go : (s : FileState) → CursorStands c s → Run start x s → Says x (Ring (c .names) (c .start) (c .lines))
       go (naming ns w) q r = absurd (omega (arith, q .0))
       go (due ns vss []) q r =
           let f = whole-file ns vss x r in
@@ -78,7 +78,7 @@ module _ (x : List ℕ) (i : ℕ) (c : Cursor) (l : length x ≤ 65536) (k : Rea
 
   pub says-short : ((c .phase ≡ 1) × (c .got ≡ 0) → ⊥) → Says x (Refused (RingFile i))
   says-short n =
-      malformed l (subst (λ j. RefusedAt x j) (sym ended) (too-short (k .state) x ran (λ ns vss e. go ns vss (subst (Stands c) e (k .stands)))))
+      malformed l (subst (λ j. RefusedAt x j) (sym ended) (too-short (k .state) x ran (λ ns vss e. go ns vss (subst (CursorStands c) e (k .stands)))))
     where
-      go : (ns : List (List ℕ)) (vss : List (List Value)) → Stands c (due ns vss []) → ⊥
+      go : (ns : List (List ℕ)) (vss : List (List Value)) → CursorStands c (due ns vss []) → ⊥
       go ns vss q = n (q .0, q .3)

@@ -4,15 +4,15 @@ use mathlib.Core.List.{List, [], _∷_, _++_, append-nil}
 use Prim.Native.Nat.{ℕ, suc, _+_, _-_, _≤_}
 use native.Mathlib.Omega.{arith}
 use lib.ListN.{length, take, drop, length-take, length-drop, take-append-drop}
-use Rattle.orders.specs.Lists.{Perm, done, next, here}
+use Rattle.orders.specs.Lists.{Rearranged, done, next, here}
 use Rattle.orders.specs.Tree.{P, Forest, leaf, items, frontier}
 use Rattle.orders.specs.TreeText.{text}
 use Rattle.orders.specs.Join.{leaf-items}
-use Rattle.orders.proofs.Perm.{perm-refl, pick-length}
+use Rattle.orders.proofs.Rearranged.{perm-refl, pick-length}
 use Rattle.orders.proofs.Laws.{Forked}
 use Rattle.orders.proofs.Parts.{canonical-forked}
 use Rattle.orders.proofs.Fresh.{frontier-leaves, leaves-canonical}
-use Rattle.scanner.specs.Scan.{State, lit, pre, open-due, due, num, after, need}
+use Rattle.scanner.specs.Scan.{TextState, lit, pre, open-due, due, num, after, need}
 use Rattle.scanner.proofs.Words.{Begin, begun-true}
 use Rattle.scanner.proofs.Language.{bytes, frontiers, Fits, Tail, Due, Num, Open, Lang, Viable}
 
@@ -44,8 +44,8 @@ fill (d ∷ cs) c l h =
       each = sym (take-append-drop c l) ∙ (rw (frontier-leaves a) (ap (λ t. a ++ t) (r .each)));
     }
 
-perm-eq : {l k : List ℕ} → l ≡ k → Perm l k
-perm-eq {l} e = subst (Perm l) e (perm-refl l)
+perm-eq : {l k : List ℕ} → l ≡ k → Rearranged l k
+perm-eq {l} e = subst (Rearranged l) e (perm-refl l)
 
 finish-tail : (c : ℕ) (cs l : List ℕ) → need (c ∷ cs) ≤ length l → (x : List ℕ) × Tail (c ∷ cs) l x
 finish-tail c cs l h =
@@ -84,7 +84,7 @@ finish-open cs l h =
     let t = finish-due 2 cs l (omega arith) in
     (40 ∷ t .0, record { y = t .0; is = refl; then = t .1 })
 
-pub finish : (s : State) → Viable s → (x : List ℕ) × Lang s x
+pub finish : (s : TextState) → Viable s → (x : List ℕ) × Lang s x
 finish (lit ws) v = (ws, refl)
 finish (pre ws l) v =
     let t = finish-open [] l (omega arith) in

@@ -9,21 +9,21 @@ use native.Mathlib.Omega.{arith}
 use borrow.Author.Tests.{eqb-true, eqb-false, eq-eqb, leb-true, leb-false}
 use lib.Dec.{leb, eqb}
 use lib.ListN.{length}
-use Rattle.orders.specs.Lists.{All, Perm, next, Pick}
+use Rattle.orders.specs.Lists.{All, Rearranged, next, Pick}
 use Rattle.orders.specs.Tree.{Kind, P, C, Forest, nil, leaf, node, items, frontier}
 use Rattle.orders.specs.TreeText.{digits, letter, text, more}
-use Rattle.orders.proofs.Perm.{perm-trans, perm-length, pick-length}
+use Rattle.orders.proofs.Rearranged.{perm-trans, perm-length, pick-length}
 use Rattle.orders.proofs.Members.{NonEmpty}
 use Rattle.orders.proofs.Laws.{Forked}
 use Rattle.orders.proofs.Digits.{Digit, digits-all, digits-nonempty}
 use Rattle.orders.proofs.Tests.{cond-cases, and-both, or-either, or-neither}
-use Rattle.scanner.specs.Scan.{State, lit, pre, open-due, due, num, after, need, closes, begun, seek, letter?, sep?, step, step-after, step-leaf}
+use Rattle.scanner.specs.Scan.{TextState, lit, pre, open-due, due, num, after, need, closes, begun, seek, letter?, sep?, step, step-after, step-leaf}
 use Rattle.scanner.proofs.Words.{begun-of, Seek, miss, hit, seek-view}
 use Rattle.scanner.proofs.Language.{bytes, frontiers, Fits, Tail, Due, Num, Open, Lang, Viable, due-need, open-need, more-text}
 
-pub data Deriv (s : State) (b : ℕ) : Option State → Type 0 where
+pub data Deriv (s : TextState) (b : ℕ) : Option TextState → Type 0 where
   stop : ((x : List ℕ) → Lang s (b ∷ x) → ⊥) → Deriv s b none
-  goes : {t : State} → Viable t → ((x : List ℕ) → Lang s (b ∷ x) → Lang t x) → ((x : List ℕ) → Lang t x → Lang s (b ∷ x)) → Deriv s b (some t)
+  goes : {t : TextState} → Viable t → ((x : List ℕ) → Lang s (b ∷ x) → Lang t x) → ((x : List ℕ) → Lang t x → Lang s (b ∷ x)) → Deriv s b (some t)
 
 -- The tests.
 abbrev Letter : ℕ → Type 0
@@ -58,7 +58,7 @@ sep-false b e (inr h) = eqb-false b 41 (or-neither (eqb b 32) (eqb b 41) e .1) h
 tail-space : {c : ℕ} {cs l x : List ℕ} → Tail (c ∷ cs) l (32 ∷ x) → Due c cs l x
 tail-space {c} {cs} {l} {x} t = go (t .fs) (t .fits) (t .each) (t .is)
   where
-    go : (fs : List Forest) → Fits (c ∷ cs) fs → Perm l (frontiers fs) → 32 ∷ x ≡ bytes fs → Due c cs l x
+    go : (fs : List Forest) → Fits (c ∷ cs) fs → Rearranged l (frontiers fs) → 32 ∷ x ≡ bytes fs → Due c cs l x
     go (nil ∷ fs) h p e = absurd (let z = head-eq-of-cons-eq e in omega arith)
     go (leaf m f ∷ fs) h p e = record { f = leaf m f; fs = fs; has = omega arith; two = h .0; good = h .1; fits = h .2; each = p; is = tail-eq-of-cons-eq e }
     go (node k i f ∷ fs) h p e = record { f = node k i f; fs = fs; has = omega arith; two = h .0; good = h .1; fits = h .2; each = p; is = tail-eq-of-cons-eq e }
@@ -74,7 +74,7 @@ space-tail d = record {
 tail-close : {c : ℕ} {cs l x : List ℕ} → Tail (c ∷ cs) l (41 ∷ x) → (c ≡ 0) × Tail cs l x
 tail-close {c} {cs} {l} {x} t = go (t .fs) (t .fits) (t .each) (t .is)
   where
-    go : (fs : List Forest) → Fits (c ∷ cs) fs → Perm l (frontiers fs) → 41 ∷ x ≡ bytes fs → (c ≡ 0) × Tail cs l x
+    go : (fs : List Forest) → Fits (c ∷ cs) fs → Rearranged l (frontiers fs) → 41 ∷ x ≡ bytes fs → (c ≡ 0) × Tail cs l x
     go (nil ∷ fs) h p e = (omega (arith, h .0), record { fs = fs; fits = h .2; each = p; is = tail-eq-of-cons-eq e })
     go (leaf m f ∷ fs) h p e = absurd (let z = head-eq-of-cons-eq e in omega arith)
     go (node k i f ∷ fs) h p e = absurd (let z = head-eq-of-cons-eq e in omega arith)
@@ -95,11 +95,11 @@ tail-byte {cs} {l} {x} b t = go (t .fs) (t .is)
 tail-end : {l x : List ℕ} → Tail [] l x → (x ≡ []) × (l ≡ [])
 tail-end {l} {x} t = go (t .fs) (t .fits) (t .each) (t .is)
   where
-    empty : (k : List ℕ) → Perm k [] → k ≡ []
+    empty : (k : List ℕ) → Rearranged k [] → k ≡ []
     empty [] p = refl
     empty (m ∷ k) p = absurd (omega (arith, perm-length p))
 
-    go : (fs : List Forest) → Fits [] fs → Perm l (frontiers fs) → x ≡ bytes fs → (x ≡ []) × (l ≡ [])
+    go : (fs : List Forest) → Fits [] fs → Rearranged l (frontiers fs) → x ≡ bytes fs → (x ≡ []) × (l ≡ [])
     go [] h p e = (e, empty l p)
 
 tail-closes : (cs l : List ℕ) {x : List ℕ} → Tail cs l x → closes cs l ≡ true
@@ -154,7 +154,7 @@ letter-high C = omega arith
 due-node : {c : ℕ} {cs l x : List ℕ} (b : ℕ) → Letter b → Due c cs l (b ∷ x) → Open ((c - 1) ∷ cs) l x
 due-node {c} {cs} {l} {x} b k d = go (d .f) (d .has) (d .good) (d .two) (d .each) (d .is)
   where
-    go : (f : Forest) → 1 ≤ length (items f) → Forked f → c ≤ length (items f) → Perm l (frontier f ++ frontiers (d .fs))
+    go : (f : Forest) → 1 ≤ length (items f) → Forked f → c ≤ length (items f) → Rearranged l (frontier f ++ frontiers (d .fs))
         → b ∷ x ≡ text f ++ (41 ∷ bytes (d .fs)) → Open ((c - 1) ∷ cs) l x
     go nil h g n p e = absurd (omega arith)
     go (leaf m f) h g n p e =
@@ -179,7 +179,7 @@ due-node {c} {cs} {l} {x} b k d = go (d .f) (d .has) (d .good) (d .two) (d .each
 node-due : {c : ℕ} {cs l x : List ℕ} (b : ℕ) → Letter b → Open ((c - 1) ∷ cs) l x → Due c cs l (b ∷ x)
 node-due {c} {cs} {l} {x} b k o = go (o .then .fs) (o .then .fits) (o .then .each) (o .is ∙ ap (_∷_ 40) (o .then .is))
   where
-    go : (fs : List Forest) → Fits ((c - 1) ∷ cs) fs → Perm l (frontier (o .then .f) ++ frontiers fs) → x ≡ 40 ∷ (text (o .then .f) ++ (41 ∷ bytes fs)) → Due c cs l (b ∷ x)
+    go : (fs : List Forest) → Fits ((c - 1) ∷ cs) fs → Rearranged l (frontier (o .then .f) ++ frontiers fs) → x ≡ 40 ∷ (text (o .then .f) ++ (41 ∷ bytes fs)) → Due c cs l (b ∷ x)
     go (f ∷ fs) h p e = record {
       f = node (k .0) (o .then .f) f;
       fs = fs;
@@ -194,7 +194,7 @@ node-due {c} {cs} {l} {x} b k o = go (o .then .fs) (o .then .fits) (o .then .eac
 due-leaf : {c : ℕ} {cs l x : List ℕ} (b : ℕ) → ((k : Kind) → b ≡ letter k → ⊥) → Due c cs l (b ∷ x) → Num (b ∷ []) ((c - 1) ∷ cs) l x
 due-leaf {c} {cs} {l} {x} b k d = go (d .f) (d .has) (d .good) (d .two) (d .each) (d .is)
   where
-    go : (f : Forest) → 1 ≤ length (items f) → Forked f → c ≤ length (items f) → Perm l (frontier f ++ frontiers (d .fs))
+    go : (f : Forest) → 1 ≤ length (items f) → Forked f → c ≤ length (items f) → Rearranged l (frontier f ++ frontiers (d .fs))
         → b ∷ x ≡ text f ++ (41 ∷ bytes (d .fs)) → Num (b ∷ []) ((c - 1) ∷ cs) l x
     go nil h g n p e = absurd (omega arith)
     go (leaf m f) h g n (next {k = j} p q) e =
@@ -214,7 +214,7 @@ due-leaf {c} {cs} {l} {x} b k d = go (d .f) (d .has) (d .good) (d .two) (d .each
 leaf-due : {c : ℕ} {cs l x : List ℕ} (b : ℕ) → Num (b ∷ []) ((c - 1) ∷ cs) l x → Due c cs l (b ∷ x)
 leaf-due {c} {cs} {l} {x} b d = go (d .then .fs) (d .then .fits) (d .then .each) (d .is ∙ ap (λ w. d .tail ++ w) (d .then .is))
   where
-    go : (fs : List Forest) → Fits ((c - 1) ∷ cs) fs → Perm (d .k) (frontiers fs) → x ≡ d .tail ++ bytes fs → Due c cs l (b ∷ x)
+    go : (fs : List Forest) → Fits ((c - 1) ∷ cs) fs → Rearranged (d .k) (frontiers fs) → x ≡ d .tail ++ bytes fs → Due c cs l (b ∷ x)
     go (f ∷ fs) h p e = record {
       f = leaf (d .m) f;
       fs = fs;
@@ -264,12 +264,12 @@ num-digit {ds} {cs} {l} {x} b s n = go (n .tail) (n .name) (n .is)
 digit-num : {ds cs l x : List ℕ} (b : ℕ) → Num (ds ++ (b ∷ [])) cs l x → Num ds cs l (b ∷ x)
 digit-num {ds} b n = record { m = n .m; tail = b ∷ n .tail; k = n .k; y = n .y; name = n .name ∙ simp append-assoc; pick = n .pick; is = ap (_∷_ b) (n .is); then = n .then }
 
-deriv-map : (s t : State) (b : ℕ) (o : Option State) → ((x : List ℕ) → Lang s (b ∷ x) → Lang t (b ∷ x))
+deriv-map : (s t : TextState) (b : ℕ) (o : Option TextState) → ((x : List ℕ) → Lang s (b ∷ x) → Lang t (b ∷ x))
     → ((x : List ℕ) → Lang t (b ∷ x) → Lang s (b ∷ x)) → Deriv t b o → Deriv s b o
 deriv-map s t b none f g (stop h) = stop (λ x l. h x (f x l))
 deriv-map s t b (some u) f g (goes v h k) = goes v (λ x l. h x (f x l)) (λ x l. g x (k x l))
 
-tail-perm : {cs j k x : List ℕ} → Perm j k → Tail cs k x → Tail cs j x
+tail-perm : {cs j k x : List ℕ} → Rearranged j k → Tail cs k x → Tail cs j x
 tail-perm p t = record { fs = t .fs; fits = t .fits; each = perm-trans p (t .each); is = t .is }
 
 leaf-deriv : (ds : List ℕ) (c : ℕ) (cs l : List ℕ) (b : ℕ) → suc (need (c ∷ cs)) ≤ length l → (b ≡ 32) ⊎ (b ≡ 41)
@@ -322,7 +322,7 @@ lit-deriv (w ∷ ws) b =
     (λ y. let h = eqb-true b w y in goes tt (λ x e. tail-eq-of-cons-eq e) (λ x e. ap₂ _∷_ h e))
     (λ n. stop (λ x e. eqb-false b w n (head-eq-of-cons-eq e)))
 
-pub deriv : (s : State) → Viable s → (b : ℕ) → Deriv s b (step s b)
+pub deriv : (s : TextState) → Viable s → (b : ℕ) → Deriv s b (step s b)
 unfolding step
 deriv (lit ws) v b = lit-deriv ws b
 deriv (pre ws l) v b = pre-deriv ws l b v

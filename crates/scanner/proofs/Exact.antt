@@ -6,33 +6,33 @@ use mathlib.Core.List.{List, [], _∷_, _++_, append-assoc, head-eq-of-cons-eq}
 use Prim.Native.Nat.{ℕ, zero, suc, _+_, _*_, _-_, _≤_, _<_}
 use native.Mathlib.Omega.{arith}
 use lib.ListN.{length, take}
-use Rattle.orders.specs.Lists.{Perm, done}
+use Rattle.orders.specs.Lists.{Rearranged, done}
 use Rattle.orders.specs.CircularOrder.{others}
 use Rattle.orders.specs.Tree.{Forest, nil, leaf, node, items, frontier}
 use Rattle.orders.specs.Form.{Single}
 use Rattle.orders.specs.TreeText.{digits-in, digits, letter, text, more, tree-text, Shaped, ShapeText, ShapeRefused, at-byte, at-end}
 use Rattle.orders.specs.Join.{fresh}
-use Rattle.orders.proofs.Perm.{perm-length, perm-refl, short-perm}
-use Rattle.orders.proofs.Ranges.{range-length}
+use Rattle.orders.proofs.Rearranged.{perm-length, perm-refl, short-perm}
+use Rattle.orders.proofs.Numbers.{numbers-length}
 use Rattle.orders.proofs.Laws.{Forked}
 use Rattle.orders.proofs.Forms.{nodes-bound}
 use Rattle.orders.proofs.Tests.{cond-cases}
 use Rattle.orders.proofs.Members.{nil-not}
-use Rattle.scanner.specs.Scan.{State, lit, pre, open-due, due, num, after, final, step, run, run-at, start, scan, Answer, accepted, refused}
+use Rattle.scanner.specs.Scan.{TextState, lit, pre, open-due, due, num, after, final, step, run, run-at, start, scan, TextAnswer, accepted, refused}
 use Rattle.scanner.proofs.Language.{bytes, frontiers, Fits, Tail, Due, Lang, Viable}
 use Rattle.scanner.proofs.Completion.{finish}
 use Rattle.scanner.proofs.Derivative.{Deriv, stop, goes, deriv}
 
 -- Refused at the q-th byte of what comes after state s.
-data Fails (s : State) (x : List ℕ) (q : ℕ) : Type 0 where
+data Fails (s : TextState) (x : List ℕ) (q : ℕ) : Type 0 where
   mid : q < length x → ((y : List ℕ) → Lang s (take (suc q) x ++ y) → ⊥) → (y : List ℕ) → Lang s (take q x ++ y) → Fails s x q
   end : q ≡ length x → (Lang s x → ⊥) → (b : ℕ) (y : List ℕ) → Lang s (x ++ (b ∷ y)) → Fails s x q
 
-data Right (s : State) (x : List ℕ) (p : ℕ) : Answer → Type 0 where
+data Right (s : TextState) (x : List ℕ) (p : ℕ) : TextAnswer → Type 0 where
   ok : Lang s x → Right s x p accepted
   bad : (r q : ℕ) → r ≡ p + q → Fails s x q → Right s x p (refused r)
 
-final-lang : (s : State) → Viable s → final s ≡ true → Lang s []
+final-lang : (s : TextState) → Viable s → final s ≡ true → Lang s []
 final-lang (lit []) v e = refl
 final-lang (lit (w ∷ ws)) v e = absurd (let z : _≡_ {A = ℕ} 0 1 = cc in omega arith)
 final-lang (pre ws l) v e = absurd (let z : _≡_ {A = ℕ} 0 1 = cc in omega arith)
@@ -49,7 +49,7 @@ tail-some {c} {cs} {l} {x} h t e = go (h .fs) (h .fits) (h .is)
     go : (fs : List Forest) → Fits (c ∷ cs) fs → x ≡ bytes fs → ⊥
     go (f ∷ fs) g i = nil-not (t ++ more f) 41 (bytes fs) (e ∙ ap (λ w. t ++ w) i ∙ sym (append-assoc t (more f) (41 ∷ bytes fs)))
 
-not-final : (s : State) → final s ≡ false → Lang s [] → ⊥
+not-final : (s : TextState) → final s ≡ false → Lang s [] → ⊥
 not-final (lit []) e h = let z : _≡_ {A = ℕ} 0 1 = cc in omega arith
 not-final (lit (w ∷ ws)) e h = nil-not [] w ws h
 not-final (pre ws l) e h = nil-not ws (letter (h .k)) (h .y) (h .is)
@@ -59,7 +59,7 @@ not-final (num ds c cs l) e h = tail-some (h .then) (h .tail) (h .is)
 not-final (after [] l) e h = let z : _≡_ {A = ℕ} 0 1 = cc in omega arith
 not-final (after (c ∷ cs) l) e h = tail-some h [] refl
 
-at-the-end : (s : State) → Viable s → (p : ℕ) → Right s [] p (cond (final s) accepted (refused p))
+at-the-end : (s : TextState) → Viable s → (p : ℕ) → Right s [] p (cond (final s) accepted (refused p))
 at-the-end s v p = cond-cases (final s) accepted (refused p) (Right s [] p)
     (λ y. ok (final-lang s v y))
     (λ n. bad p 0 (omega arith) (more-to-come (finish s v .0) (finish s v .1) n))
@@ -68,8 +68,8 @@ at-the-end s v p = cond-cases (final s) accepted (refused p) (Right s [] p)
     more-to-come [] h n = absurd (not-final s n h)
     more-to-come (b ∷ x) h n = end refl (not-final s n) b x h
 
-further : (s t : State) (b : ℕ) (x : List ℕ) (p : ℕ) → ((y : List ℕ) → Lang s (b ∷ y) → Lang t y) → ((y : List ℕ) → Lang t y → Lang s (b ∷ y))
-    → (a : Answer) → Right t x (suc p) a → Right s (b ∷ x) p a
+further : (s t : TextState) (b : ℕ) (x : List ℕ) (p : ℕ) → ((y : List ℕ) → Lang s (b ∷ y) → Lang t y) → ((y : List ℕ) → Lang t y → Lang s (b ∷ y))
+    → (a : TextAnswer) → Right t x (suc p) a → Right s (b ∷ x) p a
 further s t b x p f g accepted (ok h) = ok (g x h)
 further s t b x p f g (refused _) (bad r q e h) = bad r (suc q) (omega arith) (up h)
   where
@@ -77,12 +77,12 @@ further s t b x p f g (refused _) (bad r q e h) = bad r (suc q) (omega arith) (u
     up (mid l no-text y some-text) = mid (omega arith) (λ z h. no-text z (f _ h)) y (g _ some-text)
     up (end l n c y h) = end (omega arith) (λ h. n (f x h)) c y (g _ h)
 
-after-step : (s : State) → Viable s → (b : ℕ) (x : List ℕ) (p : ℕ) → ((t : State) → Viable t → Right t x (suc p) (run x (suc p) t))
-    → (o : Option State) → Deriv s b o → Right s (b ∷ x) p (elim o [ none ↦ refused p | some t ↦ run x (suc p) t ])
+after-step : (s : TextState) → Viable s → (b : ℕ) (x : List ℕ) (p : ℕ) → ((t : TextState) → Viable t → Right t x (suc p) (run x (suc p) t))
+    → (o : Option TextState) → Deriv s b o → Right s (b ∷ x) p (elim o [ none ↦ refused p | some t ↦ run x (suc p) t ])
 after-step s v b x p rec none (stop h) = bad p 0 (omega arith) (mid (omega arith) (λ y l. h y l) (finish s v .0) (finish s v .1))
 after-step s v b x p rec (some t) (goes w f g) = further s t b x p f g (run x (suc p) t) (rec t w)
 
-run-right : (x : List ℕ) (p : ℕ) (s : State) → Viable s → Right s x p (run x p s)
+run-right : (x : List ℕ) (p : ℕ) (s : TextState) → Viable s → Right s x p (run x p s)
 unfolding run
 run-right [] p s v = at-the-end s v p
 run-right (b ∷ x) p s v = after-step s v b x p (λ t w. run-right x (suc p) t w) (step s b) (deriv s v b)
@@ -90,7 +90,7 @@ run-right (b ∷ x) p s v = after-step s v b x p (λ t w. run-right x (suc p) t 
 -- The start: what hangs at leaf 1 is nothing (n = 1), leaf 2 (n = 2), or a node.
 pub others-length : (n : ℕ) → length (others n) ≡ n - 1
 others-length zero = refl
-others-length (suc n) = omega (arith, range-length 2 n)
+others-length (suc n) = omega (arith, numbers-length 2 n)
 
 to-text : (n : ℕ) (x : List ℕ) → Lang (pre (49 ∷ 32 ∷ []) (others n)) x → ShapeText n x
 unfolding tree-text
@@ -101,7 +101,7 @@ to-text n x h =
     d : Due 2 [] (others n) (h .then .y)
     d = h .then .then
 
-    go : (fs : List Forest) → Fits [] fs → Perm (others n) (frontier (d .f) ++ frontiers fs)
+    go : (fs : List Forest) → Fits [] fs → Rearranged (others n) (frontier (d .f) ++ frontiers fs)
         → x ≡ 49 ∷ 32 ∷ letter (h .k) ∷ 40 ∷ (text (d .f) ++ (41 ∷ bytes fs)) → ShapeText n x
     go [] g p e = record { tree = node (h .k) (d .f) nil; shaped = record { single = tt; forked = ((omega (arith, d .two), d .good), tt); all-leaves = p }; bytes = e }
 
@@ -109,7 +109,7 @@ of-text : (n : ℕ) → 3 ≤ n → (x : List ℕ) → ShapeText n x → Lang (p
 unfolding tree-text
 of-text n b x t = go (t .tree) (t .shaped .single) (t .shaped .forked) (t .shaped .all-leaves) (t .bytes)
   where
-    go : (f : Forest) → Single (items f) → Forked f → Perm (others n) (frontier f) → x ≡ tree-text f → Lang (pre (49 ∷ 32 ∷ []) (others n)) x
+    go : (f : Forest) → Single (items f) → Forked f → Rearranged (others n) (frontier f) → x ≡ tree-text f → Lang (pre (49 ∷ 32 ∷ []) (others n)) x
     go nil s g p e = absurd (omega (arith, perm-length p, others-length n))
     go (leaf m nil) s g p e = absurd (omega (arith, perm-length p, others-length n))
     go (node k i nil) s g p e = record {
@@ -135,7 +135,7 @@ one-text n b (node k i f) s = absurd (omega (arith, others-length n, node-long n
 two-text : (f : Forest) → Shaped 2 f → f ≡ leaf 2 nil
 two-text f s = go f (s .single) (s .forked) (s .all-leaves)
   where
-    go : (f : Forest) → Single (items f) → Forked f → Perm (2 ∷ []) (frontier f) → f ≡ leaf 2 nil
+    go : (f : Forest) → Single (items f) → Forked f → Rearranged (2 ∷ []) (frontier f) → f ≡ leaf 2 nil
     go nil o g p = absurd (omega (arith, perm-length p))
     go (leaf b nil) o g p = ap (λ x. leaf x nil) (head-eq-of-cons-eq (short-perm p (omega arith)))
     go (node k i nil) o g p = absurd (omega (arith, perm-length p, nodes-bound (node k i nil) g, g .0 .0))
@@ -161,7 +161,7 @@ start-viable (suc (suc zero)) = tt
 start-viable (suc (suc (suc k))) = omega (arith, others-length (suc (suc (suc k))))
 
 -- The theorem: the answer is `accepted` for a text of the shape, and else `refused` at the byte of document 01.
-pub data Exact (n : ℕ) (x : List ℕ) : Answer → Type 0 where
+pub data Exact (n : ℕ) (x : List ℕ) : TextAnswer → Type 0 where
   is-text : ShapeText n x → Exact n x accepted
   at : (p : ℕ) → ShapeRefused n x p → Exact n x (refused p)
 
@@ -173,7 +173,7 @@ scan-exact n x = go (run x 0 (start n)) (run-right x 0 (start n) (start-viable n
     fails q (mid l none-begins y some-begins) = at-byte l (y, start-to n _ some-begins) (λ t. none-begins (t .0) (start-of n _ (t .1)))
     fails q (end l none-is c y h) = at-end l (c ∷ y, start-to n _ h) (λ t. none-is (start-of n x t))
 
-    go : (a : Answer) → Right (start n) x 0 a → Exact n x a
+    go : (a : TextAnswer) → Right (start n) x 0 a → Exact n x a
     go accepted (ok h) = is-text (start-to n x h)
     go (refused _) (bad r q e f) = at r (subst (ShapeRefused n x) (sym (e ∙ omega arith)) (fails q f))
 
@@ -182,7 +182,7 @@ pub refused-shape : (n : ℕ) (x : List ℕ) (p : ℕ) → run-at x 0 (start n) 
 unfolding run-at scan
 refused-shape n x p = go (scan n x) (scan-exact n x)
   where
-    go : (a : Answer) → Exact n x a → a ≡ refused p → ShapeRefused n x p
+    go : (a : TextAnswer) → Exact n x a → a ≡ refused p → ShapeRefused n x p
     go accepted (is-text t) e = absurd (let z : _≡_ {A = ℕ} 0 1 = cc in omega arith)
     go (refused _) (at q r) e = let z : q ≡ p = cc in subst (ShapeRefused n x) z r
 
@@ -190,7 +190,7 @@ pub accepted-shape : (n : ℕ) (x : List ℕ) → run-at x 0 (start n) ≡ accep
 unfolding run-at scan
 accepted-shape n x = go (scan n x) (scan-exact n x)
   where
-    go : (a : Answer) → Exact n x a → a ≡ accepted → ShapeText n x
+    go : (a : TextAnswer) → Exact n x a → a ≡ accepted → ShapeText n x
     go accepted (is-text t) e = t
     go (refused _) (at q r) e = absurd (let z : _≡_ {A = ℕ} 0 1 = cc in omega arith)
 

@@ -5,13 +5,13 @@ use mathlib.Core.List.{List, [], _∷_, _++_}
 use Prim.Native.Nat.{ℕ, suc, _+_, _-_, _≤_}
 use native.Mathlib.Omega.{arith}
 use lib.ListN.{length, length-append}
-use Rattle.orders.specs.Lists.{Perm, Pick}
+use Rattle.orders.specs.Lists.{Rearranged, Pick}
 use Rattle.orders.specs.Tree.{Kind, Forest, nil, leaf, node, items, frontier}
 use Rattle.orders.specs.TreeText.{digits, letter, text, more}
-use Rattle.orders.proofs.Perm.{perm-length}
+use Rattle.orders.proofs.Rearranged.{perm-length}
 use Rattle.orders.proofs.Laws.{Forked}
 use Rattle.orders.proofs.Forms.{nodes-bound}
-use Rattle.scanner.specs.Scan.{State, lit, pre, open-due, due, num, after, need, closes, begun}
+use Rattle.scanner.specs.Scan.{TextState, lit, pre, open-due, due, num, after, need, closes, begun}
 
 -- One forest for each open node, innermost first: its further items.
 abbrev pub bytes : List Forest → List ℕ
@@ -32,7 +32,7 @@ Fits (c ∷ cs) (f ∷ fs) = (c ≤ length (items f)) × Forked f × Fits cs fs
 pub record Tail (cs l x : List ℕ) : Type 0 where
   pub fs : List Forest
   pub fits : Fits cs fs
-  pub each : Perm l (frontiers fs)
+  pub each : Rearranged l (frontiers fs)
   pub is : x ≡ bytes fs
 
 pub record Due (c : ℕ) (cs l x : List ℕ) : Type 0 where
@@ -42,7 +42,7 @@ pub record Due (c : ℕ) (cs l x : List ℕ) : Type 0 where
   pub two : c ≤ length (items f)
   pub good : Forked f
   pub fits : Fits cs fs
-  pub each : Perm l (frontier f ++ frontiers fs)
+  pub each : Rearranged l (frontier f ++ frontiers fs)
   pub is : x ≡ text f ++ (41 ∷ bytes fs)
 
 pub record Num (ds cs l x : List ℕ) : Type 0 where
@@ -66,7 +66,7 @@ pub record Pre (ws l x : List ℕ) : Type 0 where
   pub is : x ≡ ws ++ (letter k ∷ y)
   pub then : Open [] l y
 
-abbrev pub Lang : State → List ℕ → Type 0
+abbrev pub Lang : TextState → List ℕ → Type 0
 Lang (lit ws) x = x ≡ ws
 Lang (pre ws l) x = Pre ws l x
 Lang (open-due cs l) x = Open cs l x
@@ -75,7 +75,7 @@ Lang (num ds c cs l) x = Num ds (c ∷ cs) l x
 Lang (after cs l) x = Tail cs l x
 
 -- A state that can be finished.
-abbrev pub Viable : State → Type 0
+abbrev pub Viable : TextState → Type 0
 Viable (lit ws) = Unit {0}
 Viable (pre ws l) = 2 ≤ length l
 Viable (open-due cs l) = 2 + need cs ≤ length l

@@ -10,12 +10,12 @@ use borrow.Author.Tests.{eq-eqb, ne-eqb, le-leb, lt-leb}
 use lib.ListN.{length, getD, set, drop-of-length-le}
 use lib.Seq.{drop-cons}
 use Rattle.orders.specs.TreeText.{digits}
-use Rattle.scanner.specs.Scan.{State, lit, pre, open-due, due, num, after, need, closes, begun, letter?, sep?, step, final, run, run-at, accepted, refused}
+use Rattle.scanner.specs.Scan.{TextState, lit, pre, open-due, due, num, after, need, closes, begun, letter?, sep?, step, final, run, run-at, accepted, refused}
 use Rattle.scanner.specs.Unused.{unused}
 use Rattle.scanner.proofs.Numbers.{seek-marks}
 
 -- The text has ended.
-pub at-end : (x : List ℕ) (p : ℕ) (s : State) → length x ≤ p → final s ≡ false → run-at x p s ≡ refused p
+pub at-end : (x : List ℕ) (p : ℕ) (s : TextState) → length x ≤ p → final s ≡ false → run-at x p s ≡ refused p
 unfolding run-at run
 at-end x p s h f = rw (drop-of-length-le x h, f)
 
@@ -29,14 +29,14 @@ unfolding run-at run
 word-read x p h = rw (drop-of-length-le x h)
 
 module _ (x : List ℕ) (p : ℕ) (h : p < length x) where
-  stepped : (s : State) → run-at x p s ≡ elim (step s (getD x p 0)) [ none ↦ refused p | some t ↦ run-at x (suc p) t ]
+  stepped : (s : TextState) → run-at x p s ≡ elim (step s (getD x p 0)) [ none ↦ refused p | some t ↦ run-at x (suc p) t ]
   unfolding run-at run
   stepped s = rw (drop-cons x p 0 h)
 
-  stuck : (s : State) → step s (getD x p 0) ≡ none → run-at x p s ≡ refused p
+  stuck : (s : TextState) → step s (getD x p 0) ≡ none → run-at x p s ≡ refused p
   stuck s e = stepped s ∙ rw e
 
-  moved : (s t : State) → step s (getD x p 0) ≡ some t → run-at x p s ≡ run-at x (p + 1) t
+  moved : (s t : TextState) → step s (getD x p 0) ≡ some t → run-at x p s ≡ run-at x (p + 1) t
   moved s t e = stepped s ∙ rw (e, add-one)
 
   -- A word.

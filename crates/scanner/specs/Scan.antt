@@ -35,13 +35,13 @@ need [] = 0
 need (c ∷ cs) = c + need cs
 
 -- In each state but the first the last argument is the list of leaves not yet printed.
-pub data State : Type 0 where
-  lit : List ℕ → State  -- these bytes and nothing else (n = 1, n = 2)
-  pre : List ℕ → List ℕ → State  -- these bytes, then the root
-  open-due : List ℕ → List ℕ → State  -- after P or C: the bracket; the nodes round it
-  due : ℕ → List ℕ → List ℕ → State  -- an item; its node wants c, it among them; the nodes round that
-  num : List ℕ → ℕ → List ℕ → List ℕ → State  -- in a number with these digits so far; its node wants c more; the nodes round
-  after : List ℕ → List ℕ → State  -- after an item; the open nodes
+pub data TextState : Type 0 where
+  lit : List ℕ → TextState  -- these bytes and nothing else (n = 1, n = 2)
+  pre : List ℕ → List ℕ → TextState  -- these bytes, then the root
+  open-due : List ℕ → List ℕ → TextState  -- after P or C: the bracket; the nodes round it
+  due : ℕ → List ℕ → List ℕ → TextState  -- an item; its node wants c, it among them; the nodes round that
+  num : List ℕ → ℕ → List ℕ → List ℕ → TextState  -- in a number with these digits so far; its node wants c more; the nodes round
+  after : List ℕ → List ℕ → TextState  -- after an item; the open nodes
 
 abbrev pub letter? : ℕ → Bool
 letter? b = eqb b 80 || eqb b 67
@@ -55,18 +55,18 @@ closes [] [] = true
 closes [] (m ∷ l) = false
 closes (c ∷ cs) l = true
 
-abbrev pub step-after : List ℕ → List ℕ → ℕ → Option State
+abbrev pub step-after : List ℕ → List ℕ → ℕ → Option TextState
 step-after [] l b = none
 step-after (c ∷ cs) l b =
     cond (eqb b 32)
     (cond (leb (suc (need ((c - 1) ∷ cs))) (length l)) (some (due c cs l)) none)
     (cond (eqb b 41 && (eqb c 0 && closes cs l)) (some (after cs l)) none)
 
-abbrev pub step-leaf : Option (List ℕ) → ℕ → List ℕ → ℕ → Option State
+abbrev pub step-leaf : Option (List ℕ) → ℕ → List ℕ → ℕ → Option TextState
 step-leaf none c cs b = none
 step-leaf (some l) c cs b = step-after (c ∷ cs) l b
 
-unfoldable pub step : State → ℕ → Option State
+unfoldable pub step : TextState → ℕ → Option TextState
 step (lit []) b = none
 step (lit (w ∷ ws)) b = cond (eqb b w) (some (lit ws)) none
 step (pre [] l) b = cond (letter? b) (some (open-due [] l)) none
@@ -82,7 +82,7 @@ step (num ds c cs l) b =
     (cond (begun (ds ++ (b ∷ [])) l) (some (num (ds ++ (b ∷ [])) c cs l)) none)
 step (after cs l) b = step-after cs l b
 
-abbrev pub final : State → Bool
+abbrev pub final : TextState → Bool
 final (lit []) = true
 final (lit (w ∷ ws)) = false
 final (pre ws l) = false
@@ -92,24 +92,24 @@ final (num ds c cs l) = false
 final (after [] l) = true
 final (after (c ∷ cs) l) = false
 
-pub data Answer : Type 0 where
-  accepted : Answer
-  refused : ℕ → Answer
+pub data TextAnswer : Type 0 where
+  accepted : TextAnswer
+  refused : ℕ → TextAnswer
 
 -- From state s at byte p.
-unfoldable pub run : List ℕ → ℕ → State → Answer
+unfoldable pub run : List ℕ → ℕ → TextState → TextAnswer
 run [] p s = cond (final s) accepted (refused p)
 run (b ∷ x) p s = elim (step s b) [ none ↦ refused p | some t ↦ run x (suc p) t ]
 
-abbrev pub start : ℕ → State
+abbrev pub start : ℕ → TextState
 start zero = lit (49 ∷ [])
 start (suc zero) = lit (49 ∷ [])
 start (suc (suc zero)) = lit (49 ∷ 32 ∷ 50 ∷ [])
 start (suc (suc (suc k))) = pre (49 ∷ 32 ∷ []) (others (suc (suc (suc k))))
 
-unfoldable pub scan : ℕ → List ℕ → Answer
+unfoldable pub scan : ℕ → List ℕ → TextAnswer
 scan n x = run x 0 (start n)
 
 -- From state s at byte p of x.
-unfoldable pub run-at : List ℕ → ℕ → State → Answer
+unfoldable pub run-at : List ℕ → ℕ → TextState → TextAnswer
 run-at x p s = run (drop p x) p s

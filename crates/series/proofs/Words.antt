@@ -6,7 +6,7 @@ use native.Mathlib.Omega.{arith}
 use lib.ListN.{length, getD}
 use Rattle.orders.specs.Lists.{All}
 use Rattle.orders.proofs.ListLaws.{all-at, tail, tail-is}
-use Rattle.ringfile.specs.RingFile.{Name, Holds}
+use Rattle.ringfile.specs.RingFile.{Name, FileHolds}
 use Rattle.series.specs.Series.{between}
 
 module _ (c : ℕ) (g : ℕ → List ℕ) where
@@ -35,5 +35,5 @@ module _ (P : ℕ → Type 0) where
   all-tail (x ∷ l) h k = rw (tail-is x l) (h .1)
 
 -- A name has at most 8 bytes.
-pub name-few : {x : List ℕ} {n h k : ℕ} (f : Holds x n h k) (i : ℕ) → i < n → length (getD (f .ns) i []) ≤ 8
+pub name-few : {x : List ℕ} {n h k : ℕ} (f : FileHolds x n h k) (i : ℕ) → i < n → length (getD (f .ns) i []) ≤ 8
 name-few f i l = all-at Name [] (f .ns) i (f .rules .names .each) (omega (arith, f .leaves)) .few-bytes

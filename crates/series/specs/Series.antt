@@ -14,8 +14,8 @@ between c (w ∷ (v ∷ ws)) = w ++ (c ∷ between c (v ∷ ws))
 abbrev pub name : List (List ℕ) → ℕ → List ℕ
 name names b = getD names (b - 1) []
 
-abbrev pub spaced : List (List ℕ) → List ℕ → List ℕ
-spaced names order = between 32 (map (name names) order)
+abbrev pub spaced-names : List (List ℕ) → List ℕ → List ℕ
+spaced-names names order = between 32 (map (name names) order)
 
 -- "The input lines, joined by commas": those of the groups with these numbers, where group 1 has the first of the lines.
 abbrev pub commas : List ℕ → List ℕ → List ℕ

@@ -3,8 +3,8 @@ ghost use Prim.Native.Nat.{_+_, _*_, _≤_};
 ghost use lib.ListN.{length};
 ghost use Rattle.orders.specs.Lists.{All};
 ghost use Rattle.output.specs.Appends.{Appends};
-ghost use Rattle.ringfile.specs.RingFile.{Holds};
-ghost use Rattle.series.specs.Series.{spaced, commas};
+ghost use Rattle.ringfile.specs.RingFile.{FileHolds};
+ghost use Rattle.series.specs.Series.{spaced-names, commas};
 use output::put;
 use output::put_number;
 
@@ -36,9 +36,9 @@ pub fn put_names(
     out: &mut [u8],
     at: usize,
 ) -> usize
-    requires { ⌜ (Holds (now file) names head lines) × (All (λ b. (1 ≤ b) × (b ≤ names)) (now order)) × (at + 9 * length (now order) ≤ length (now out)) ⌝ }
-    ensures { λ r. ⌜ (r ≤ at + 9 * length (now (order .entry))) × ((f : Holds (now (file .entry)) names head lines)
-        → Appends (spaced (f .ns) (now (order .entry))) at (now (out .entry)) (now (out .exit)) r) ⌝ }
+    requires { ⌜ (FileHolds (now file) names head lines) × (All (λ b. (1 ≤ b) × (b ≤ names)) (now order)) × (at + 9 * length (now order) ≤ length (now out)) ⌝ }
+    ensures { λ r. ⌜ (r ≤ at + 9 * length (now (order .entry))) × ((f : FileHolds (now (file .entry)) names head lines)
+        → Appends (spaced-names (f .ns) (now (order .entry))) at (now (out .entry)) (now (out .exit)) r) ⌝ }
 {
     if order.len() == 0 {
         return at;

@@ -6,7 +6,7 @@ use Prim.Native.Nat.{ℕ, zero, suc, _+_, _-_, _≤_, _<_}
 use native.Mathlib.Omega.{arith}
 use borrow.Rule.Slice.PartMut.{putMid}
 use lib.ListN.{length, take, drop, getD, set, replicate, length-replicate, drop-of-length-le}
-use Rattle.orders.specs.Lists.{range}
+use Rattle.orders.specs.Lists.{numbers-from}
 use Rattle.orders.specs.CircularOrder.{others}
 use Rattle.orders.specs.Tree.{nil, node}
 use Rattle.orders.specs.TreeText.{text, tree-text}
@@ -133,7 +133,7 @@ zeros k = replicate k 0
 abbrev first-marks : ℕ → List ℕ
 first-marks k = 1 ∷ 1 ∷ replicate k 0
 
-unused-zeros : (k a : ℕ) → unused a (zeros k) ≡ range a k
+unused-zeros : (k a : ℕ) → unused a (zeros k) ≡ numbers-from a k
 unused-zeros zero a = refl
 unused-zeros (suc k) a = ap (λ l. a ∷ l) (unused-zeros k (suc a))
 

@@ -3,7 +3,7 @@ use mathlib.Core.Path.{_≡_}
 use mathlib.Core.Bool.{true, false, _||_}
 use mathlib.Core.List.{List, _∷_}
 use Prim.Native.Nat.{ℕ, _+_, _-_, _<_, _≤_}
-use Rattle.orders.specs.Lists.{filter, Perm}
+use Rattle.orders.specs.Lists.{those-of, Rearranged}
 use Rattle.orders.specs.CircularOrder.{others, CircularOrder, Restriction, Consecutive}
 use Rattle.orders.specs.Tree.{Forest}
 use Rattle.orders.specs.Reduce.{pack}
@@ -44,13 +44,13 @@ pub record Chosen (n : ℕ) (new : Restriction) (f : ℕ → Restriction) (keep 
 
 -- The tree to start from: one P-node with the leaves from 2 to n that are kept; one by itself.
 unfoldable pub start : ℕ → Restriction → Forest
-start n keep = pack (leaf-items (filter keep (others n)))
+start n keep = pack (leaf-items (those-of keep (others n)))
 
 -- Leaf 1, then these leaves in some sequence.
 pub record OrderOf (leaves ord : List ℕ) : Type 0 where
   pub after : List ℕ
   pub one-first : ord ≡ 1 ∷ after
-  pub all-leaves : Perm leaves after
+  pub all-leaves : Rearranged leaves after
 
 -- Some of the leaves 2 to n stand for all of them. Of each circular order comes an order of theirs, with every restriction consecutive that
 -- was; and of each order of theirs a circular order, with every group of the book consecutive that was.

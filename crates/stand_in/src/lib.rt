@@ -2,7 +2,7 @@
 ghost use mathlib.Core.Path.{_≡_};
 ghost use Prim.Native.Nat.{ℕ, _≤_};
 ghost use lib.ListN.{length};
-ghost use Rattle.orders.specs.Lists.{filter};
+ghost use Rattle.orders.specs.Lists.{those-of};
 ghost use Rattle.orders.specs.CircularOrder.{others};
 ghost use Rattle.orders.specs.Join.{leaf-items};
 ghost use Rattle.marks.specs.Marks.{marked, words-of};
@@ -66,7 +66,7 @@ pub fn choose(words: &mut [u64], book: &[u64], n: usize)
 // Writes the marked leaves from 2 to n as items, and says how many.
 fn leaves(words: &[u64], n: usize, out: &mut [u16]) -> usize
     requires { ⌜ (n ≤ 256) × (n ≤ length (now out)) ⌝ }
-    ensures { λ r. ⌜ Wrote (flat (leaf-items (filter (marked (now (words .entry))) (others n)))) (now (out .entry)) (now (out .exit)) r ⌝ }
+    ensures { λ r. ⌜ Wrote (flat (leaf-items (those-of (marked (now (words .entry))) (others n)))) (now (out .entry)) (now (out .exit)) r ⌝ }
 {
     let mut k = 0;
     let mut b = 2;

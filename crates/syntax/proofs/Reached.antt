@@ -6,9 +6,9 @@ use native.Mathlib.Omega.{arith}
 use lib.ListN.{length, length-append, replicate, length-replicate}
 use Rattle.orders.specs.Lists.{All, Distinct, In}
 use Rattle.orders.proofs.ListLaws.{all-append}
-use Rattle.syntax.specs.RingFile.{NameByte, Name, Value, off, value-word, further, line, value-lines, file-bytes, Accepted, Begun}
+use Rattle.syntax.specs.RingFile.{NameByte, Name, Value, off, value-word, further, line, value-lines, file-bytes, Accepted, FileBegun}
 use Rattle.syntax.specs.Words.{spaced}
-use Rattle.syntax.specs.Scanner.{State, naming, due, got, start, text, Naming, Due, Ok}
+use Rattle.syntax.specs.Scanner.{FileState, naming, due, got, start, text, Naming, Due, Ok}
 use Rattle.syntax.proofs.Lists.{distinct-snoc}
 use Rattle.syntax.proofs.NewNames.{room-new, short}
 use Rattle.syntax.proofs.Steps.{Step, name-byte, name-space, name-end, a-value, value-space, value-end, Run, done, then}
@@ -40,7 +40,7 @@ values-parts : (vs : List Value) (v : Value) (us : List Value)
 values-parts vs v us = ap line (map-append value-word vs (v ∷ us)) ∙ line-parts (map value-word vs) (value-word v) (map value-word us)
 
 -- A step adds its byte.
-pub text-step : {s : State} {b : ℕ} {t : State} → Step s b t → text t ≡ text s ++ (b ∷ [])
+pub text-step : {s : FileState} {b : ℕ} {t : FileState} → Step s b t → text t ≡ text s ++ (b ∷ [])
 text-step (name-byte {ns = ns} {w = w} {b = b} h r) = sym (append-assoc (spaced ns) w (b ∷ []))
 text-step (name-space {ns = ns} {w = w} {b = b} e h n f) =
     append-nil (spaced (ns ++ (w ∷ []))) ∙ spaced-snoc ns w ∙ sym (append-assoc (spaced ns) w (32 ∷ []))
@@ -73,7 +73,7 @@ module _ (ns : List (List ℕ)) (w : List ℕ) (k : Naming ns w) (h : 1 ≤ leng
   all-differ : Distinct (ns ++ (w ∷ []))
   all-differ = distinct-snoc ns w (k .different) n
 
-pub ok-step : {s : State} {b : ℕ} {t : State} → Step s b t → Ok s → Ok t
+pub ok-step : {s : FileState} {b : ℕ} {t : FileState} → Step s b t → Ok s → Ok t
 ok-step (name-byte {ns = ns} {w = w} {b = b} h r) k =
     let bs = all-append NameByte w (b ∷ []) (k .bytes) (h, tt) in
     record { few = k .few; each = k .each; different = k .different; bytes = bs; open-end = room-new ns (w ++ (b ∷ [])) bs (k .few) r }
@@ -105,17 +105,17 @@ ok-step (value-end {ns = ns} {vss = vss} {vs = vs} {v = v} e h) k =
       left = omega (arith, k .rules .names .some-name);
     }
 
-pub run-text : {s : State} {x : List ℕ} {t : State} → Run s x t → text t ≡ text s ++ x
+pub run-text : {s : FileState} {x : List ℕ} {t : FileState} → Run s x t → text t ≡ text s ++ x
 run-text (done {s = s}) = sym (append-nil (text s))
 run-text (then {s = s} {b = b} {x = x} k r) = run-text r ∙ ap (λ l. l ++ x) (text-step k) ∙ append-assoc (text s) (b ∷ []) x
 
-pub run-ok : {s : State} {x : List ℕ} {t : State} → Run s x t → Ok s → Ok t
+pub run-ok : {s : FileState} {x : List ℕ} {t : FileState} → Run s x t → Ok s → Ok t
 run-ok done k = k
 run-ok (then j r) k = run-ok r (ok-step j k)
 
 -- A state with a value due or got: the line is filled up with zeros.
 filled : (ns : List (List ℕ)) (vss : List (List Value)) (vs : List Value) (v : Value) → Due ns vss vs
-    → Begun (file-bytes ns vss ++ (spaced (map value-word vs) ++ value-word v))
+    → FileBegun (file-bytes ns vss ++ (spaced (map value-word vs) ++ value-word v))
 filled ns vss vs v k = (
   further (map value-word us),
   record {
@@ -138,11 +138,11 @@ filled ns vss vs v k = (
     full = omega (arith, length-append vs (v ∷ us), length-replicate (length ns - (length vs + 1)) off, k .left)
 
 -- A file that begins with more begins with less.
-pub fewer-begun : (x y : List ℕ) → Begun (x ++ y) → Begun x
+pub fewer-begun : (x y : List ℕ) → FileBegun (x ++ y) → FileBegun x
 fewer-begun x y b = (y ++ b .0, subst Accepted (append-assoc x y (b .0)) (b .1))
 
 -- A state with a begun name: the name is made whole, and the line ends.
-named : (ns : List (List ℕ)) (w : List ℕ) → Naming ns w → Begun (spaced ns ++ w)
+named : (ns : List (List ℕ)) (w : List ℕ) → Naming ns w → FileBegun (spaced ns ++ w)
 named ns w k = (
   k .open-end .rest ++ (10 ∷ []),
   record {
@@ -168,9 +168,9 @@ named ns w k = (
     v = w ++ (k .open-end .rest)
 
 -- Each such state goes on to an accepted file.
-pub ok-begun : (s : State) → Ok s → Begun (text s)
+pub ok-begun : (s : FileState) → Ok s → FileBegun (text s)
 ok-begun (naming ns w) k = named ns w k
 ok-begun (due ns vss vs) k =
     fewer-begun (file-bytes ns vss ++ spaced (map value-word vs)) (value-word off)
-    (subst Begun (sym (append-assoc (file-bytes ns vss) (spaced (map value-word vs)) (value-word off))) (filled ns vss vs off k))
+    (subst FileBegun (sym (append-assoc (file-bytes ns vss) (spaced (map value-word vs)) (value-word off))) (filled ns vss vs off k))
 ok-begun (got ns vss vs v) k = filled ns vss vs v k

@@ -12,10 +12,10 @@ use Rattle.orders.specs.Lists.{In, elem}
 use Rattle.orders.proofs.Members.{elem-in, in-elem}
 use Rattle.orders.proofs.Tests.{and-both}
 use Rattle.syntax.specs.RingFile.{alphabet, NameByte, Value, off, on, hyphen, value-byte}
-use Rattle.syntax.specs.Scanner.{room, is-new, State, naming, due, got, Sort, letter, space, end, other, sort, value, when, on-name, on-value, on-got, step}
+use Rattle.syntax.specs.Scanner.{room, is-new, FileState, naming, due, got, Sort, letter, space, end, other, sort, value, when, on-name, on-value, on-got, step}
 use Rattle.syntax.proofs.Words.{new-true, true-new}
 
-pub data Step : State → ℕ → State → Type 0 where
+pub data Step : FileState → ℕ → FileState → Type 0 where
   name-byte : {ns : List (List ℕ)} {w : List ℕ} {b : ℕ} → NameByte b → room ns (w ++ (b ∷ [])) ≡ true
       → Step (naming ns w) b (naming ns (w ++ (b ∷ [])))
   name-space : {ns : List (List ℕ)} {w : List ℕ} {b : ℕ} → b ≡ 32 → 1 ≤ length w → (In w ns → ⊥) → length ns < 255
@@ -70,14 +70,14 @@ value-of-byte off = refl
 value-of-byte on = refl
 value-of-byte hyphen = refl
 
-when-some : (c : Bool) (s t : State) → when c s ≡ some t → (c ≡ true) × (s ≡ t)
+when-some : (c : Bool) (s t : FileState) → when c s ≡ some t → (c ≡ true) × (s ≡ t)
 when-some true s t e = (refl, cc)
 when-some false s t e = let z : _≡_ {A = ℕ} 0 1 = cc in absurd (omega arith)
 
-never : {A : Type 0} (t : State) → none ≡ some t → A
+never : {A : Type 0} (t : FileState) → none ≡ some t → A
 never t e = let z : _≡_ {A = ℕ} 0 1 = cc in absurd (omega arith)
 
-pub step-relates : (s : State) (b : ℕ) (t : State) → step s b ≡ some t → Step s b t
+pub step-relates : (s : FileState) (b : ℕ) (t : FileState) → step s b ≡ some t → Step s b t
 step-relates (naming ns w) b t e = go (sort b) (sorted b) e
   where
     go : (k : Sort) → Sorted b k → on-name k ns w b ≡ some t → Step (naming ns w) b t
@@ -109,10 +109,10 @@ step-relates (got ns vss vs v) b t e = go (sort b) (sorted b) e
         subst (λ u. Step (got ns vss vs v) b u) (r .1) (value-end h (eqb-true (suc (length vs)) (length ns) (r .0)))
     go other h q = never t q
 
-when-true : (c : Bool) (s : State) → c ≡ true → when c s ≡ some s
+when-true : (c : Bool) (s : FileState) → c ≡ true → when c s ≡ some s
 when-true c s e = ap (λ d. when d s) e
 
-pub relation-steps : {s : State} {b : ℕ} {t : State} → Step s b t → step s b ≡ some t
+pub relation-steps : {s : FileState} {b : ℕ} {t : FileState} → Step s b t → step s b ≡ some t
 relation-steps (name-byte {ns = ns} {w = w} {b = b} h r) =
     ap (λ k. on-name k ns w b) (sort-letter b h) ∙ when-true (room ns (w ++ (b ∷ []))) (naming ns (w ++ (b ∷ []))) r
 relation-steps (name-space {ns = ns} {w = w} {b = b} e h n f) =
@@ -129,25 +129,25 @@ relation-steps (value-end {ns = ns} {vss = vss} {vs = vs} {v = v} e h) =
     ∙ when-true (eqb (suc (length vs)) (length ns)) (due ns (vss ++ ((vs ++ (v ∷ [])) ∷ [])) []) (eq-eqb (suc (length vs)) (length ns) h)
 
 -- Steps in a row.
-pub data Run : State → List ℕ → State → Type 0 where
-  done : {s : State} → Run s [] s
-  then : {s t u : State} {b : ℕ} {x : List ℕ} → Step s b t → Run t x u → Run s (b ∷ x) u
+pub data Run : FileState → List ℕ → FileState → Type 0 where
+  done : {s : FileState} → Run s [] s
+  then : {s t u : FileState} {b : ℕ} {x : List ℕ} → Step s b t → Run t x u → Run s (b ∷ x) u
 
-pub run-append : {s t u : State} {x y : List ℕ} → Run s x t → Run t y u → Run s (x ++ y) u
+pub run-append : {s t u : FileState} {x y : List ℕ} → Run s x t → Run t y u → Run s (x ++ y) u
 run-append done r = r
 run-append (then k q) r = then k (run-append q r)
 
 -- One byte leads to one state, and the bytes of a run to one.
-some-injective : {s t : State} → some s ≡ some t → s ≡ t
+some-injective : {s t : FileState} → some s ≡ some t → s ≡ t
 some-injective e = cc
 
-step-once : {s : State} {b : ℕ} {t u : State} → Step s b t → Step s b u → t ≡ u
+step-once : {s : FileState} {b : ℕ} {t u : FileState} → Step s b t → Step s b u → t ≡ u
 step-once k j = some-injective (sym (relation-steps k) ∙ relation-steps j)
 
 -- What follows the bytes y of a run, from the state to which they lead.
-pub run-after : {s t u : State} {y z : List ℕ} → Run s y t → Run s (y ++ z) u → Run t z u
+pub run-after : {s t u : FileState} {y z : List ℕ} → Run s y t → Run s (y ++ z) u → Run t z u
 run-after done r = r
 run-after {u = u} {z = z} (then {x = x} k q) (then j r) = run-after {u = u} {z = z} q (subst (λ v. Run v (x ++ z) u) (step-once j k) r)
 
-pub run-ends : {s u : State} → Run s [] u → s ≡ u
+pub run-ends : {s u : FileState} → Run s [] u → s ≡ u
 run-ends done = refl

@@ -7,9 +7,9 @@ use Prim.Native.Nat.{ℕ, _+_, _≤_, _<_}
 use native.Mathlib.Omega.{arith}
 use borrow.Author.Tests.{not-true}
 use lib.ListN.{length}
-use Rattle.orders.specs.Lists.{In, Distinct, same, range, elem}
+use Rattle.orders.specs.Lists.{In, Distinct, same, numbers-from, elem}
 use Rattle.orders.proofs.Members.{in-append, in-left, in-right, of-some, to-some, elem-in, in-elem}
-use Rattle.orders.proofs.Ranges.{in-range, range-in, range-distinct}
+use Rattle.orders.proofs.Numbers.{in-range, numbers-in, numbers-distinct}
 use Rattle.orders.proofs.FormTests.{same-decides}
 use Rattle.orders.proofs.Tests.{false-if}
 use Rattle.syntax.specs.RingFile.{alphabet, NameByte}
@@ -65,12 +65,12 @@ true-new ns (b ∷ w) h n = ap not (not-among ns (b ∷ w) n)
 pub distinct-alphabet : Distinct alphabet
 unfolding alphabet
 distinct-alphabet =
-    distinct-append (range 65 26) (range 97 26 ++ range 48 10) (range-distinct 65 26)
-    (distinct-append (range 97 26) (range 48 10) (range-distinct 97 26) (range-distinct 48 10)
+    distinct-append (numbers-from 65 26) (numbers-from 97 26 ++ numbers-from 48 10) (numbers-distinct 65 26)
+    (distinct-append (numbers-from 97 26) (numbers-from 48 10) (numbers-distinct 97 26) (numbers-distinct 48 10)
     (λ b i j. let p = in-range 97 26 b i in let q = in-range 48 10 b j in absurd (omega arith)))
-    (λ b i j. away b (in-range 65 26 b i) (in-append b (range 97 26) (range 48 10) j))
+    (λ b i j. away b (in-range 65 26 b i) (in-append b (numbers-from 97 26) (numbers-from 48 10) j))
   where
-    away : (b : ℕ) → (65 ≤ b) × (b < 65 + 26) → In b (range 97 26) ⊎ In b (range 48 10) → ⊥
+    away : (b : ℕ) → (65 ≤ b) × (b < 65 + 26) → In b (numbers-from 97 26) ⊎ In b (numbers-from 48 10) → ⊥
     away b p (inl j) = let q = in-range 97 26 b j in omega arith
     away b p (inr j) = let q = in-range 48 10 b j in omega arith
 
@@ -80,29 +80,29 @@ length-alphabet = refl
 
 pub upper : (b : ℕ) → 65 ≤ b → b < 91 → elem alphabet b ≡ true
 unfolding alphabet
-upper b h k = in-elem alphabet b (in-left b (range 65 26) (range 97 26 ++ range 48 10) (range-in 65 26 b h k))
+upper b h k = in-elem alphabet b (in-left b (numbers-from 65 26) (numbers-from 97 26 ++ numbers-from 48 10) (numbers-in 65 26 b h k))
 
 pub lower : (b : ℕ) → 97 ≤ b → b < 123 → elem alphabet b ≡ true
 unfolding alphabet
 lower b h k =
-    in-elem alphabet b (in-right b (range 65 26) (range 97 26 ++ range 48 10) (in-left b (range 97 26) (range 48 10) (range-in 97 26 b h k)))
+    in-elem alphabet b (in-right b (numbers-from 65 26) (numbers-from 97 26 ++ numbers-from 48 10) (in-left b (numbers-from 97 26) (numbers-from 48 10) (numbers-in 97 26 b h k)))
 
 pub digit : (b : ℕ) → 48 ≤ b → b < 58 → elem alphabet b ≡ true
 unfolding alphabet
 digit b h k =
-    in-elem alphabet b (in-right b (range 65 26) (range 97 26 ++ range 48 10) (in-right b (range 97 26) (range 48 10) (range-in 48 10 b h k)))
+    in-elem alphabet b (in-right b (numbers-from 65 26) (numbers-from 97 26 ++ numbers-from 48 10) (in-right b (numbers-from 97 26) (numbers-from 48 10) (numbers-in 48 10 b h k)))
 
 pub no-letter : (b : ℕ) → ((65 ≤ b) × (b < 91) → ⊥) → ((97 ≤ b) × (b < 123) → ⊥) → ((48 ≤ b) × (b < 58) → ⊥) → elem alphabet b ≡ false
 unfolding alphabet
-no-letter b h k l = false-if (elem alphabet b) (λ e. go (in-append b (range 65 26) (range 97 26 ++ range 48 10) (elem-in alphabet b e)))
+no-letter b h k l = false-if (elem alphabet b) (λ e. go (in-append b (numbers-from 65 26) (numbers-from 97 26 ++ numbers-from 48 10) (elem-in alphabet b e)))
   where
-    go2 : In b (range 97 26) ⊎ In b (range 48 10) → ⊥
+    go2 : In b (numbers-from 97 26) ⊎ In b (numbers-from 48 10) → ⊥
     go2 (inl i) = k (in-range 97 26 b i)
     go2 (inr i) = l (in-range 48 10 b i)
 
-    go : In b (range 65 26) ⊎ In b (range 97 26 ++ range 48 10) → ⊥
+    go : In b (numbers-from 65 26) ⊎ In b (numbers-from 97 26 ++ numbers-from 48 10) → ⊥
     go (inl i) = h (in-range 65 26 b i)
-    go (inr i) = go2 (in-append b (range 97 26) (range 48 10) i)
+    go (inr i) = go2 (in-append b (numbers-from 97 26) (numbers-from 48 10) i)
 
 -- Neither a space nor a line end is a byte of a name.
 pub no-space : (b : ℕ) → NameByte b → b ≡ 32 → ⊥

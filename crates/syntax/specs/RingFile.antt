@@ -4,11 +4,11 @@ use mathlib.Core.Bool.{Bool, true, false}
 use mathlib.Core.List.{List, [], _∷_, _++_, map}
 use Prim.Native.Nat.{ℕ, zero, suc, _+_, _-_, _≤_, _<_}
 use lib.ListN.{length, take, drop, getD}
-use Rattle.orders.specs.Lists.{All, Distinct, In, filter, range}
+use Rattle.orders.specs.Lists.{All, Distinct, In, those-of, numbers-from}
 
 -- "A to Z, a to z and 0 to 9".
 unfoldable pub alphabet : List ℕ
-alphabet = range 65 26 ++ (range 97 26 ++ range 48 10)
+alphabet = numbers-from 65 26 ++ (numbers-from 97 26 ++ numbers-from 48 10)
 
 abbrev pub NameByte : ℕ → Type 0
 NameByte b = In b alphabet
@@ -78,7 +78,7 @@ pub record NameAt (x : List ℕ) (ns : List (List ℕ)) (k s n : ℕ) : Type 0 w
 
 -- The group of a line: the leaves with the value `1`, rising. A leaf's number is its place in the line, from 1.
 unfoldable pub leaves-on : List Value → List ℕ
-leaves-on vs = filter (λ b. in-group (getD vs (b - 1) off)) (range 1 (length vs))
+leaves-on vs = those-of (λ b. in-group (getD vs (b - 1) off)) (numbers-from 1 (length vs))
 
 -- x is an accepted file, the size limit apart; some such file begins with x.
 pub record Accepted (x : List ℕ) : Type 0 where
@@ -87,16 +87,16 @@ pub record Accepted (x : List ℕ) : Type 0 where
   pub rules : Rules ns vss
   pub bytes : x ≡ file-bytes ns vss
 
-abbrev pub Begun : List ℕ → Type 0
-Begun x = (y : List ℕ) × Accepted (x ++ y)
+abbrev pub FileBegun : List ℕ → Type 0
+FileBegun x = (y : List ℕ) × Accepted (x ++ y)
 
 -- "The first byte up to and including which no accepted file begins alike, the size limit apart, or the length if the file ends too soon."
 pub data RefusedAt (x : List ℕ) (p : ℕ) : Type 0 where
-  at-byte : p < length x → Begun (take p x) → (Begun (take (suc p) x) → ⊥) → RefusedAt x p
-  at-end : p ≡ length x → Begun x → (Accepted x → ⊥) → RefusedAt x p
+  at-byte : p < length x → FileBegun (take p x) → (FileBegun (take (suc p) x) → ⊥) → RefusedAt x p
+  at-end : p ≡ length x → FileBegun x → (Accepted x → ⊥) → RefusedAt x p
 
 -- x is accepted: a ring of n leaves, a names line of h bytes, and l lines of values.
-pub record Holds (x : List ℕ) (n h l : ℕ) : Type 0 where
+pub record FileHolds (x : List ℕ) (n h l : ℕ) : Type 0 where
   pub ns : List (List ℕ)
   pub vss : List (List Value)
   pub rules : Rules ns vss

@@ -26,15 +26,15 @@ abbrev pub is-new : List (List ℕ) → List ℕ → Bool
 is-new ns [] = false
 is-new ns (b ∷ w) = not (among ns (b ∷ w))
 
-pub data State : Type 0 where
+pub data FileState : Type 0 where
   -- The whole names, and the begun one.
-  naming : List (List ℕ) → List ℕ → State
+  naming : List (List ℕ) → List ℕ → FileState
   -- The names, the whole lines, the values of the begun line; a value is due.
-  due : List (List ℕ) → List (List Value) → List Value → State
+  due : List (List ℕ) → List (List Value) → List Value → FileState
   -- The same with the value just read; a space or the line's end is due.
-  got : List (List ℕ) → List (List Value) → List Value → Value → State
+  got : List (List ℕ) → List (List Value) → List Value → Value → FileState
 
-abbrev pub start : State
+abbrev pub start : FileState
 start = naming [] []
 
 -- What a byte is outside the values.
@@ -47,34 +47,34 @@ sort b = cond (elem alphabet b) letter (cond (eqb b 32) space (cond (eqb b 10) e
 abbrev pub value : ℕ → Option Value
 value b = cond (eqb b 48) (some off) (cond (eqb b 49) (some on) (cond (eqb b 45) (some hyphen) none))
 
-abbrev pub when : Bool → State → Option State
+abbrev pub when : Bool → FileState → Option FileState
 when true s = some s
 when false s = none
 
-abbrev pub on-name : Sort → List (List ℕ) → List ℕ → ℕ → Option State
+abbrev pub on-name : Sort → List (List ℕ) → List ℕ → ℕ → Option FileState
 on-name letter ns w b = when (room ns (w ++ (b ∷ []))) (naming ns (w ++ (b ∷ [])))
 on-name space ns w b = when (is-new ns w && ltb (length ns) 255) (naming (ns ++ (w ∷ [])) [])
 on-name end ns w b = when (is-new ns w) (due (ns ++ (w ∷ [])) [] [])
 on-name other ns w b = none
 
-abbrev pub on-value : Option Value → List (List ℕ) → List (List Value) → List Value → Option State
+abbrev pub on-value : Option Value → List (List ℕ) → List (List Value) → List Value → Option FileState
 on-value none ns vss vs = none
 on-value (some v) ns vss vs = some (got ns vss vs v)
 
-abbrev pub on-got : Sort → List (List ℕ) → List (List Value) → List Value → Value → Option State
+abbrev pub on-got : Sort → List (List ℕ) → List (List Value) → List Value → Value → Option FileState
 on-got letter ns vss vs v = none
 on-got space ns vss vs v = when (ltb (suc (length vs)) (length ns)) (due ns vss (vs ++ (v ∷ [])))
 on-got end ns vss vs v = when (eqb (suc (length vs)) (length ns)) (due ns (vss ++ ((vs ++ (v ∷ [])) ∷ [])) [])
 on-got other ns vss vs v = none
 
 -- One byte more. none: no accepted file goes on so.
-abbrev pub step : State → ℕ → Option State
+abbrev pub step : FileState → ℕ → Option FileState
 step (naming ns w) b = on-name (sort b) ns w b
 step (due ns vss vs) b = on-value (value b) ns vss vs
 step (got ns vss vs v) b = on-got (sort b) ns vss vs v
 
 -- The bytes that lead to a state.
-abbrev pub text : State → List ℕ
+abbrev pub text : FileState → List ℕ
 text (naming ns w) = spaced ns ++ w
 text (due ns vss vs) = file-bytes ns vss ++ spaced (map value-word vs)
 text (got ns vss vs v) = file-bytes ns vss ++ (spaced (map value-word vs) ++ value-word v)
@@ -97,7 +97,7 @@ pub record Due (ns : List (List ℕ)) (vss : List (List Value)) (vs : List Value
   pub rules : Rules ns vss
   pub left : length vs < length ns
 
-abbrev pub Ok : State → Type 0
+abbrev pub Ok : FileState → Type 0
 Ok (naming ns w) = Naming ns w
 Ok (due ns vss vs) = Due ns vss vs
 Ok (got ns vss vs v) = Due ns vss vs

@@ -5,7 +5,7 @@ use mathlib.Core.List.{List, [], _∷_, _++_}
 use Prim.Native.Nat.{ℕ, suc, _+_, _-_}
 use lib.Dec.{eqb}
 use lib.ListN.{length, take, getD}
-use Rattle.orders.specs.Lists.{All, some-of, filter, same, range}
+use Rattle.orders.specs.Lists.{All, some-of, those-of, same, numbers-from}
 use Rattle.syntax.specs.RingFile.{Value, off, in-group}
 
 -- The bytes before the first space or line end.
@@ -31,4 +31,4 @@ begins t v = same (take (length t) v) t
 
 -- The leaves of `leaves-on` from number i + 1 on.
 unfoldable pub leaves-after : ℕ → List Value → List ℕ
-leaves-after i vs = filter (λ b. in-group (getD vs (b - 1) off)) (range (suc i) (length vs - i))
+leaves-after i vs = those-of (λ b. in-group (getD vs (b - 1) off)) (numbers-from (suc i) (length vs - i))

@@ -11,7 +11,7 @@ use Rattle.orders.proofs.TextTree.{text-length}
 use Rattle.calls.specs.declared.Refusal.{Refusal}
 use Rattle.calls.specs.declared.Answer.the-variants.{Done, Refused}
 use Rattle.calls.specs.Tables.{over}
-use Rattle.calls.specs.Refusals.{down, short}
+use Rattle.calls.specs.Refusals.{first-refusal, short}
 use Rattle.calls.specs.Calls.{filled-as, tree-checks, write-refusal, write-call}
 use Rattle.calls.proofs.NodeTables.{tree-in-holds}
 use Rattle.tokens.specs.Tokens.{tree, plain, encode, Wrote}
@@ -35,7 +35,7 @@ wrote-fills t {old} {mid} {new} {k} {m} a b =
     record { long = a .many ∙ rw same-tree; bytes = h ∙ rw (a .many, same-tree) }
 
 module _ (n have : ℕ) (nodes bytes : List ℕ) where
-  pub write-refused : (r : Refusal) → down (tree-checks n have nodes (short 2048 bytes)) ≡ some r → filled-as (Refused r) bytes ≡ write-call n have nodes bytes
+  pub write-refused : (r : Refusal) → first-refusal (tree-checks n have nodes (short 2048 bytes)) ≡ some r → filled-as (Refused r) bytes ≡ write-call n have nodes bytes
   unfolding write-call write-refusal
   write-refused r e = rw e
 

@@ -12,18 +12,18 @@ use Rattle.calls.specs.declared.Answer.the-variants.{Done, Refused}
 use Rattle.calls.specs.Tables.{over}
 use Rattle.calls.specs.Book.{emptied}
 use Rattle.calls.specs.NodeTable.{table-of}
-use Rattle.calls.specs.Refusals.{down, short}
+use Rattle.calls.specs.Refusals.{first-refusal, short}
 use Rattle.calls.specs.Calls.{ring, table-checks, open-refusal, ReadCall, unread, read, read-outcome}
 
 pub reads-form : {n : ℕ} {x : List ℕ} {t : Forest} → Reads n x (tree t) → InForm n t
 reads-form (accepted f e) = f
 
 module _ (n have : ℕ) (x nodes book : List ℕ) where
-  pub not-read : (r : Refusal) → down (table-checks n have nodes (short 384 book)) ≡ some r → ReadCall n have x nodes book (ring (Refused r) nodes book)
+  pub not-read : (r : Refusal) → first-refusal (table-checks n have nodes (short 384 book)) ≡ some r → ReadCall n have x nodes book (ring (Refused r) nodes book)
   unfolding open-refusal
   not-read r e = unread e
 
-  module _ (e : down (table-checks n have nodes (short 384 book)) ≡ none) where
+  module _ (e : first-refusal (table-checks n have nodes (short 384 book)) ≡ none) where
     pub refused-read : (p : ℕ) → Reads n x (refused p) → ReadCall n have x nodes book (ring (Refused (TreeText p)) nodes book)
     unfolding open-refusal read-outcome
     refused-read p h = read {f = refused p} e h

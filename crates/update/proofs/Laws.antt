@@ -10,7 +10,7 @@ use lib.Dec.{ltb}
 use lib.ListN.{length, take, drop, length-append, take-append-drop}
 use lib.Seq.{take-append-seam}
 use Rattle.orders.specs.Tree.{P, C, Forest, nil, node, items, append}
-use Rattle.orders.specs.Reduce.{one, insert, pack}
+use Rattle.orders.specs.Reduce.{one, put-sorted, pack}
 use Rattle.tokens.specs.Tokens.{E, F, L, R, X, number, Judged, j-nil, j-leaf, j-node, tree, plain, encode, Wrote}
 use Rattle.tokens.specs.Views.{shape-of, state-of, first-of, items-of, rest-of}
 use Rattle.tokens.proofs.Laws.{at-end}
@@ -19,7 +19,7 @@ use Rattle.tokens.proofs.Writes.{read-back}
 use Rattle.spans.specs.Spans.{is, passing, beyond}
 use Rattle.judge.specs.Total.{Total, whole-of, partial-of, first-reduced, mirrored-lines, c-node-of, middle-of, gather-of, reduced-of, total-by, totals}
 use Rattle.parts.specs.Writers.{flat, with-state, all-with-state, from-partial, in-line, first-in-line, all-in-line, gathered}
-use Rattle.parts.proofs.Laws.{flat-nil, flat-append, flat-p, AtFirst, at-first, starts, totals-none, flat-whole, all-empty-is, c-node-length, insert-length}
+use Rattle.parts.proofs.Laws.{flat-nil, flat-append, flat-p, AtFirst, at-first, starts, totals-none, flat-whole, all-empty-is, c-node-length, put-sorted-length}
 use Rattle.parts.proofs.Walks.{passing-text}
 use Rattle.parts.proofs.States.{is-state}
 use Rattle.update.specs.Update.{Begins}
@@ -85,7 +85,7 @@ reduced-c (j-node X C i j) h z = refl
 
 -- A P-node's partial and full items as one item, among its empty items.
 abbrev pub placed-again : Judged → Forest
-placed-again j = pack (insert (gathered (totals j)) (whole-of (with-state 0 (totals j))))
+placed-again j = pack (put-sorted (gathered (totals j)) (whole-of (with-state 0 (totals j))))
 
 pub reduced-p : (j : Judged) → (shape-of j ≡ 1 → ⊥) → (shape-of j ≡ 3 → ⊥) → (number (state-of j) < 2 → ⊥) → first-reduced (totals j) ≡ placed-again (items-of j)
 unfolding totals total-by shape-of state-of items-of
@@ -113,7 +113,7 @@ pack-ge f =
 pub placed-ge : (j : Judged) → length (flat (gathered (totals j))) ≤ length (flat (placed-again j))
 placed-ge j =
     let e = whole-of (with-state 0 (totals j)) in
-    omega (arith, pack-ge (insert (gathered (totals j)) e), insert-length (gathered (totals j)) e)
+    omega (arith, pack-ge (put-sorted (gathered (totals j)) e), put-sorted-length (gathered (totals j)) e)
 
 -- A C-node's items: none left; the first is empty; it is the last that is not; it is not the last.
 pub middle-none : (j : Judged) {l : List ℕ} → l ≡ encode j → length l ≡ 0 → flat (middle-of (totals j)) ≡ []

@@ -7,15 +7,15 @@ use mathlib.Core.List.{List, [], _∷_}
 use Prim.Native.Nat.{ℕ, zero, suc, _+_, _-_, _≤_}
 use native.Mathlib.Omega.{arith}
 use lib.ListN.{length, take, drop}
-use Rattle.orders.specs.Lists.{All, Distinct, elem, range, Perm}
+use Rattle.orders.specs.Lists.{All, Distinct, elem, numbers-from, Rearranged}
 use Rattle.orders.specs.CircularOrder.{Restriction}
 use Rattle.orders.specs.Tree.{Forest, nil, items, frontier}
 use Rattle.orders.specs.Form.{Canonical, Single, InForm, nodes}
 use Rattle.orders.specs.Reduce.{reduce}
 use Rattle.orders.specs.Join.{join}
 use Rattle.orders.proofs.ListLaws.{all-map}
-use Rattle.orders.proofs.Perm.{perm-all, perm-distinct}
-use Rattle.orders.proofs.Ranges.{range-length, count-most, count-elem}
+use Rattle.orders.proofs.Rearranged.{perm-all, perm-distinct}
+use Rattle.orders.proofs.Numbers.{numbers-length, count-most, count-elem}
 use Rattle.orders.proofs.Parts.{canonical-forked}
 use Rattle.orders.proofs.Forms.{others-range, form-distinct, nodes-bound}
 use Rattle.orders.proofs.Joining.{tree-left}
@@ -34,7 +34,7 @@ use Rattle.parts.specs.Writers.{flat}
 use Rattle.parts.proofs.Laws.{flat-tree, flat-injective}
 use Rattle.idle.specs.Stays.{stays}
 use Rattle.idle.proofs.Same.{stays-same}
-use Rattle.update.specs.Update.{Published, FormWithin, Within}
+use Rattle.update.specs.Update.{Published, FormWithin, TokensWithin}
 use Rattle.update.proofs.Laws.{begins, read-part}
 
 -- A tree in form for n leaves is one of leaves 2 to n.
@@ -46,7 +46,7 @@ form-within {n} {t} f = record {
   in-range = perm-all (λ b. (2 ≤ b) × (b ≤ n)) (f .all-leaves) (others-range n);
 }
 
-pub published-within : {n : ℕ} {l : List ℕ} → Published n l → Within n l
+pub published-within : {n : ℕ} {l : List ℕ} → Published n l → TokensWithin n l
 published-within p = (p .0, p .1, form-within (p .2), p .3)
 
 -- Different leaves from 2 to n are fewer than n, so the tree has at most 510 tokens.
@@ -59,8 +59,8 @@ few-leaves (suc n) l d h =
     omega (
       arith,
       count-elem (suc n) (1 ∷ l) (one, d) ((omega arith, omega arith), from),
-      count-most (elem (1 ∷ l)) (range 1 (suc n)),
-      range-length 1 (suc n),
+      count-most (elem (1 ∷ l)) (numbers-from 1 (suc n)),
+      numbers-length 1 (suc n),
     )
 
 pub flat-counts : (t : Forest) → length (flat t) ≡ length (frontier t) + nodes t
@@ -71,7 +71,7 @@ pub form-short : (n : ℕ) (t : Forest) → FormWithin n t → n ≤ 256 → len
 form-short n t f h = omega (arith, flat-counts t, nodes-bound t (canonical-forked t (f .canonical)), few-leaves n (frontier t) (f .different) (f .in-range))
 
 -- Reducing keeps the form, and so does joining.
-moved : {n : ℕ} {t u : Forest} → FormWithin n t → Single (items u) → Canonical u → Perm (frontier t) (frontier u) → FormWithin n u
+moved : {n : ℕ} {t u : Forest} → FormWithin n t → Single (items u) → Canonical u → Rearranged (frontier t) (frontier u) → FormWithin n u
 moved {n} f s c p = record { single = s; canonical = c; different = perm-distinct p (f .different); in-range = perm-all (λ b. (2 ≤ b) × (b ≤ n)) p (f .in-range) }
 
 pub reduce-form : (n : ℕ) (S : Restriction) (t u : Forest) → FormWithin n t → reduce S t ≡ some u → FormWithin n u
@@ -132,10 +132,10 @@ pub reduced-short : (n : ℕ) (S : Restriction) (t : Forest) → FormWithin n t 
 reduced-short n S t f h z = form-short n _ (reduce-form n S t _ f (reduce-yes n S t f z)) h
 
 -- The form of every tree with these tokens.
-pub the-form : (n : ℕ) (l : List ℕ) (p : Within n l) (t : Forest) → l ≡ flat t → FormWithin n t
+pub the-form : (n : ℕ) (l : List ℕ) (p : TokensWithin n l) (t : Forest) → l ≡ flat t → FormWithin n t
 the-form n l p t e = let q = flat-injective (p .0) t (sym (p .1) ∙ e) in rw (← q) (p .2)
 
-pub tokens-short : (n : ℕ) (l : List ℕ) → Within n l → length l ≤ 510
+pub tokens-short : (n : ℕ) (l : List ℕ) → TokensWithin n l → length l ≤ 510
 tokens-short n l p = omega (arith, ap length (p .1), form-short n (p .0) (p .2) (p .3))
 
 -- The judged tree, as the part that is read next.

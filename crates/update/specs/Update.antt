@@ -29,8 +29,8 @@ pub record FormWithin (n : ℕ) (t : Forest) : Type 0 where
   pub in-range : All (λ b. (2 ≤ b) × (b ≤ n)) (frontier t)
 
 -- The tokens are those of such a tree, n at most 256.
-abbrev pub Within : ℕ → List ℕ → Type 0
-Within n toks = (t : Forest) × (toks ≡ flat t) × FormWithin n t × (n ≤ 256)
+abbrev pub TokensWithin : ℕ → List ℕ → Type 0
+TokensWithin n toks = (t : Forest) × (toks ≡ flat t) × FormWithin n t × (n ≤ 256)
 
 -- The answer: there is no tree, and out stays as it was; or the tree is written to its start, and the answer says how many tokens.
 pub data Answers : Option Forest → List ℕ → List ℕ → Updated → Type 0 where

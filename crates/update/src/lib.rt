@@ -11,7 +11,7 @@ ghost use Rattle.orders.specs.Tree.{Forest};
 ghost use Rattle.orders.specs.Reduce.{reduce};
 ghost use Rattle.orders.specs.Join.{join};
 ghost use Rattle.marks.specs.Marks.{marked};
-ghost use Rattle.update.specs.Update.{Begins, Within, Answers};
+ghost use Rattle.update.specs.Update.{Begins, TokensWithin, Answers};
 use lines::line;
 use lines::lines;
 use parts::all_of_state;
@@ -107,7 +107,7 @@ pub enum Updated {
 
 // Writes the tree with its marked leaves consecutive to the start of out.
 pub fn update(toks: &[u16], marks: &[u64], out: &mut [u16]) -> Updated
-    requires { ⌜ ((n : ℕ) × (Within n (now toks)) × (512 ≤ length (now out))) ⌝ }
+    requires { ⌜ ((n : ℕ) × (TokensWithin n (now toks)) × (512 ≤ length (now out))) ⌝ }
     ensures { λ r. ⌜ ((t : Forest) → now (toks .entry) ≡ flat t
         → Answers (reduce (marked (now (marks .entry))) t) (now (out .entry)) (now (out .exit)) r) ⌝ }
 {
@@ -131,7 +131,7 @@ pub fn update(toks: &[u16], marks: &[u64], out: &mut [u16]) -> Updated
 
 // A group joins: the same with the side of the group that leaf 1 is not in. group is four words.
 pub fn join(toks: &[u16], group: &[u64], n: usize, out: &mut [u16]) -> Updated
-    requires { ⌜ (Within n (now toks)) × (length (now group) ≡ 4) × (512 ≤ length (now out)) ⌝ }
+    requires { ⌜ (TokensWithin n (now toks)) × (length (now group) ≡ 4) × (512 ≤ length (now out)) ⌝ }
     ensures { λ r. ⌜ ((t : Forest) → now (toks .entry) ≡ flat t
         → Answers (join (marked (now (group .entry))) t) (now (out .entry)) (now (out .exit)) r) ⌝ }
 {

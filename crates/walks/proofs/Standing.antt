@@ -12,10 +12,10 @@ use Rattle.orders.proofs.ListLaws.{all-left, all-right, part-is}
 use Rattle.calls.specs.NodeTable.{entries, rows, spelled}
 use Rattle.calls.proofs.NodeTables.{row, first-row, rows-after, entries-length, row-length, at-count, at-places, at-next, spelled-node, spelled-entries}
 use Rattle.tokens.specs.Tokens.{plain, encode}
-use Rattle.walks.specs.Walks.{Stands, NodeStands, PlacesStand}
+use Rattle.walks.specs.Walks.{RowsStand, NodeStands, PlacesStand}
 
 -- A leaf first.
-leaf-rest : {table : List ℕ} {r b d room : ℕ} {f : Forest} → Stands table r (leaf b f) d room → (1 ≤ room) × Stands table r f d (room - 1)
+leaf-rest : {table : List ℕ} {r b d room : ℕ} {f : Forest} → RowsStand table r (leaf b f) d room → (1 ≤ room) × RowsStand table r f d (room - 1)
 unfolding encode
 leaf-rest s = (
   omega (arith, s .fits),
@@ -40,7 +40,7 @@ node-inner : (k : Kind) (i : Forest) → length (encode (plain (node k i nil))) 
 unfolding encode
 node-inner k i = ap suc (length-append (encode (plain i)) [] ∙ omega arith)
 
-node-first : {table : List ℕ} {r d room : ℕ} {k : Kind} {i f : Forest} → Stands table r (node k i f) d room → NodeStands table r d room
+node-first : {table : List ℕ} {r d room : ℕ} {k : Kind} {i f : Forest} → RowsStand table r (node k i f) d room → NodeStands table r d room
 node-first {table} {r} {k = k} {i} {f} s = record {
   kind = k;
   inner = i;
@@ -61,8 +61,8 @@ next-row : (table : List ℕ) (r : ℕ) (k : Kind) (i f : Forest) (more : List �
 next-row table r k i f more w at =
     at-next table r k (entries (suc r) i) (rows (suc r) i ++ (rows (suc r + nodes i) f ++ more)) (first-row table r k i f more at) (row-length k (suc r) i w)
 
-node-rest : {table : List ℕ} {r d room : ℕ} {k : Kind} {i f : Forest} → Stands table r (node k i f) d room
-    → Stands table (suc r + nodes i) f d (room - length (encode (plain (node k i nil))))
+node-rest : {table : List ℕ} {r d room : ℕ} {k : Kind} {i f : Forest} → RowsStand table r (node k i f) d room
+    → RowsStand table (suc r + nodes i) f d (room - length (encode (plain (node k i nil))))
 node-rest {table} {r} {k = k} {i} {f} s = record {
   more = s .more;
   at = rows-after table (suc r) i (rows (suc r + nodes i) f ++ s .more) (s .narrow .0 .1) (next-row table r k i f (s .more) (s .narrow .0 .0) (s .at));
@@ -134,7 +134,7 @@ node-spelled {table} r (suc d) room s =
     (spelled-entries table d (suc r) (s .inner) (p .more) (omega arith) (p .leaves) (p .narrow) (p .deep) (p .at))
 
 -- The first place is that of a leaf.
-leaf-first : (table : List ℕ) (v : ℕ) (vs : List ℕ) (d room q : ℕ) (f : Forest) → 1 ≤ q → v ∷ vs ≡ entries q f → Stands table q f d room → v ≤ 256
+leaf-first : (table : List ℕ) (v : ℕ) (vs : List ℕ) (d room q : ℕ) (f : Forest) → 1 ≤ q → v ∷ vs ≡ entries q f → RowsStand table q f d room → v ≤ 256
     → (1 ≤ room) × PlacesStand table vs d (room - 1)
 leaf-first table v vs d room q nil o e s h = absurd (omega (arith, ap length e))
 leaf-first table v vs d room q (leaf b f) o e s h =
@@ -148,7 +148,7 @@ leaf-head table l i d room n h p =
     rw add-one (leaf-first table (getD l i 0) (drop (suc i) l) d room (p .first) (p .seq) (p .later) (sym (drop-cons l i 0 n) ∙ p .are) (p .stands) h)
 
 -- The first place is that of a node, in the record that it tells; m is how many tokens it has.
-node-here : (table : List ℕ) (v : ℕ) (vs : List ℕ) (d room q : ℕ) (f : Forest) → v ∷ vs ≡ entries q f → Stands table q f d room → 256 < v
+node-here : (table : List ℕ) (v : ℕ) (vs : List ℕ) (d room q : ℕ) (f : Forest) → v ∷ vs ≡ entries q f → RowsStand table q f d room → 256 < v
     → NodeStands table (v - 256) d room
 node-here table v vs d room q nil e s h = absurd (omega (arith, ap length e))
 node-here table v vs d room q (leaf b f) e s h = absurd (omega (arith, head-eq-of-cons-eq e, s .leaves .0))
@@ -156,7 +156,7 @@ node-here table v vs d room q (node k i f) e s h =
     let n : q ≡ v - 256 = omega (arith, head-eq-of-cons-eq e) in
     subst (λ (x : ℕ). NodeStands table x d room) n (node-first s)
 
-node-after : (table : List ℕ) (v : ℕ) (vs : List ℕ) (d room q : ℕ) (f : Forest) → v ∷ vs ≡ entries q f → Stands table q f d room → 256 < v
+node-after : (table : List ℕ) (v : ℕ) (vs : List ℕ) (d room q : ℕ) (f : Forest) → v ∷ vs ≡ entries q f → RowsStand table q f d room → 256 < v
     → PlacesStand table vs d (room - length (encode (plain (spelled d table (v - 256)))))
 unfolding node-first
 node-after table v vs d room q nil e s h = absurd (omega (arith, ap length e))

@@ -13,7 +13,7 @@ use Rattle.walks.specs.declared.Walked.{Walked}
 use Rattle.walks.specs.declared.Walked.the-variants.{Found, Bad}
 
 -- The rows of a sequence stand in the table from record r on; it has at most d nodes, and its tokens go into `room` numbers.
-pub record Stands (table : List ℕ) (r : ℕ) (f : Forest) (d room : ℕ) : Type 0 where
+pub record RowsStand (table : List ℕ) (r : ℕ) (f : Forest) (d room : ℕ) : Type 0 where
   pub more : List ℕ
   pub at : drop (257 * r) table ≡ rows r f ++ more
   pub leaves : All (λ b. b ≤ 256) (frontier f)
@@ -26,7 +26,7 @@ pub record Stands (table : List ℕ) (r : ℕ) (f : Forest) (d room : ℕ) : Typ
 pub record NodeStands (table : List ℕ) (r d room : ℕ) : Type 0 where
   pub kind : Kind
   pub inner : Forest
-  pub stands : Stands table r (node kind inner nil) d room
+  pub stands : RowsStand table r (node kind inner nil) d room
 
 -- The places are those of a sequence that stands in the table, after the first record.
 pub record PlacesStand (table places : List ℕ) (d room : ℕ) : Type 0 where
@@ -34,7 +34,7 @@ pub record PlacesStand (table places : List ℕ) (d room : ℕ) : Type 0 where
   pub later : 1 ≤ first
   pub seq : Forest
   pub are : places ≡ entries first seq
-  pub stands : Stands table first seq d room
+  pub stands : RowsStand table first seq d room
 
 -- The tokens of f were written to the start of old, and k says how many; or k is more than old has places, and then `There` is not so.
 pub record Walks (f : Forest) (There : Type 0) (old new : List ℕ) (k : ℕ) : Type 0 where

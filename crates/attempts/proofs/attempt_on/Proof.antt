@@ -3,7 +3,7 @@ use mathlib.Core.Option.{none}
 use denote.Ref.{now}
 use Rattle.orders.specs.Join.{join}
 use Rattle.marks.specs.Marks.{marked}
-use Rattle.calls.specs.Refusals.{down, list-checks}
+use Rattle.calls.specs.Refusals.{first-refusal, list-checks}
 use Rattle.book.specs.Lists.{verdict}
 use Rattle.update.specs.Update.{Answers}
 use Rattle.update.proofs.Updates.{published-within}
@@ -29,7 +29,7 @@ returns c = λ t e. list-refused t (c .before .before .before .before .before .b
 enum-told : tie.Need-enum-told
 enum-told c = search needs
 
-fine : (c : tie.After-enum-told) → down (list-checks (c .before .before .before .before .before .before .args .n) (now (c .before .before .before .before .before .before .args .list))) ≡ none
+fine : (c : tie.After-enum-told) → first-refusal (list-checks (c .before .before .before .before .before .before .args .n) (now (c .before .before .before .before .before .before .args .list))) ≡ none
 fine c = sym (c .before .before .check-list .ensures) ∙ ap verdict (c .enum-told .given .1)
 
 returns-2 : tie.Need-returns-2

@@ -1,7 +1,7 @@
 use mathlib.Core.Path.{_≡_, sym, _∙_, ap, subst}
 use mathlib.Core.Option.{none}
 use denote.Ref.{now}
-use Rattle.calls.specs.Refusals.{down}
+use Rattle.calls.specs.Refusals.{first-refusal}
 use Rattle.calls.specs.Calls.{table-checks}
 use Rattle.book.specs.Lists.{verdict}
 use Rattle.walks.specs.Walks.{Loads}
@@ -26,7 +26,7 @@ returns c = tables-refused (c .before .before .before .before .before .before .a
 enum-told : tie.Need-enum-told
 enum-told c = search needs
 
-pass : (c : tie.After-enum-told) → down (table-checks (c .before .before .before .before .before .args .n) (c .before .before .before .before .before .args .have) (now (c .before .before .before .before .before .args .nodes)) (c .before .before .before .before .before .args .other)) ≡ none
+pass : (c : tie.After-enum-told) → first-refusal (table-checks (c .before .before .before .before .before .args .n) (c .before .before .before .before .before .args .have) (now (c .before .before .before .before .before .args .nodes)) (c .before .before .before .before .before .args .other)) ≡ none
 pass c = sym (c .before .before .check-tables .ensures) ∙ ap verdict (c .enum-told .given .1)
 
 load-requires : tie.Need-load-requires

@@ -3,8 +3,8 @@ use mathlib.Core.List.{_++_}
 use Prim.Native.Nat.{_+_, _-_, _≤_}
 use lib.ListN.{length, drop, length-set}
 use native.Mathlib.Omega.{arith}
-use Rattle.orders.specs.Lists.{range}
-use Rattle.orders.proofs.Ranges.{range-length}
+use Rattle.orders.specs.Lists.{numbers-from}
+use Rattle.orders.proofs.Numbers.{numbers-length}
 use Rattle.tokens.proofs.Writes.{write-step}
 use Rattle.leaving_out.proofs.Places.{numbers-more}
 use Rattle.conflict.proofs.rising.Statement.{statement}
@@ -13,7 +13,7 @@ use Rattle.conflict.proofs.rising.Reads as reads
 use Rattle.conflict.proofs.rising.Lts as lts
 
 abbrev Inv-loop : tie.InvT-loop
-Inv-loop count out₀ i₀ out i = (i ≤ count) × (length out ≡ length out₀) × (out ≡ range 1 i ++ drop i out₀)
+Inv-loop count out₀ i₀ out i = (i ≤ count) × (length out ≡ length out₀) × (out ≡ numbers-from 1 i ++ drop i out₀)
 
 abbrev μ-loop : tie.MeasureT-loop
 μ-loop count out₀ i₀ out i = count - i
@@ -44,7 +44,7 @@ loop-again c =
     let i = c .before .loop .i in (
       omega arith,
       simp length-set (c .before .loop .inv .1),
-      rw (c .before .loop .inv .2, numbers-more i) (write-step (range 1 i) (c .before .before .args .out .now) i (i + 1) (range-length 1 i) (omega arith)),
+      rw (c .before .loop .inv .2, numbers-more i) (write-step (numbers-from 1 i) (c .before .before .args .out .now) i (i + 1) (numbers-length 1 i) (omega arith)),
     )
 
 same-length : tie.Need-same-length Inv-loop μ-loop
@@ -54,7 +54,7 @@ returns : tie.Need-returns Inv-loop μ-loop
 returns c =
     let count = c .before .before .args .count in
     let end : c .before .loop .i ≡ count = omega arith in
-    record { many = end ∙ sym (range-length 1 count); text = c .before .loop .inv .2 ∙ rw (end, range-length 1 count) }
+    record { many = end ∙ sym (numbers-length 1 count); text = c .before .loop .inv .2 ∙ rw (end, numbers-length 1 count) }
 
 pub rising-spec : {M : Type 1} → statement M
 rising-spec =

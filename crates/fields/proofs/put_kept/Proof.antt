@@ -7,7 +7,7 @@ use Rattle.orders.specs.Lists.{elem}
 use Rattle.orders.specs.CircularOrder.{Restriction}
 use Rattle.orders.specs.Aim.{aim-of}
 use Rattle.output.proofs.Laws.{appends-then, appends-as}
-use Rattle.ringfile.specs.RingFile.{Holds}
+use Rattle.ringfile.specs.RingFile.{FileHolds}
 use Rattle.fields.specs.Fields.{name}
 use Rattle.series.proofs.Words.{name-few}
 use Rattle.fields.proofs.Aiming.{same-group, aim-range, kept-within}
@@ -28,7 +28,7 @@ aimed c = c .middle .ensures ∙ ap (λ (G : Restriction). aim-of G (now (c .bef
 leaf : (c : tie.After-middle) → (1 ≤ c .middle .result) × (c .middle .result ≤ c .before .before .before .before .before .before .before .before .before .args .names)
 leaf c = rw (aimed c) (aim-range (c .before .before .before .before .before .before .before .before .before .pre .2) (elem (now (c .before .before .before .before .before .before .before .before .before .args .list))))
 
-named : (c : tie.After-name-of) (f : Holds (now (c .before .before .before .before .before .before .before .before .before .before .before .before .before .before .before .args .file)) (c .before .before .before .before .before .before .before .before .before .before .before .before .before .before .before .args .names) (c .before .before .before .before .before .before .before .before .before .before .before .before .before .before .before .args .head) (c .before .before .before .before .before .before .before .before .before .before .before .before .before .before .before .args .lines))
+named : (c : tie.After-name-of) (f : FileHolds (now (c .before .before .before .before .before .before .before .before .before .before .before .before .before .before .before .args .file)) (c .before .before .before .before .before .before .before .before .before .before .before .before .before .before .before .args .names) (c .before .before .before .before .before .before .before .before .before .before .before .before .before .before .before .args .head) (c .before .before .before .before .before .before .before .before .before .before .before .before .before .before .before .args .lines))
     → now (c .name-of .result) ≡ name (f .ns) (aim-of (elem (now (c .before .before .before .before .before .before .before .before .before .before .before .before .before .before .before .args .list))) (now (c .before .before .before .before .before .before .before .before .before .before .before .before .before .before .before .args .order)))
 named c f =
     c .name-of .ensures (f .ns) (f .vss) (f .rules) (f .bytes) (omega (arith, leaf (c .before .before .before .before .before .before), f .leaves))

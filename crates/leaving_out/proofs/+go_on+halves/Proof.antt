@@ -11,7 +11,7 @@ use Rattle.tokens.specs.Tokens.{Wrote}
 use Rattle.tokens.proofs.Writes.{read-back, wrote-one, wrote-then}
 use Rattle.parts.specs.Writers.{flat}
 use Rattle.stand_in.specs.StandIn.{group}
-use Rattle.leaving_out.specs.LeavingOut.{InBook, Represents, Stands, Walked, Stops, keeps, goes-on}
+use Rattle.leaving_out.specs.LeavingOut.{InBook, Represents, TokensRepresent, Walked, Stops, keeps, goes-on}
 use Rattle.leaving_out.proofs.Keeping.{keeps-halves, keeps-short, keeps-all}
 use Rattle.leaving_out.proofs.Places.{part-start, book-take, book-drop, book-at}
 use Rattle.leaving_out.proofs.Trees.{represented-possible, walked-stands, walked-all, next-kept, no-more}
@@ -108,7 +108,7 @@ go-on-halves-requires : (t : ℕ) → go-on-lts.Need-halves-requires (go-on-call
 go-on-halves-requires t c κs =
     let p = c .before .before .before .before .before .before .before .before .before .before .before .before .before .pre .1 .0 in
     let w = joined (c .before .before .before .before .before) (p .0) (p .1) (p .2) (p .3) .0 in
-    (omega (arith, c .before .before .before .before .before .before .before .before .before .before .before .before .before .pre .0), (subst (Stands (c .before .before .before .before .before .before .before .before .before .before .before .before .before .args .n) (group (c .before .before .before .before .before .before .before .before .before .before .before .before .before .args .book .now))) (sym (part-start (c .before .before .before .before .before .walk .result .tokens) (c .before .before .before .before .before .walk .last .1 .1 .1 .1 .0))) (walked-stands w (p .4)), c .before .before .before .before .before .before .before .before .before .before .before .before .before .pre .1 .1, c .before .before .before .before .before .before .before .before .before .before .before .before .before .pre .1 .2, omega (arith, c .before .before .before .before .before .before .before .before .before .before .before .before .before .pre .1 .3, c .halves-arg2 .given)))
+    (omega (arith, c .before .before .before .before .before .before .before .before .before .before .before .before .before .pre .0), (subst (TokensRepresent (c .before .before .before .before .before .before .before .before .before .before .before .before .before .args .n) (group (c .before .before .before .before .before .before .before .before .before .before .before .before .before .args .book .now))) (sym (part-start (c .before .before .before .before .before .walk .result .tokens) (c .before .before .before .before .before .walk .last .1 .1 .1 .1 .0))) (walked-stands w (p .4)), c .before .before .before .before .before .before .before .before .before .before .before .before .before .pre .1 .1, c .before .before .before .before .before .before .before .before .before .before .before .before .before .pre .1 .2, omega (arith, c .before .before .before .before .before .before .before .before .before .before .before .before .before .pre .1 .3, c .halves-arg2 .given)))
 
 go-on-add-result : (t : ℕ) → go-on-lts.Need-add-result (go-on-calls t) (go-on-at t) go-on.Post
 go-on-add-result t c = omega (arith, c .before .before .halves .ensures .0, c .before .before .before .before .before .before .before .before .before .before .before .before .before .before .before .before .pre .1 .3)
@@ -246,7 +246,7 @@ halves-halves-requires t c κs =
     let w = down (c .before .before .before .before .before .before) (p .0) (p .1) (p .2) (p .3) .0 in
     let half = ap length (part-start (length (c .before .before .before .before .before .before .before .before .before .before .before .before .before .before .args .numbers .now) / 2) (c .before .before .before .before .before .before .before .before .before .before .before .before .before .before .args .numbers .now)) in
     let size = length-take-le (length (c .before .before .before .before .before .before .before .before .before .before .before .before .before .before .args .numbers .now) / 2) (c .before .before .before .before .before .before .before .before .before .before .before .before .before .before .args .numbers .now) (omega arith) in
-    (omega (arith, c .before .before .before .before .before .before .before .before .before .before .before .before .before .before .pre .0, half, size, c .before .before .before .before .before .before .before .before .before .if1 .left), (subst (Stands (c .before .before .before .before .before .before .before .before .before .before .before .before .before .before .args .n) (group (c .before .before .before .before .before .before .before .before .before .before .before .before .before .before .args .book .now))) (sym (part-start (c .before .before .before .before .before .before .walk .result .tokens) (c .before .before .before .before .before .before .walk .last .1 .1 .1 .1 .0))) (walked-stands w (p .4)), c .before .before .before .before .before .before .before .before .before .before .before .before .before .before .pre .1 .1, subst InBook (sym (part-start (length (c .before .before .before .before .before .before .before .before .before .before .before .before .before .before .args .numbers .now) / 2) (c .before .before .before .before .before .before .before .before .before .before .before .before .before .before .args .numbers .now))) (book-take (length (c .before .before .before .before .before .before .before .before .before .before .before .before .before .before .args .numbers .now) / 2) (c .before .before .before .before .before .before .before .before .before .before .before .before .before .before .args .numbers .now) (c .before .before .before .before .before .before .before .before .before .before .before .before .before .before .pre .1 .2)), omega (arith, half, size, c .before .before .before .before .before .before .before .before .before .before .before .before .before .before .pre .1 .3)))
+    (omega (arith, c .before .before .before .before .before .before .before .before .before .before .before .before .before .before .pre .0, half, size, c .before .before .before .before .before .before .before .before .before .if1 .left), (subst (TokensRepresent (c .before .before .before .before .before .before .before .before .before .before .before .before .before .before .args .n) (group (c .before .before .before .before .before .before .before .before .before .before .before .before .before .before .args .book .now))) (sym (part-start (c .before .before .before .before .before .before .walk .result .tokens) (c .before .before .before .before .before .before .walk .last .1 .1 .1 .1 .0))) (walked-stands w (p .4)), c .before .before .before .before .before .before .before .before .before .before .before .before .before .before .pre .1 .1, subst InBook (sym (part-start (length (c .before .before .before .before .before .before .before .before .before .before .before .before .before .before .args .numbers .now) / 2) (c .before .before .before .before .before .before .before .before .before .before .before .before .before .before .args .numbers .now))) (book-take (length (c .before .before .before .before .before .before .before .before .before .before .before .before .before .before .args .numbers .now) / 2) (c .before .before .before .before .before .before .before .before .before .before .before .before .before .before .args .numbers .now) (c .before .before .before .before .before .before .before .before .before .before .before .before .before .before .pre .1 .2)), omega (arith, half, size, c .before .before .before .before .before .before .before .before .before .before .before .before .before .before .pre .1 .3)))
 
 -- What is kept of the first half.
 first : {t : ℕ} (c : halves-lts.After-halves (halves-calls t) (halves-at t) halves.Post) (u : Forest) (Gs : List Restriction) → c .before .before .before .before .before .before .before .before .before .before .before .before .before .before .before .args .toks .now ≡ flat u → Represents (c .before .before .before .before .before .before .before .before .before .before .before .before .before .before .before .args .n) (group (c .before .before .before .before .before .before .before .before .before .before .before .before .before .before .before .args .book .now)) Gs u

@@ -6,7 +6,7 @@ use native.Mathlib.Omega.{arith}
 use denote.Ref.{now}
 use lib.ListN.{take, drop, getD}
 use Rattle.tokens.proofs.Writes.{read-part}
-use Rattle.ringfile.specs.RingFile.{leaves-on, Holds}
+use Rattle.ringfile.specs.RingFile.{leaves-on, FileHolds}
 use Rattle.ledger.specs.Ledger.{state-at}
 use Rattle.ledger.specs.Stands.{lists-of}
 use Rattle.ledger.proofs.Files.{file-line, stands-more}
@@ -36,7 +36,7 @@ part-advance-end : tie.Need-part-advance-end
 part-advance-end c = search needs
 
 -- The leaves that were read.
-leaves : (c : tie.After-group-of) (f : Holds (now (c .before .before .before .before .before .before .args .file)) (c .before .before .before .before .before .before .args .names) (c .before .before .before .before .before .before .args .head) (c .before .before .before .before .before .before .args .lines))
+leaves : (c : tie.After-group-of) (f : FileHolds (now (c .before .before .before .before .before .before .args .file)) (c .before .before .before .before .before .before .args .names) (c .before .before .before .before .before .before .args .head) (c .before .before .before .before .before .before .args .lines))
     → take (c .group-of .result - 0) (drop 0 (c .group-of .last .1 .1 .1 .1 .0)) ≡ leaves-on (getD (f .vss) (c .before .before .before .before .before .before .args .l) [])
 leaves c f = read-part (c .group-of .ensures .0 (f .ns) (f .vss) (f .rules) (f .bytes) (f .size) (f .leaves) (f .head) (omega (arith, c .before .before .before .before .before .before .pre .1, f .lines)) (omega (arith, f .rules .names .few-names)))
 

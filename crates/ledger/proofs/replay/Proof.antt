@@ -2,7 +2,7 @@ use mathlib.Core.Path.{_≡_, refl, subst, _∙_}
 use Prim.Native.Nat.{ℕ, _-_, _≤_}
 use native.Mathlib.Omega.{arith}
 use lib.ListN.{length}
-use Rattle.ringfile.specs.RingFile.{Holds}
+use Rattle.ringfile.specs.RingFile.{FileHolds}
 use Rattle.ledger.specs.Stands.{StandsAt}
 use Rattle.ledger.proofs.Files.{few-names, stands-none}
 use Rattle.ledger.proofs.replay.Statement.{statement}
@@ -18,7 +18,7 @@ Inv-loop file names head lines upto toks₀ book₀ table₀ ring₀ l₀ toks b
     × (length toks ≡ length toks₀)
     × (length book ≡ length book₀)
     × (length table ≡ length table₀)
-    × ((f : Holds file names head lines) → StandsAt f l toks (ring .tokens) book table (ring .count))
+    × ((f : FileHolds file names head lines) → StandsAt f l toks (ring .tokens) book table (ring .count))
 
 abbrev μ-loop : tie.MeasureT-loop
 μ-loop file names head lines upto toks₀ book₀ table₀ ring₀ l₀ toks book table ring l = upto - l

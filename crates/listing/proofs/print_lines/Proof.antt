@@ -2,7 +2,7 @@ use mathlib.Core.Path.{_≡_, refl, _∙_}
 use Prim.Native.Nat.{_+_, _-_, _≤_}
 use native.Mathlib.Omega.{arith}
 use lib.ListN.{length}
-use Rattle.ringfile.specs.RingFile.{Holds}
+use Rattle.ringfile.specs.RingFile.{FileHolds}
 use Rattle.ledger.specs.Stands.{lists-of}
 use Rattle.printing.specs.Listing.{listing}
 use Rattle.printing.specs.Printing.{Before, Final}
@@ -25,7 +25,7 @@ Inv-loop file names head lines from tree order toks₀ book₀ table₀ out₀ e
     × (length out ≡ length out₀)
     × (i ≡ from → at ≡ 0)
     × (from ≤ lines + 5 → i ≤ lines + 5)
-    × ((f : Holds file names head lines) → Before f from toks₀ (ring₀ .tokens) book₀ table₀ (ring₀ .count) → Final f tree order
+    × ((f : FileHolds file names head lines) → Before f from toks₀ (ring₀ .tokens) book₀ table₀ (ring₀ .count) → Final f tree order
     → (Before f i toks (ring .tokens) book table (ring .count)) × Shown (listing (f .ns) (lists-of f)) from i out₀ out at)
 
 abbrev μ-loop : tie.MeasureT-loop

@@ -5,7 +5,7 @@ use denote.Ref.{now}
 use Rattle.orders.specs.Form.{standard}
 use Rattle.tokens.specs.Tokens.{tree, plain, Wrote}
 use Rattle.tokens.proofs.Writes.{wrote-most}
-use Rattle.ringfile.specs.RingFile.{Holds}
+use Rattle.ringfile.specs.RingFile.{FileHolds}
 use Rattle.ledger.specs.Stands.{lists-of}
 use Rattle.printing.specs.Printing.{final}
 use Rattle.parts.proofs.Laws.{flat-tree}
@@ -20,7 +20,7 @@ use Rattle.listing.proofs.print_from.Reads as print-from-reads
 use Rattle.order.proofs.standard_order.Reads as standard-order-reads
 
 -- The order that was written.
-written : (c : tie.After-standard-order) (f : Holds (now (c .before .before .before .before .before .before .before .before .before .before .before .before .before .args .file)) (c .before .before .before .before .before .before .before .before .before .before .before .before .before .args .names) (c .before .before .before .before .before .before .before .before .before .before .before .before .before .args .head) (c .before .before .before .before .before .before .before .before .before .before .before .before .before .args .lines))
+written : (c : tie.After-standard-order) (f : FileHolds (now (c .before .before .before .before .before .before .before .before .before .before .before .before .before .args .file)) (c .before .before .before .before .before .before .before .before .before .before .before .before .before .args .names) (c .before .before .before .before .before .before .before .before .before .before .before .before .before .args .head) (c .before .before .before .before .before .before .before .before .before .before .before .before .before .args .lines))
     → (old : List ℕ) × Wrote (standard (tree (plain (final (f .ns) (lists-of f))))) old (c .standard-order .last .1 .0) (c .standard-order .result)
 written c f = (_, c .standard-order .ensures (plain (final (f .ns) (lists-of f))) (flat-tree _ (final-tokens f (c .before .before .before .before .before .before .before .replay .ensures f))))
 

@@ -10,11 +10,11 @@ use mathlib.Core.Path.{_≡_, refl}
 use denote.Ref.{now}
 use lib.ListN.{length}
 use Rattle.ringfile.specs.RingFile.{too-long}
-use Rattle.cursor.specs.Cursors.{Within}
+use Rattle.cursor.specs.Cursors.{CursorWithin}
 use Rattle.ringfile.proofs.Scanning.{Reach, reach-start, reach-next, says-bad, says-ring, says-short}
 
 abbrev Inv-loop : tie.InvT-loop
-Inv-loop file n c₀ i₀ c i = (n ≡ length file) × (length file ≤ 65536) × (i ≤ n) × Within c i × Reach file i c
+Inv-loop file n c₀ i₀ c i = (n ≡ length file) × (length file ≤ 65536) × (i ≤ n) × CursorWithin c i × Reach file i c
 
 abbrev μ-loop : tie.MeasureT-loop
 μ-loop file n c₀ i₀ c i = length file - i

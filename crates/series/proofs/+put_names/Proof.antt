@@ -5,7 +5,7 @@ use borrow.Author.Needs.{needs}
 use denote.Ref.{now}
 use lib.ListN.{length, getD}
 use Rattle.output.proofs.Laws.{appends-none, appends-then, appends-as}
-use Rattle.ringfile.specs.RingFile.{Holds}
+use Rattle.ringfile.specs.RingFile.{FileHolds}
 use Rattle.series.specs.Series.{name}
 use Rattle.series.proofs.Words.{words-none, words-one, words-more, all-first, all-tail, name-few}
 use Prim.Native.Nat.{ℕ, _+_, _-_, _≤_, _<_}
@@ -37,7 +37,7 @@ first : {t : ℕ} (c : put-names-lts.Else1 (put-names-calls t) (put-names-at t) 
     → (1 ≤ getD (now (c .before .before .before .before .args .order)) 0 0) × (getD (now (c .before .before .before .before .args .order)) 0 0 ≤ c .before .before .before .before .args .names)
 first c = all-first (λ b. (1 ≤ b) × (b ≤ c .before .before .before .before .args .names)) (now (c .before .before .before .before .args .order)) (c .before .before .before .before .pre .1 .1) (c .if1 .left)
 
-named : {t : ℕ} (c : put-names-lts.After-name-of (put-names-calls t) (put-names-at t) put-names.Post) (f : Holds (now (c .before .before .before .before .before .before .args .file)) (c .before .before .before .before .before .before .args .names) (c .before .before .before .before .before .before .args .head) (c .before .before .before .before .before .before .args .lines))
+named : {t : ℕ} (c : put-names-lts.After-name-of (put-names-calls t) (put-names-at t) put-names.Post) (f : FileHolds (now (c .before .before .before .before .before .before .args .file)) (c .before .before .before .before .before .before .args .names) (c .before .before .before .before .before .before .args .head) (c .before .before .before .before .before .before .args .lines))
     → now (c .name-of .result) ≡ getD (f .ns) (getD (now (c .before .before .before .before .before .before .args .order)) 0 0 - 1) []
 named c f = c .name-of .ensures (f .ns) (f .vss) (f .rules) (f .bytes) (omega (arith, first (c .before .before), f .leaves))
 

@@ -4,7 +4,7 @@ use mathlib.Core.List.{[]}
 use Prim.Native.Nat.{ℕ, _+_, _-_, _*_, _≤_}
 use native.Mathlib.Omega.{arith}
 use lib.ListN.{length, length-set}
-use Rattle.orders.specs.Lists.{filter}
+use Rattle.orders.specs.Lists.{those-of}
 use Rattle.orders.specs.CircularOrder.{others}
 use Rattle.orders.specs.Join.{leaf-items}
 use Rattle.marks.specs.Marks.{marked}
@@ -19,7 +19,7 @@ use Rattle.marks.proofs.test.Reads as test-reads
 
 abbrev Inv-loop : tie.InvT-loop
 Inv-loop words n out₀ k₀ b₀ out k b = (2 ≤ b) × (k + 2 ≤ b) × (length out ≡ length out₀)
-    × Written (flat (leaf-items (filter (marked words) (others n)))) (from (marked words) b n) out₀ out k
+    × Written (flat (leaf-items (those-of (marked words) (others n)))) (from (marked words) b n) out₀ out k
 
 abbrev μ-loop : tie.MeasureT-loop
 μ-loop words n out₀ k₀ b₀ out k b = n + 1 - b
