@@ -11,15 +11,15 @@ NUMBER = "usize"
 RING = [("n", NUMBER), ("nodes", "&mut Node"), ("book", "&mut u64")]
 LENT = [("n", NUMBER), ("nodes", "&Node")]
 BOOK = [("book", "&u64"), ("count", NUMBER)]
-# For each call its parameters, and the definition of proofs/Says.antt: over each parameter at entry, each `&mut` at exit, and the answer.
+# For each call its parameters, and its promise (node_records/specs/Records): over each parameter at entry, each `&mut` at exit, and the reply.
 CALLS = {
-    "open": (RING, "Opens"),
-    "join": (RING + [("count", NUMBER), ("list", "&u16")], "Joins-group"),
-    "trial": (LENT + BOOK + [("list", "&u16")], "Tries"),
-    "order": (LENT + [("order", "&mut u16")], "Orders"),
-    "aim": (LENT + BOOK + [("group", NUMBER)], "Aims"),
-    "write": (LENT + [("bytes", "&mut u8")], "Writes"),
-    "read": (RING + [("text", "&u8")], "Reads-text"),
+    "open": (RING, "OpenRecords"),
+    "join": (RING + [("count", NUMBER), ("list", "&u16")], "JoinRecords"),
+    "trial": (LENT + BOOK + [("list", "&u16")], "TrialRecords"),
+    "order": (LENT + [("order", "&mut u16")], "OrderRecords"),
+    "aim": (LENT + BOOK + [("group", NUMBER)], "AimRecords"),
+    "write": (LENT + [("bytes", "&mut u8")], "WriteRecords"),
+    "read": (RING + [("text", "&u8")], "ReadRecords"),
 }
 # The crate in which `ring::NAME` stands.
 HOMES = {
@@ -207,7 +207,7 @@ class Walk:
 
     def said(self):
         ws = product(p.list if p.mut else "Unit {0}" for p in self.params)
-        says = self.ensured(lambda p: at("ws", p.i)) + " r"
+        says = self.ensured(lambda p: at("ws", p.i)) + " (report r)"
         c = Context(["lasts", "rest"])
         for p in self.params:
             c.split("fsplit", "lasts", "one", "lasts")
@@ -308,7 +308,7 @@ class Walk:
         exits = nest([self.last("x", p) if p.mut else "tt" for p in self.params] + ["v′"])
         fits = nest([at("h .1", self.muts.index(p)) if p.mut else "tt" for p in self.params] + ["tt"])
         fact = "h .1" + " .1" * len(self.muts)
-        law = f"(subst ({self.ensured(lambda p: self.last('x', p))}) (sym (coded .0)) ({fact}), coded .1)"
+        law = f"(subst ({self.ensured(lambda p: self.last('x', p))}) (sym coded) ({fact}))"
         yield f"suffices ! _ (ends-at 𝓤 H A this.ended stayed (this.clauses 𝓤 H A mem run) W {self.bound} w r {exits} {fits}) $ says ! {law} $"
         self.drained("left", "fsplit", [f"{z}-{p.name}" for p in self.lent for z in ("to" if p.mut else "t")])
         self.gathered("toks", "join", [f"t-{p.name}" for p in self.lent] + ["t-value"])
@@ -343,7 +343,7 @@ class Walk:
         yield f"  abbrev Rest : {self.R} → Fml\n  Rest r = {self.left()}\n"
         lengths = "".join(f"(length ({self.last('r', p)}) ≡ length {p.name}) × (" for p in self.muts)
         yield f"  abbrev Said : {self.R} → Val → Type 0"
-        yield f"  Said r w = Is Answer·.the-row (r .0) (w ∷ []) × ({lengths}{self.ensured(lambda p: self.last('r', p))} (r .0))" + ")" * len(self.muts) + "\n"
+        yield f"  Said r w = Is Answer·.the-row (r .0) (w ∷ []) × ({lengths}{self.ensured(lambda p: self.last('r', p))} (report (r .0)))" + ")" * len(self.muts) + "\n"
 
     def met(self):
         """From the walk to the function's contract."""
@@ -419,7 +419,8 @@ use Rattle.lent.proofs.Caps.{{asks-nothing}}
 use Rattle.calls.specs.declared.Answer.{{Answer}}
 use Rattle.calls.proofs.Answer as Answer·
 use Rattle.calls.proofs.Answer.Laws as Answer′
-use Rattle.ring_exports.proofs.Says.{{{says}}}
+use Rattle.calls.specs.Refusals.{{report}}
+use Rattle.node_records.specs.Records.{{{says}}}
 use Rattle.ring_exports.proofs.Steps.{{Code, number, answers, codes}}
 use Rattle.calls.proofs.code.Symbol as code-def
 use Rattle.calls.proofs.code.Met as code-thm

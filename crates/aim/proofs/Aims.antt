@@ -16,12 +16,12 @@ use Rattle.orders.specs.Aim.{aim-of}
 use Rattle.orders.proofs.Tests.{or-neither}
 use Rattle.calls.specs.declared.Refusal.{Refusal}
 use Rattle.calls.specs.declared.Refusal.the-variants.{RingSize, ShortTable, NotInForm, NoSuchGroup, NotConsecutive}
-use Rattle.calls.specs.declared.Answer.the-variants.{Done}
 use Rattle.calls.specs.Book.{book-in-form?}
 use Rattle.calls.specs.NodeTable.{tree-in}
-use Rattle.calls.specs.Refusals.{refuse, first-refusal, bad-size, short, short-nodes}
+use Rattle.calls.specs.Refusals.{Reply, reply, reported, refuse, first-refusal, bad-size, short, short-nodes}
 use Rattle.calls.specs.Calls.{is-none, of-tree, group-numbered, answered, aim-refusal, aim-call}
 use Rattle.calls.proofs.NodeTables.{tree-in-holds}
+use Rattle.calls.proofs.Reports.{refused-number}
 use Rattle.aim.specs.Aims.{AimsInside}
 use Rattle.aim.proofs.Sizes.{group-within}
 use Rattle.aim.proofs.Runs.{aim-inside}
@@ -36,9 +36,9 @@ all-passed false false false true f e = absurd (let z : _≡_ {A = ℕ} 0 1 = cc
 all-passed false false false false true e = absurd (let z : _≡_ {A = ℕ} 0 1 = cc in omega arith)
 all-passed false false false false false e = (refl, refl, refl, refl, refl)
 
-done-none : (r : Option Refusal) (v b : ℕ) → answered r v ≡ Done b → (r ≡ none) × (v ≡ b)
-done-none none v b e = (refl, cc)
-done-none (some r) v b e = absurd (let z : _≡_ {A = ℕ} 0 1 = cc in omega arith)
+done-none : (r : Option Refusal) (v b : ℕ) → answered r v ≡ reply 0 b → (r ≡ none) × (v ≡ b)
+done-none none v b e = (refl, ap (λ (s : Reply). s .value) e)
+done-none (some r) v b e = absurd (refused-number r (ap (λ (s : Reply). s .number) e))
 
 module _ (n have : ℕ) (nodes book : List ℕ) (count k : ℕ) where
   -- The ring was lent, and the group is there and consecutive.

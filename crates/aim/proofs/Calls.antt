@@ -17,7 +17,7 @@ use Rattle.orders.proofs.TextTree.{form-length}
 use Rattle.calls.specs.declared.Refusal.{Refusal}
 use Rattle.calls.specs.declared.Refusal.the-variants.{NoSuchGroup, NotConsecutive}
 use Rattle.calls.specs.declared.Answer.the-variants.{Done, Refused}
-use Rattle.calls.specs.Refusals.{refuse, first-refusal}
+use Rattle.calls.specs.Refusals.{reported, report, refuse, first-refusal}
 use Rattle.calls.specs.Calls.{ring-checks, group-numbered, answered, aim-refusal, aim-call}
 use Rattle.calls.proofs.NodeTables.{tree-in-holds}
 use Rattle.tokens.specs.Tokens.{tree, plain}
@@ -49,13 +49,13 @@ order-room h =
 
 -- The checks after the ring's, as the code makes them.
 last-checks : (a b : Bool) (v : ℕ)
-    → answered (first-refusal (refuse a NoSuchGroup ∷ refuse (not b) NotConsecutive ∷ [])) v ≡ cond a (Refused NoSuchGroup) (cond b (Done v) (Refused NotConsecutive))
+    → answered (first-refusal (refuse a NoSuchGroup ∷ refuse (not b) NotConsecutive ∷ [])) v ≡ report (cond a (Refused NoSuchGroup) (cond b (Done v) (Refused NotConsecutive)))
 last-checks true b v = refl
 last-checks false true v = refl
 last-checks false false v = refl
 
 module _ (n have : ℕ) (nodes book : List ℕ) (count k : ℕ) where
-  pub aim-refused : (r : Refusal) → first-refusal (ring-checks n have nodes book count) ≡ some r → Refused r ≡ aim-call n have nodes book count k
+  pub aim-refused : (r : Refusal) → first-refusal (ring-checks n have nodes book count) ≡ some r → reported r ≡ aim-call n have nodes book count k
   unfolding aim-call aim-refusal
   aim-refused r e = rw (first-refusal-some (ring-checks n have nodes book count) _ r e)
 
@@ -72,7 +72,7 @@ module _ (n have : ℕ) (nodes book : List ℕ) (count k : ℕ) where
       groups = h .groups;
     }
 
-    pub aim-there : aim-of-group book count k (h .tree) ≡ aim-call n have nodes book count k
+    pub aim-there : report (aim-of-group book count k (h .tree)) ≡ aim-call n have nodes book count k
     unfolding aim-call aim-refusal aim-of-group aim-in
     aim-there =
         rw (first-refusal-none (ring-checks n have nodes book count) _ (h .passes), tree-in-holds n nodes (h .tree) (h .lent .few-leaves) .1 (h .lent .tree))

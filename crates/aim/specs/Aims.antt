@@ -3,9 +3,9 @@ use mathlib.Core.Path.{_≡_}
 use mathlib.Core.Bool.{true}
 use mathlib.Core.List.{List}
 use Prim.Native.Nat.{ℕ}
-use Rattle.calls.specs.declared.Answer.the-variants.{Done}
+use Rattle.calls.specs.Refusals.{reply}
 use Rattle.calls.specs.Calls.{group-numbered, aim-call}
 
 -- The leaf answered is one of the group.
 abbrev pub AimsInside : ℕ → ℕ → List ℕ → List ℕ → ℕ → ℕ → Type 0
-AimsInside n have nodes book count k = (b : ℕ) → aim-call n have nodes book count k ≡ Done b → group-numbered book k b ≡ true
+AimsInside n have nodes book count k = (b : ℕ) → aim-call n have nodes book count k ≡ reply 0 b → group-numbered book k b ≡ true

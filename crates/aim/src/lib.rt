@@ -7,7 +7,8 @@ ghost use Rattle.orders.specs.Conflict.{consecutive?};
 ghost use Rattle.orders.specs.Aim.{start-after, aim-of};
 ghost use Rattle.marks.specs.Marks.{marked};
 ghost use Rattle.tokens.specs.Tokens.{plain, encode};
-ghost use Rattle.calls.specs.Calls.{aim-call};
+ghost use Rattle.calls.specs.Refusals.{report};
+ghost use Rattle.calls.specs.Promises.{AimPromise};
 ghost use Rattle.aim.specs.Starts.{enters, starts, GroupWithin, aim-in};
 ghost use Rattle.aim.specs.Rings.{Lends, aim-of-group};
 use calls::Answer;
@@ -104,7 +105,7 @@ fn group_aim(toks: &[u16], book: &[u64], count: usize, group: usize) -> Answer
 
 // The leaf at which the group with this number is aimed (document 01's aim), in the standard order.
 pub fn aim(n: usize, nodes: &[u16], have: usize, book: &[u64], count: usize, group: usize) -> Answer
-    ensures { λ r. ⌜ r ≡ aim-call n have (now (nodes .entry)) (now (book .entry)) count group ⌝ }
+    ensures { λ r. ⌜ AimPromise n (now (nodes .entry)) have (now (book .entry)) count group (report r) ⌝ }
 {
     let mut toks = [0u16; 512];
     match checks::lent_ring(n, nodes, have, book, count, &mut toks) {

@@ -22,11 +22,10 @@ use Rattle.orders.proofs.Joining.{join-none, join-some}
 use Rattle.orders.proofs.Tests.{false-if}
 use Rattle.calls.specs.declared.Refusal.{Refusal}
 use Rattle.calls.specs.declared.Refusal.the-variants.{OutsideRing, Repeated, BookFull, Impossible}
-use Rattle.calls.specs.declared.Answer.the-variants.{Done, Refused}
 use Rattle.calls.specs.Tables.{over}
 use Rattle.calls.specs.Book.{book-in-form?}
 use Rattle.calls.specs.NodeTable.{Holds, table-of, tree-in}
-use Rattle.calls.specs.Refusals.{refuse, first-refusal, bad-size, short, short-nodes, bad-leaf, list-checks}
+use Rattle.calls.specs.Refusals.{Reply, refuse, first-refusal, bad-size, short, short-nodes, bad-leaf, list-checks}
 use Rattle.calls.specs.Calls.{is-none, joined-tree, join-refusal, joined, join-call, order-refusal, order-call}
 use Rattle.calls.specs.Demands.{LentTree, LentRing, ImpossibleIff, NewTree, Joins}
 use Rattle.calls.proofs.NodeTables.{tree-in-holds, over-holds}
@@ -148,7 +147,7 @@ module _ (n have : ℕ) (nodes book : List ℕ) (count : ℕ) (list : List ℕ) 
       by-answer (some u) e =
           let j = join-some n G t u t-form e in
           record {
-            impossible = (λ q. absurd (let z : _≡_ {A = ℕ} 0 1 = cc in omega arith), λ q. absurd (q (standard u) (j .orders (standard u) .0 (j .standard-first .allowed) .0) (j .orders (standard u) .0 (j .standard-first .allowed) .1)));
+            impossible = (λ q. absurd (omega (arith, ap (λ (s : Reply). s .number) q)), λ q. absurd (q (standard u) (j .orders (standard u) .0 (j .standard-first .allowed) .0) (j .orders (standard u) .0 (j .standard-first .allowed) .1)));
             otherwise = λ q. record {
               new = u;
               held = over-holds n u nodes (j .form) (h .lent .few-leaves);

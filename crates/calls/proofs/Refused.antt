@@ -1,6 +1,6 @@
 -- What a refusal leaves, and which of 5 and 6 counts.
 use mathlib.Core.Path.{_≡_, refl, sym, _∙_, ap}
-use mathlib.Core.Logic.{_⊎_, inl, inr}
+use mathlib.Core.Logic.{_⊎_, _≢_, inl, inr}
 use mathlib.Core.Bool.{Bool, true, false, cond, _||_}
 use mathlib.Core.Option.{Option, none, some}
 use mathlib.Core.List.{List, [], _∷_, _++_}
@@ -15,22 +15,18 @@ use Rattle.orders.specs.Tree.{Forest}
 use Rattle.orders.specs.TreeText.{Found}
 use Rattle.calls.specs.declared.Refusal.{Refusal}
 use Rattle.calls.specs.declared.Refusal.the-variants.{OutsideRing, Repeated}
-use Rattle.calls.specs.declared.Answer.the-variants.{Done, Refused}
 use Rattle.calls.specs.Refusals.{bad-leaf}
 use Rattle.calls.specs.Calls.{Ring, ring, filled, opened, open-refusal, open-call, joined, join-refusal, joined-tree, join-call, read-outcome, ReadCall, unread, read}
 use Rattle.calls.proofs.Demands.{Fine, fine-more}
 
 -- "Left as it was: every table."
 abbrev Keeps : Ring → List ℕ → List ℕ → Type 0
-Keeps x nodes book = (r : Refusal) → x .answer ≡ Refused r → (x .nodes ≡ nodes) × (x .book ≡ book)
-
-not-done : {v : ℕ} {r : Refusal} → Done v ≡ Refused r → ⊥
-not-done e = let z : _≡_ {A = ℕ} 0 1 = cc in omega arith
+Keeps x nodes book = x .answer .number ≢ 0 → (x .nodes ≡ nodes) × (x .book ≡ book)
 
 opened-keeps : (o : Option Refusal) (n : ℕ) (nodes book : List ℕ) → Keeps (opened o n nodes book) nodes book
 unfolding opened
-opened-keeps (some q) n nodes book r e = (refl, refl)
-opened-keeps none n nodes book r e = absurd (not-done e)
+opened-keeps (some q) n nodes book e = (refl, refl)
+opened-keeps none n nodes book e = absurd (e refl)
 
 pub open-keeps : (n have : ℕ) (nodes book : List ℕ) → Keeps (open-call n have nodes book) nodes book
 unfolding open-call
@@ -38,8 +34,8 @@ open-keeps n have nodes book = opened-keeps (open-refusal n have nodes book) n n
 
 joined-keeps : (o : Option Refusal) (t : Option Forest) (nodes book : List ℕ) (count : ℕ) (list : List ℕ) → Keeps (joined o t nodes book count list) nodes book
 unfolding joined
-joined-keeps (some q) t nodes book count list r e = (refl, refl)
-joined-keeps none t nodes book count list r e = absurd (not-done e)
+joined-keeps (some q) t nodes book count list e = (refl, refl)
+joined-keeps none t nodes book count list e = absurd (e refl)
 
 pub join-keeps : (n have : ℕ) (nodes book : List ℕ) (count : ℕ) (list : List ℕ) → Keeps (join-call n have nodes book count list) nodes book
 unfolding join-call
@@ -48,17 +44,17 @@ join-keeps n have nodes book count list =
 
 read-keeps : (f : Found) (nodes book : List ℕ) → Keeps (read-outcome f nodes book) nodes book
 unfolding read-outcome
-read-keeps (Found.refused p) nodes book r e = (refl, refl)
-read-keeps (Found.tree t) nodes book r e = absurd (not-done e)
+read-keeps (Found.refused p) nodes book e = (refl, refl)
+read-keeps (Found.tree t) nodes book e = absurd (e refl)
 
 pub read-call-keeps : (n have : ℕ) (text nodes book : List ℕ) (x : Ring) → ReadCall n have text nodes book x → Keeps x nodes book
-read-call-keeps n have text nodes book x (unread p) r e = (refl, refl)
-read-call-keeps n have text nodes book x (read {f} p q) r e = read-keeps f nodes book r e
+read-call-keeps n have text nodes book x (unread p) e = (refl, refl)
+read-call-keeps n have text nodes book x (read {f} p q) e = read-keeps f nodes book e
 
 -- Of a call that fills one table.
-pub filled-keeps : (o : Option Refusal) (v : ℕ) (xs table : List ℕ) (r : Refusal) → filled o v xs table .answer ≡ Refused r → filled o v xs table .table ≡ table
-filled-keeps (some q) v xs table r e = refl
-filled-keeps none v xs table r e = absurd (not-done e)
+pub filled-keeps : (o : Option Refusal) (v : ℕ) (xs table : List ℕ) → filled o v xs table .answer .number ≢ 0 → filled o v xs table .table ≡ table
+filled-keeps (some q) v xs table e = refl
+filled-keeps none v xs table e = absurd (e refl)
 
 -- "Of 5 and 6 the earlier place counts": what stands before the named place is a list of different leaves of the ring; the leaf there is none of
 -- the ring (5), or stands before it (6).

@@ -18,28 +18,26 @@ use Rattle.orders.specs.Aim.{aim-of}
 use Rattle.marks.specs.Marks.{marked}
 use Rattle.calls.specs.declared.Refusal.{Refusal}
 use Rattle.calls.specs.declared.Refusal.the-variants.{RingSize, ShortTable, NotInForm, BookFull, Impossible, NoSuchGroup, NotConsecutive, TreeText}
-use Rattle.calls.specs.declared.Answer.{Answer}
-use Rattle.calls.specs.declared.Answer.the-variants.{Done, Refused}
 use Rattle.calls.specs.Tables.{over, padded}
 use Rattle.calls.specs.Book.{group-words, groups, book-in-form?, booked, emptied}
 use Rattle.calls.specs.NodeTable.{table-of, tree-in}
-use Rattle.calls.specs.Refusals.{refuse, first-refusal, bad-size, short, short-nodes, list-checks}
+use Rattle.calls.specs.Refusals.{Reply, reply, reported, refuse, first-refusal, bad-size, short, short-nodes, list-checks}
 
--- A call that may change a ring's tables: its answer, and the tables afterwards.
+-- A call that may change a ring's tables: what it returns, and the tables afterwards.
 pub record Ring : Type 0 where
-  pub answer : Answer
+  pub answer : Reply
   pub nodes : List ℕ
   pub book : List ℕ
 
-abbrev pub ring : Answer → List ℕ → List ℕ → Ring
+abbrev pub ring : Reply → List ℕ → List ℕ → Ring
 ring answer nodes book = record { answer = answer; nodes = nodes; book = book }
 
--- A call that fills one table: its answer, and the table afterwards.
+-- A call that fills one table: what it returns, and the table afterwards.
 pub record Filled : Type 0 where
-  pub answer : Answer
+  pub answer : Reply
   pub table : List ℕ
 
-abbrev pub filled-as : Answer → List ℕ → Filled
+abbrev pub filled-as : Reply → List ℕ → Filled
 filled-as answer table = record { answer = answer; table = table }
 
 abbrev pub is-none : {A : Type 0} → Option A → Bool
@@ -68,8 +66,8 @@ unfoldable pub open-refusal : ℕ → ℕ → List ℕ → List ℕ → Option R
 open-refusal n have nodes book = first-refusal (table-checks n have nodes (short 384 book))
 
 unfoldable pub opened : Option Refusal → ℕ → List ℕ → List ℕ → Ring
-opened (some r) n nodes book = ring (Refused r) nodes book
-opened none n nodes book = ring (Done 0) (over (table-of (fresh n)) nodes) (emptied book)
+opened (some r) n nodes book = ring (reported r) nodes book
+opened none n nodes book = ring (reply 0 0) (over (table-of (fresh n)) nodes) (emptied book)
 
 unfoldable pub open-call : ℕ → ℕ → List ℕ → List ℕ → Ring
 open-call n have nodes book = opened (open-refusal n have nodes book) n nodes book
@@ -86,21 +84,21 @@ join-refusal n have nodes book count list =
 
 -- "The accepted group takes the next book place in every case." Answers the new count of the book's groups.
 unfoldable pub joined : Option Refusal → Option Forest → List ℕ → List ℕ → ℕ → List ℕ → Ring
-joined (some r) t nodes book count list = ring (Refused r) nodes book
-joined none t nodes book count list = ring (Done (count + 1)) (with-tree t nodes) (booked book count (elem list))
+joined (some r) t nodes book count list = ring (reported r) nodes book
+joined none t nodes book count list = ring (reply 0 (count + 1)) (with-tree t nodes) (booked book count (elem list))
 
 unfoldable pub join-call : ℕ → ℕ → List ℕ → List ℕ → ℕ → List ℕ → Ring
 join-call n have nodes book count list =
     joined (join-refusal n have nodes book count list) (joined-tree n nodes list) nodes book count list
 
 -- "A trial answers as joining would and changes nothing."
-unfoldable pub trial-call : ℕ → ℕ → List ℕ → List ℕ → ℕ → List ℕ → Answer
+unfoldable pub trial-call : ℕ → ℕ → List ℕ → List ℕ → ℕ → List ℕ → Reply
 trial-call n have nodes book count list = join-call n have nodes book count list .answer
 
 -- A call that fills one table from a ring's tree: its answer and what it writes, or the table as it was.
 abbrev pub filled : Option Refusal → ℕ → List ℕ → List ℕ → Filled
-filled (some r) value xs table = filled-as (Refused r) table
-filled none value xs table = filled-as (Done value) (over xs table)
+filled (some r) value xs table = filled-as (reported r) table
+filled none value xs table = filled-as (reply 0 value) (over xs table)
 
 abbrev pub of-tree : Option Forest → (Forest → List ℕ) → List ℕ
 of-tree none f = []
@@ -123,11 +121,11 @@ write-call n have nodes bytes =
 
 -- The tree text, read: checks 1, 2 and 12; the tree, an empty book. Answers the count of the book's groups, 0.
 unfoldable pub read-outcome : Found → List ℕ → List ℕ → Ring
-read-outcome (refused p) nodes book = ring (Refused (TreeText p)) nodes book
-read-outcome (tree t) nodes book = ring (Done 0) (over (table-of t) nodes) (emptied book)
+read-outcome (refused p) nodes book = ring (reported (TreeText p)) nodes book
+read-outcome (tree t) nodes book = ring (reply 0 0) (over (table-of t) nodes) (emptied book)
 
 pub data ReadCall (n have : ℕ) (text nodes book : List ℕ) : Ring → Type 0 where
-  unread : {r : Refusal} → open-refusal n have nodes book ≡ some r → ReadCall n have text nodes book (ring (Refused r) nodes book)
+  unread : {r : Refusal} → open-refusal n have nodes book ≡ some r → ReadCall n have text nodes book (ring (reported r) nodes book)
   read : {f : Found} → open-refusal n have nodes book ≡ none → Reads n text f → ReadCall n have text nodes book (read-outcome f nodes book)
 
 -- The aim of the book's group with the number k: checks 1, 2, 3, 9, 10. Answers the bin.
@@ -142,11 +140,11 @@ aim-refusal n have nodes book count k =
     ∷ refuse (not (consecutive? (group-numbered book k) (of-tree (tree-in n nodes) standard))) NotConsecutive
     ∷ []))
 
-abbrev pub answered : Option Refusal → ℕ → Answer
-answered (some r) value = Refused r
-answered none value = Done value
+abbrev pub answered : Option Refusal → ℕ → Reply
+answered (some r) value = reported r
+answered none value = reply 0 value
 
-unfoldable pub aim-call : ℕ → ℕ → List ℕ → List ℕ → ℕ → ℕ → Answer
+unfoldable pub aim-call : ℕ → ℕ → List ℕ → List ℕ → ℕ → ℕ → Reply
 aim-call n have nodes book count k =
     answered (aim-refusal n have nodes book count k) (aim-of (group-numbered book k) (of-tree (tree-in n nodes) standard))
 

@@ -1,17 +1,12 @@
 // The calls that answer from the standard order, on a node table of rows, with the answer as two numbers: the order itself, and the aim of a group.
-ghost use mathlib.Core.Path.{_≡_};
 ghost use Prim.Native.Nat.{_/_};
 ghost use lib.ListN.{length};
-ghost use Rattle.calls.specs.Calls.{filled-as, order-call, aim-call};
-ghost use Rattle.calls.specs.Demands.{OrderDemand};
-ghost use Rattle.calls.specs.Codes.{answer-of, Coded};
+ghost use Rattle.calls.specs.Refusals.{reply};
+ghost use Rattle.calls.specs.Promises.{OrderPromise, AimPromise};
 
 // Writes the standard order to the first n places of order. The value is n.
 pub fn order(n: usize, nodes: &[u16], order: &mut [u16], value: &mut usize) -> u8
-    ensures { λ r. ⌜ ((filled-as (answer-of r (now (value .exit))) (now (order .exit))
-        ≡ order-call n (length (now (nodes .entry)) / 257) (now (nodes .entry)) (now (order .entry)))
-        × OrderDemand n (length (now (nodes .entry)) / 257) (now (nodes .entry)) (now (order .entry)) (now (order .exit)))
-        × Coded r (now (value .exit)) ⌝ }
+    ensures { λ r. ⌜ OrderPromise n (now (nodes .entry)) (length (now (nodes .entry)) / 257) (now (order .entry)) (now (order .exit)) (reply r (now (value .exit))) ⌝ }
 {
     let answer = planner::order(n, nodes, coding::records(nodes), order);
     calls::code(answer, value)
@@ -26,9 +21,7 @@ pub fn aim(
     group: usize,
     value: &mut usize,
 ) -> u8
-    ensures { λ r. ⌜ (answer-of r (now (value .exit))
-        ≡ aim-call n (length (now (nodes .entry)) / 257) (now (nodes .entry)) (now (book .entry)) count group)
-        × Coded r (now (value .exit)) ⌝ }
+    ensures { λ r. ⌜ AimPromise n (now (nodes .entry)) (length (now (nodes .entry)) / 257) (now (book .entry)) count group (reply r (now (value .exit))) ⌝ }
 {
     let answer = aim::aim(n, nodes, coding::records(nodes), book, count, group);
     calls::code(answer, value)

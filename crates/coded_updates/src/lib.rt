@@ -1,17 +1,13 @@
 // The calls that open a ring, join a group and try one, on a node table of rows, with the answer as two numbers: each returns 0, or the number of its
 // refusal, and writes its own answer, or the place of the refusal, through `value`.
-ghost use mathlib.Core.Path.{_≡_};
 ghost use Prim.Native.Nat.{_/_};
 ghost use lib.ListN.{length};
-ghost use Rattle.calls.specs.Calls.{ring, open-call, join-call, trial-call};
-ghost use Rattle.calls.specs.Demands.{JoinDemand, TrialDemand};
-ghost use Rattle.calls.specs.Codes.{answer-of, Coded};
+ghost use Rattle.calls.specs.Refusals.{reply};
+ghost use Rattle.calls.specs.Promises.{OpenPromise, JoinPromise, TrialPromise};
 
 // Opens a ring of n leaves: its node table gets the fresh tree, and its book is emptied. The value is the count of groups, 0.
 pub fn open(n: usize, nodes: &mut [u16], book: &mut [u64], value: &mut usize) -> u8
-    ensures { λ r. ⌜ (ring (answer-of r (now (value .exit))) (now (nodes .exit)) (now (book .exit))
-        ≡ open-call n (length (now (nodes .entry)) / 257) (now (nodes .entry)) (now (book .entry)))
-        × Coded r (now (value .exit)) ⌝ }
+    ensures { λ r. ⌜ OpenPromise n (now (nodes .entry)) (length (now (nodes .entry)) / 257) (now (book .entry)) (now (nodes .exit)) (now (book .exit)) (reply r (now (value .exit))) ⌝ }
 {
     let have = coding::records(nodes);
     let answer = planner::open(n, nodes, have, book);
@@ -27,10 +23,7 @@ pub fn join(
     list: &[u16],
     value: &mut usize,
 ) -> u8
-    ensures { λ r. ⌜ ((ring (answer-of r (now (value .exit))) (now (nodes .exit)) (now (book .exit))
-        ≡ join-call n (length (now (nodes .entry)) / 257) (now (nodes .entry)) (now (book .entry)) count (now (list .entry)))
-        × JoinDemand n (length (now (nodes .entry)) / 257) (now (nodes .entry)) (now (book .entry)) count (now (list .entry)) (answer-of r (now (value .exit))) (now (nodes .exit)))
-        × Coded r (now (value .exit)) ⌝ }
+    ensures { λ r. ⌜ JoinPromise n (now (nodes .entry)) (length (now (nodes .entry)) / 257) (now (book .entry)) count (now (list .entry)) (now (nodes .exit)) (now (book .exit)) (reply r (now (value .exit))) ⌝ }
 {
     let have = coding::records(nodes);
     let answer = planner::join(n, nodes, have, book, count, list);
@@ -46,10 +39,7 @@ pub fn trial(
     list: &[u16],
     value: &mut usize,
 ) -> u8
-    ensures { λ r. ⌜ ((answer-of r (now (value .exit))
-        ≡ trial-call n (length (now (nodes .entry)) / 257) (now (nodes .entry)) (now (book .entry)) count (now (list .entry)))
-        × TrialDemand n (length (now (nodes .entry)) / 257) (now (nodes .entry)) (now (book .entry)) count (now (list .entry)) (answer-of r (now (value .exit))))
-        × Coded r (now (value .exit)) ⌝ }
+    ensures { λ r. ⌜ TrialPromise n (now (nodes .entry)) (length (now (nodes .entry)) / 257) (now (book .entry)) count (now (list .entry)) (reply r (now (value .exit))) ⌝ }
 {
     let answer = planner::trial(n, nodes, coding::records(nodes), book, count, list);
     calls::code(answer, value)

@@ -15,11 +15,9 @@ use Rattle.orders.specs.Conflict.{conflict-list, Numbers}
 use Rattle.orders.proofs.Conflicts.{conflict-demand-3}
 use Rattle.calls.specs.declared.Refusal.{Refusal}
 use Rattle.calls.specs.declared.Refusal.the-variants.{RingSize, ShortTable, NotInForm}
-use Rattle.calls.specs.declared.Answer.{Answer}
-use Rattle.calls.specs.declared.Answer.the-variants.{Done, Refused}
 use Rattle.calls.specs.Tables.{over, padded}
 use Rattle.calls.specs.Book.{groups, book-in-form?}
-use Rattle.calls.specs.Refusals.{refuse, first-refusal, bad-size, list-checks}
+use Rattle.calls.specs.Refusals.{Reply, reply, reported, refuse, first-refusal, bad-size, list-checks}
 use Rattle.calls.specs.Calls.{Filled, filled-as, conflict-refusal, conflicts-of, conflict-call}
 use Rattle.calls.proofs.Demands.{passes-iff}
 use Rattle.book.specs.declared.Checked.{Checked}
@@ -29,7 +27,7 @@ use Rattle.book.proofs.Laws.{few-groups}
 use Rattle.tokens.specs.Tokens.{Wrote}
 use Rattle.stand_in.specs.StandIn.{group}
 use Rattle.leaving_out.specs.LeavingOut.{conflicts-among}
-use Rattle.conflict.specs.Demand.{LentBook, Named}
+use Rattle.calls.specs.Demands.{LentBook, Named}
 use Rattle.leaving_out.proofs.Keeping.{rule-list}
 use Rattle.leaving_out.proofs.Places.{groups-numbered, groups-length}
 
@@ -113,19 +111,19 @@ drop-zeros (suc w) (suc k) = let e : suc w - suc k ≡ w - k = omega arith in rw
 
 module _ (n : ℕ) (book : List ℕ) (count : ℕ) (list table : List ℕ) where
   pub call-refused : {r : Checked} {why : Refusal} → r ≡ Bad why → verdict r ≡ conflict-refusal n book count list table
-      → filled-as (Refused why) table ≡ conflict-call n book count list table
+      → filled-as (reported why) table ≡ conflict-call n book count list table
   unfolding conflict-call
   call-refused e h = let q = sym h ∙ ap verdict e in rw q
 
   pub call-found : {numbers new : List ℕ} {k m : ℕ} → conflict-refusal n book count list table ≡ none
       → Wrote (conflicts-of n book count list) (replicate 96 0) numbers k → Wrote numbers table new m
-      → filled-as (Done k) new ≡ conflict-call n book count list table
+      → filled-as (reply 0 k) new ≡ conflict-call n book count list table
   unfolding conflict-call
   call-found {numbers} h a b =
       let xs = conflicts-of n book count list in
       let e : numbers ≡ padded 96 xs = a .text ∙ ap (λ (l : List ℕ). xs ++ l) (drop-zeros 96 (length xs)) in
       rw (h, a .many, b .text, e)
 
-  pub call-meets : {answer : Answer} {new : List ℕ} → filled-as answer new ≡ conflict-call n book count list table
-      → LentBook n book count list table → Named n book count list answer new
+  pub call-meets : {said : Reply} {new : List ℕ} → filled-as said new ≡ conflict-call n book count list table
+      → LentBook n book count list table → Named n book count list said new
   call-meets e h = subst (λ (c : Filled). Named n book count list (c .answer) (c .table)) (sym e) (conflict-meets n book count list table h)

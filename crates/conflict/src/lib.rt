@@ -6,9 +6,10 @@ ghost use lib.ListN.{length};
 ghost use Rattle.orders.specs.Lists.{numbers-from};
 ghost use Rattle.orders.specs.CircularOrder.{WellFormed};
 ghost use Rattle.tokens.specs.Tokens.{Wrote};
-ghost use Rattle.calls.specs.Calls.{filled-as, conflict-refusal, conflicts-of, conflict-call};
+ghost use Rattle.calls.specs.Calls.{conflict-refusal, conflicts-of};
+ghost use Rattle.calls.specs.Refusals.{report};
 ghost use Rattle.book.specs.Lists.{verdict};
-ghost use Rattle.conflict.specs.Demand.{ConflictDemand};
+ghost use Rattle.calls.specs.Promises.{ConflictPromise};
 use book::Checked;
 use calls::Answer;
 use calls::Refusal;
@@ -75,8 +76,7 @@ fn check(n: usize, book: &[u64], count: usize, list: &[u16], places: usize) -> C
 // Writes the numbers of the groups in conflict with the list's group, rising, and zeros up to 96 places. Answers how many numbers there are, or
 // why the call is refused.
 pub fn conflict(n: usize, book: &[u64], count: usize, list: &[u16], conflicts: &mut [u16]) -> Answer
-    ensures { λ r. ⌜ (filled-as r (now (conflicts .exit)) ≡ conflict-call n (now (book .entry)) count (now (list .entry)) (now (conflicts .entry)))
-        × ConflictDemand n (now (book .entry)) count (now (list .entry)) (now (conflicts .entry)) r (now (conflicts .exit)) ⌝ }
+    ensures { λ r. ⌜ ConflictPromise n (now (book .entry)) count (now (list .entry)) (now (conflicts .entry)) (now (conflicts .exit)) (report r) ⌝ }
 {
     let checked = check(n, book, count, list, conflicts.len());
     if let Checked::Bad(why) = checked {

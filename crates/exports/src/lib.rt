@@ -5,12 +5,10 @@ ghost use mathlib.Core.Path.{_≡_};
 ghost use mathlib.Core.List.{List, []};
 ghost use Prim.Native.Nat.{ℕ, _+_, _/_, _≤_, _<_};
 ghost use lib.ListN.{length, getD};
-ghost use Rattle.calls.specs.Calls.{ring, filled-as, open-call, join-call, trial-call, order-call, aim-call, write-call, ReadCall, conflict-call};
-ghost use Rattle.calls.specs.Demands.{JoinDemand, TrialDemand, OrderDemand};
-ghost use Rattle.conflict.specs.Demand.{ConflictDemand};
+ghost use Rattle.calls.specs.Refusals.{reply};
+ghost use Rattle.calls.specs.Promises.{OpenPromise, JoinPromise, TrialPromise, OrderPromise, AimPromise, WritePromise, ReadPromise, ConflictPromise};
 ghost use Rattle.tokens.specs.Tokens.{Wrote};
 ghost use Rattle.ringfile.specs.RingFile.{Value, line, file-bytes, NameAt, leaves-on, Rules, Says};
-ghost use Rattle.calls.specs.Codes.{answer-of, Coded};
 ghost use Rattle.coded_file.specs.Scan.{scanned, ScanCoded};
 
 // Opens a ring of n leaves: its node table gets the fresh tree, and its book is emptied. The value is the count of groups, 0.
@@ -21,9 +19,7 @@ pub extern "C" fn tokuwhape_open(
     book: &mut [u64],
     value: &mut usize,
 ) -> u8
-    ensures { λ r. ⌜ (ring (answer-of r (now (value .exit))) (now (nodes .exit)) (now (book .exit))
-        ≡ open-call n (length (now (nodes .entry)) / 257) (now (nodes .entry)) (now (book .entry)))
-        × Coded r (now (value .exit)) ⌝ }
+    ensures { λ r. ⌜ OpenPromise n (now (nodes .entry)) (length (now (nodes .entry)) / 257) (now (book .entry)) (now (nodes .exit)) (now (book .exit)) (reply r (now (value .exit))) ⌝ }
 {
     coded_updates::open(n, nodes, book, value)
 }
@@ -38,10 +34,7 @@ pub extern "C" fn tokuwhape_join(
     list: &[u16],
     value: &mut usize,
 ) -> u8
-    ensures { λ r. ⌜ ((ring (answer-of r (now (value .exit))) (now (nodes .exit)) (now (book .exit))
-        ≡ join-call n (length (now (nodes .entry)) / 257) (now (nodes .entry)) (now (book .entry)) count (now (list .entry)))
-        × JoinDemand n (length (now (nodes .entry)) / 257) (now (nodes .entry)) (now (book .entry)) count (now (list .entry)) (answer-of r (now (value .exit))) (now (nodes .exit)))
-        × Coded r (now (value .exit)) ⌝ }
+    ensures { λ r. ⌜ JoinPromise n (now (nodes .entry)) (length (now (nodes .entry)) / 257) (now (book .entry)) count (now (list .entry)) (now (nodes .exit)) (now (book .exit)) (reply r (now (value .exit))) ⌝ }
 {
     coded_updates::join(n, nodes, book, count, list, value)
 }
@@ -56,10 +49,7 @@ pub extern "C" fn tokuwhape_trial(
     list: &[u16],
     value: &mut usize,
 ) -> u8
-    ensures { λ r. ⌜ ((answer-of r (now (value .exit))
-        ≡ trial-call n (length (now (nodes .entry)) / 257) (now (nodes .entry)) (now (book .entry)) count (now (list .entry)))
-        × TrialDemand n (length (now (nodes .entry)) / 257) (now (nodes .entry)) (now (book .entry)) count (now (list .entry)) (answer-of r (now (value .exit))))
-        × Coded r (now (value .exit)) ⌝ }
+    ensures { λ r. ⌜ TrialPromise n (now (nodes .entry)) (length (now (nodes .entry)) / 257) (now (book .entry)) count (now (list .entry)) (reply r (now (value .exit))) ⌝ }
 {
     coded_updates::trial(n, nodes, book, count, list, value)
 }
@@ -72,10 +62,7 @@ pub extern "C" fn tokuwhape_order(
     order: &mut [u16],
     value: &mut usize,
 ) -> u8
-    ensures { λ r. ⌜ ((filled-as (answer-of r (now (value .exit))) (now (order .exit))
-        ≡ order-call n (length (now (nodes .entry)) / 257) (now (nodes .entry)) (now (order .entry)))
-        × OrderDemand n (length (now (nodes .entry)) / 257) (now (nodes .entry)) (now (order .entry)) (now (order .exit)))
-        × Coded r (now (value .exit)) ⌝ }
+    ensures { λ r. ⌜ OrderPromise n (now (nodes .entry)) (length (now (nodes .entry)) / 257) (now (order .entry)) (now (order .exit)) (reply r (now (value .exit))) ⌝ }
 {
     coded_orders::order(n, nodes, order, value)
 }
@@ -90,9 +77,7 @@ pub extern "C" fn tokuwhape_aim(
     group: usize,
     value: &mut usize,
 ) -> u8
-    ensures { λ r. ⌜ (answer-of r (now (value .exit))
-        ≡ aim-call n (length (now (nodes .entry)) / 257) (now (nodes .entry)) (now (book .entry)) count group)
-        × Coded r (now (value .exit)) ⌝ }
+    ensures { λ r. ⌜ AimPromise n (now (nodes .entry)) (length (now (nodes .entry)) / 257) (now (book .entry)) count group (reply r (now (value .exit))) ⌝ }
 {
     coded_orders::aim(n, nodes, book, count, group, value)
 }
@@ -105,9 +90,7 @@ pub extern "C" fn tokuwhape_write(
     bytes: &mut [u8],
     value: &mut usize,
 ) -> u8
-    ensures { λ r. ⌜ (filled-as (answer-of r (now (value .exit))) (now (bytes .exit))
-        ≡ write-call n (length (now (nodes .entry)) / 257) (now (nodes .entry)) (now (bytes .entry)))
-        × Coded r (now (value .exit)) ⌝ }
+    ensures { λ r. ⌜ WritePromise n (now (nodes .entry)) (length (now (nodes .entry)) / 257) (now (bytes .entry)) (now (bytes .exit)) (reply r (now (value .exit))) ⌝ }
 {
     coded_texts::write(n, nodes, bytes, value)
 }
@@ -121,9 +104,7 @@ pub extern "C" fn tokuwhape_read(
     text: &[u8],
     value: &mut usize,
 ) -> u8
-    ensures { λ r. ⌜ ReadCall n (length (now (nodes .entry)) / 257) (now (text .entry)) (now (nodes .entry)) (now (book .entry))
-        (ring (answer-of r (now (value .exit))) (now (nodes .exit)) (now (book .exit)))
-        × Coded r (now (value .exit)) ⌝ }
+    ensures { λ r. ⌜ ReadPromise n (now (nodes .entry)) (length (now (nodes .entry)) / 257) (now (book .entry)) (now (text .entry)) (now (nodes .exit)) (now (book .exit)) (reply r (now (value .exit))) ⌝ }
 {
     coded_texts::read(n, nodes, book, text, value)
 }
@@ -138,10 +119,7 @@ pub extern "C" fn tokuwhape_conflict(
     conflicts: &mut [u16],
     value: &mut usize,
 ) -> u8
-    ensures { λ r. ⌜ ((filled-as (answer-of r (now (value .exit))) (now (conflicts .exit))
-        ≡ conflict-call n (now (book .entry)) count (now (list .entry)) (now (conflicts .entry)))
-        × ConflictDemand n (now (book .entry)) count (now (list .entry)) (now (conflicts .entry)) (answer-of r (now (value .exit))) (now (conflicts .exit)))
-        × Coded r (now (value .exit)) ⌝ }
+    ensures { λ r. ⌜ ConflictPromise n (now (book .entry)) count (now (list .entry)) (now (conflicts .entry)) (now (conflicts .exit)) (reply r (now (value .exit))) ⌝ }
 {
     coded_conflict::conflict(n, book, count, list, conflicts, value)
 }

@@ -1,5 +1,6 @@
 -- What the calls that change a node table leave in the records, from what the flat calls leave in the rows.
 use mathlib.Core.Path.{_≡_, refl, sym, _∙_, ap, subst}
+use mathlib.Core.Logic.{_≢_}
 use mathlib.Core.Bool.{not, _||_}
 use mathlib.Core.Option.{Option, none, some}
 use mathlib.Core.List.{List, [], _∷_, _++_}
@@ -8,7 +9,6 @@ use native.Mathlib.Omega.{arith}
 use lib.Dec.{eqb}
 use lib.ListN.{length, take}
 use Rattle.orders.specs.Lists.{elem}
-use Rattle.orders.specs.CircularOrder.{WellFormed}
 use Rattle.orders.specs.Tree.{Forest}
 use Rattle.orders.specs.Form.{InForm}
 use Rattle.orders.specs.TreeText.{Found, tree, refused, Reads}
@@ -17,14 +17,13 @@ use Rattle.orders.proofs.Fresh.{fresh-form}
 use Rattle.orders.proofs.Joining.{join-some}
 use Rattle.calls.specs.declared.Refusal.{Refusal}
 use Rattle.calls.specs.declared.Refusal.the-variants.{NotInForm, BookFull, Impossible}
-use Rattle.calls.specs.declared.Answer.{Answer}
-use Rattle.calls.specs.declared.Answer.the-variants.{Refused}
 use Rattle.calls.specs.Tables.{over}
 use Rattle.calls.specs.NodeTable.{table-of, tree-in}
 use Rattle.calls.specs.Book.{book-in-form?}
-use Rattle.calls.specs.Refusals.{refuse, first-refusal, short, list-checks}
+use Rattle.calls.specs.Refusals.{Reply, refuse, first-refusal, short, list-checks}
 use Rattle.calls.specs.Calls.{Ring, ring, is-none, table-checks, ring-checks, open-refusal, opened, open-call, joined-tree, join-refusal, joined, join-call, read-outcome, ReadCall, unread, read}
-use Rattle.calls.specs.Demands.{LentRing, Joins}
+use Rattle.calls.specs.Demands.{Joins}
+use Rattle.calls.specs.Promises.{OpenPromise, JoinPromise, ReadPromise}
 use Rattle.calls.proofs.NodeTables.{tree-in-holds}
 use Rattle.calls.proofs.Refused.{open-keeps, join-keeps, read-call-keeps}
 use Rattle.checks.specs.Lent.{TableLent}
@@ -34,8 +33,7 @@ use Rattle.lent.specs.declared.Node.{Node}
 use Rattle.lent.specs.Rows.{node-rows, with-rows, Sound}
 use Rattle.lent.proofs.Kept.{kept}
 use Rattle.lent.proofs.Back.{past}
-use Rattle.node_records.specs.Records.{Left}
-use Rattle.node_records.proofs.Says.{Opens, Joins-group, Reads-text}
+use Rattle.node_records.specs.Records.{Left, OpenRecords, JoinRecords, ReadRecords}
 use Rattle.node_records.proofs.Trees.{table-back}
 
 -- The rows as they were, or a tree's table over them.
@@ -51,9 +49,9 @@ module _ (ns : List Node) (sound : Sound (take 256 ns)) (long : length (node-row
   back n fs (as-before e) = ap node-rows (same fs e) ∙ sym e
   back n fs (of-tree t f l m e) = table-back n t f l ns (node-rows ns) fs m long e
 
-  left : (r : Answer) (fs : List ℕ) → node-rows (with-rows fs ns) ≡ fs → ((why : Refusal) → r ≡ Refused why → fs ≡ node-rows ns) → Left r ns (with-rows fs ns)
-  left r fs b keeps = record {
-    refused = λ why e. same fs (keeps why e);
+  left : (said : Reply) (fs : List ℕ) → node-rows (with-rows fs ns) ≡ fs → (said .number ≢ 0 → fs ≡ node-rows ns) → Left ns (with-rows fs ns) said
+  left said fs b keeps = record {
+    refused = λ e. same fs (keeps e);
     stored = ap (λ (l : List ℕ). with-rows l ns) (sym b);
     past = past fs ns;
   }
@@ -65,24 +63,23 @@ module _ (n have : ℕ) (nodes book : List ℕ) where
   unfolding open-refusal
   lent e = tables-lent n have nodes (short 384 book) e
 
-open-rows : (n : ℕ) (ns : List Node) (book : List ℕ) (r : Answer) (fs book′ : List ℕ) → ring r fs book′ ≡ open-call n (length ns) (node-rows ns) book → Rows n ns fs
+open-rows : (n : ℕ) (ns : List Node) (book : List ℕ) (said : Reply) (fs book′ : List ℕ) → ring said fs book′ ≡ open-call n (length ns) (node-rows ns) book → Rows n ns fs
 unfolding open-call opened
-open-rows n ns book r fs book′ e = go (open-refusal n (length ns) (node-rows ns) book) refl e
+open-rows n ns book said fs book′ e = go (open-refusal n (length ns) (node-rows ns) book) refl e
   where
-    go : (o : Option Refusal) → open-refusal n (length ns) (node-rows ns) book ≡ o → ring r fs book′ ≡ opened o n (node-rows ns) book → Rows n ns fs
+    go : (o : Option Refusal) → open-refusal n (length ns) (node-rows ns) book ≡ o → ring said fs book′ ≡ opened o n (node-rows ns) book → Rows n ns fs
     go (some x) p q = as-before (ap (λ (y : Ring). y .nodes) q)
     go none p q =
         let l = lent n (length ns) (node-rows ns) book p in
         of-tree (fresh n) (fresh-form n) (l .few-leaves) (l .all-records) (ap (λ (y : Ring). y .nodes) q)
 
-pub open-left : (n : ℕ) (ns : List Node) (book : List ℕ) (r : Answer) (fs book′ : List ℕ) → Sound (take 256 ns) → length (node-rows ns) ≡ 65792
-    → Opens n (node-rows ns) (length ns) book r fs book′
-    → (ring r (node-rows (with-rows fs ns)) book′ ≡ open-call n (length ns) (node-rows ns) book) × Left r ns (with-rows fs ns)
-open-left n ns book r fs book′ sound long e =
-    let b = back ns sound long n fs (open-rows n ns book r fs book′ e) in (
-      ap (λ (l : List ℕ). ring r l book′) b ∙ e,
-      left ns sound long r fs b (λ why q. ap (λ (y : Ring). y .nodes) e
-          ∙ open-keeps n (length ns) (node-rows ns) book why (sym (ap (λ (y : Ring). y .answer) e) ∙ q) .0),
+pub open-left : (n : ℕ) (ns : List Node) (book : List ℕ) (said : Reply) (fs book′ : List ℕ) → Sound (take 256 ns) → length (node-rows ns) ≡ 65792
+    → OpenPromise n (node-rows ns) (length ns) book fs book′ said → OpenRecords n ns book (with-rows fs ns) book′ said
+open-left n ns book said fs book′ sound long e =
+    let b = back ns sound long n fs (open-rows n ns book said fs book′ e) in (
+      ap (λ (l : List ℕ). ring said l book′) b ∙ e,
+      left ns sound long said fs b (λ q. ap (λ (y : Ring). y .nodes) e
+          ∙ open-keeps n (length ns) (node-rows ns) book (λ z. q (ap (λ (y : Ring). y .answer .number) e ∙ z)) .0),
     )
 
 -- ---- joining
@@ -109,30 +106,27 @@ module _ (n have : ℕ) (nodes book : List ℕ) (count : ℕ) (list : List ℕ) 
       go none p q = absurd (let z : _≡_ {A = ℕ} 0 1 = cc in omega arith)
       go (some t) p q = join-some n (elem list) t u (tree-in-holds n nodes t l .0 p .in-form) q .form
 
-join-rows : (n : ℕ) (ns : List Node) (book : List ℕ) (count : ℕ) (list : List ℕ) (r : Answer) (fs book′ : List ℕ)
-    → ring r fs book′ ≡ join-call n (length ns) (node-rows ns) book count list → Rows n ns fs
+join-rows : (n : ℕ) (ns : List Node) (book : List ℕ) (count : ℕ) (list : List ℕ) (said : Reply) (fs book′ : List ℕ)
+    → ring said fs book′ ≡ join-call n (length ns) (node-rows ns) book count list → Rows n ns fs
 unfolding join-call joined
-join-rows n ns book count list r fs book′ e = go (join-refusal n (length ns) (node-rows ns) book count list) refl (joined-tree n (node-rows ns) list) refl e
+join-rows n ns book count list said fs book′ e = go (join-refusal n (length ns) (node-rows ns) book count list) refl (joined-tree n (node-rows ns) list) refl e
   where
     go : (o : Option Refusal) → join-refusal n (length ns) (node-rows ns) book count list ≡ o → (u : Option Forest) → joined-tree n (node-rows ns) list ≡ u
-        → ring r fs book′ ≡ joined o u (node-rows ns) book count list → Rows n ns fs
+        → ring said fs book′ ≡ joined o u (node-rows ns) book count list → Rows n ns fs
     go (some x) p u s q = as-before (ap (λ (y : Ring). y .nodes) q)
     go none p none s q = as-before (ap (λ (y : Ring). y .nodes) q)
     go none p (some t) s q =
         let l = ring-lent n (length ns) (node-rows ns) book count list p in
         of-tree t (joined-form n (length ns) (node-rows ns) book count list t (l .few-leaves) s) (l .few-leaves) (l .all-records) (ap (λ (y : Ring). y .nodes) q)
 
-pub join-left : (n : ℕ) (ns : List Node) (book : List ℕ) (count : ℕ) (list : List ℕ) (r : Answer) (fs book′ : List ℕ) → Sound (take 256 ns)
-    → length (node-rows ns) ≡ 65792 → Joins-group n (node-rows ns) (length ns) book count list r fs book′
-    → (ring r (node-rows (with-rows fs ns)) book′ ≡ join-call n (length ns) (node-rows ns) book count list)
-    × ((t : Forest) → LentRing n (length ns) (node-rows ns) book count t → WellFormed n list → Joins n (elem list) t r (node-rows (with-rows fs ns)))
-    × Left r ns (with-rows fs ns)
-join-left n ns book count list r fs book′ sound long (e, demand) =
-    let b = back ns sound long n fs (join-rows n ns book count list r fs book′ e) in (
-      ap (λ (l : List ℕ). ring r l book′) b ∙ e,
-      λ t h w. subst (Joins n (elem list) t r) (sym b) (demand t h w),
-      left ns sound long r fs b (λ why q. ap (λ (y : Ring). y .nodes) e
-          ∙ join-keeps n (length ns) (node-rows ns) book count list why (sym (ap (λ (y : Ring). y .answer) e) ∙ q) .0),
+pub join-left : (n : ℕ) (ns : List Node) (book : List ℕ) (count : ℕ) (list : List ℕ) (said : Reply) (fs book′ : List ℕ) → Sound (take 256 ns)
+    → length (node-rows ns) ≡ 65792 → JoinPromise n (node-rows ns) (length ns) book count list fs book′ said
+    → JoinRecords n ns book count list (with-rows fs ns) book′ said
+join-left n ns book count list said fs book′ sound long (e, demand) =
+    let b = back ns sound long n fs (join-rows n ns book count list said fs book′ e) in (
+      (ap (λ (l : List ℕ). ring said l book′) b ∙ e, λ t h w. subst (Joins n (elem list) t said) (sym b) (demand t h w)),
+      left ns sound long said fs b (λ q. ap (λ (y : Ring). y .nodes) e
+          ∙ join-keeps n (length ns) (node-rows ns) book count list (λ z. q (ap (λ (y : Ring). y .answer .number) e ∙ z)) .0),
     )
 
 -- ---- reading a text
@@ -148,11 +142,10 @@ read-rows n ns book text x (read {f = f} p h) = go f h
         let l = lent n (length ns) (node-rows ns) book p in
         of-tree t (reads-form h) (l .few-leaves) (l .all-records) refl
 
-pub read-left : (n : ℕ) (ns : List Node) (book text : List ℕ) (r : Answer) (fs book′ : List ℕ) → Sound (take 256 ns) → length (node-rows ns) ≡ 65792
-    → Reads-text n (node-rows ns) (length ns) book text r fs book′
-    → ReadCall n (length ns) text (node-rows ns) book (ring r (node-rows (with-rows fs ns)) book′) × Left r ns (with-rows fs ns)
-read-left n ns book text r fs book′ sound long h =
-    let b = back ns sound long n fs (read-rows n ns book text (ring r fs book′) h) in (
-      subst (λ (l : List ℕ). ReadCall n (length ns) text (node-rows ns) book (ring r l book′)) (sym b) h,
-      left ns sound long r fs b (λ why q. read-call-keeps n (length ns) text (node-rows ns) book (ring r fs book′) h why q .0),
+pub read-left : (n : ℕ) (ns : List Node) (book text : List ℕ) (said : Reply) (fs book′ : List ℕ) → Sound (take 256 ns) → length (node-rows ns) ≡ 65792
+    → ReadPromise n (node-rows ns) (length ns) book text fs book′ said → ReadRecords n ns book text (with-rows fs ns) book′ said
+read-left n ns book text said fs book′ sound long h =
+    let b = back ns sound long n fs (read-rows n ns book text (ring said fs book′) h) in (
+      subst (λ (l : List ℕ). ReadCall n (length ns) text (node-rows ns) book (ring said l book′)) (sym b) h,
+      left ns sound long said fs b (λ q. read-call-keeps n (length ns) text (node-rows ns) book (ring said fs book′) h q .0),
     )

@@ -1,3 +1,2 @@
-pub mod Says
 pub mod Trees
 pub mod Left

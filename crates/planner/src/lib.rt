@@ -1,8 +1,7 @@
 // The calls of document 01 on a ring's lent tables: opening, joining, trying a group, and the standard order. A node table is lent as rows of
 // 257 numbers, with the number of records that they are.
-ghost use mathlib.Core.Path.{_≡_};
-ghost use Rattle.calls.specs.Calls.{ring, filled-as, open-call, join-call, trial-call, order-call};
-ghost use Rattle.calls.specs.Demands.{JoinDemand, TrialDemand, OrderDemand};
+ghost use Rattle.calls.specs.Refusals.{report};
+ghost use Rattle.calls.specs.Promises.{OpenPromise, JoinPromise, TrialPromise, OrderPromise};
 use attempts::Tried;
 use book::Checked;
 use calls::Answer;
@@ -10,7 +9,7 @@ use checks::Lent;
 
 // Opens a ring of n leaves: its node table gets the fresh tree, and its book is emptied. Answers the count of groups, 0; or refuses (1, 2).
 pub fn open(n: usize, nodes: &mut [u16], have: usize, book: &mut [u64]) -> Answer
-    ensures { λ r. ⌜ ring r (now (nodes .exit)) (now (book .exit)) ≡ open-call n have (now (nodes .entry)) (now (book .entry)) ⌝ }
+    ensures { λ r. ⌜ OpenPromise n (now (nodes .entry)) have (now (book .entry)) (now (nodes .exit)) (now (book .exit)) (report r) ⌝ }
 {
     if let Checked::Bad(refusal) = checks::check_tables(n, nodes, have, book.len() < 384) {
         return Answer::Refused(refusal);
@@ -32,8 +31,7 @@ pub fn join(
     count: usize,
     list: &[u16],
 ) -> Answer
-    ensures { λ r. ⌜ (ring r (now (nodes .exit)) (now (book .exit)) ≡ join-call n have (now (nodes .entry)) (now (book .entry)) count (now (list .entry)))
-        × JoinDemand n have (now (nodes .entry)) (now (book .entry)) count (now (list .entry)) r (now (nodes .exit)) ⌝ }
+    ensures { λ r. ⌜ JoinPromise n (now (nodes .entry)) have (now (book .entry)) count (now (list .entry)) (now (nodes .exit)) (now (book .exit)) (report r) ⌝ }
 {
     let mut toks = [0u16; 512];
     let tried = attempts::attempt(n, nodes, have, book, count, list, &mut toks);
@@ -56,8 +54,7 @@ pub fn trial(
     count: usize,
     list: &[u16],
 ) -> Answer
-    ensures { λ r. ⌜ (r ≡ trial-call n have (now (nodes .entry)) (now (book .entry)) count (now (list .entry)))
-        × TrialDemand n have (now (nodes .entry)) (now (book .entry)) count (now (list .entry)) r ⌝ }
+    ensures { λ r. ⌜ TrialPromise n (now (nodes .entry)) have (now (book .entry)) count (now (list .entry)) (report r) ⌝ }
 {
     let mut toks = [0u16; 512];
     let tried = attempts::attempt(n, nodes, have, book, count, list, &mut toks);
@@ -69,8 +66,7 @@ pub fn trial(
 
 // Writes the standard order to the first n places of order. Answers n; or refuses (1, 2, 3), and leaves them as they were.
 pub fn order(n: usize, nodes: &[u16], have: usize, order: &mut [u16]) -> Answer
-    ensures { λ r. ⌜ (filled-as r (now (order .exit)) ≡ order-call n have (now (nodes .entry)) (now (order .entry)))
-        × OrderDemand n have (now (nodes .entry)) (now (order .entry)) (now (order .exit)) ⌝ }
+    ensures { λ r. ⌜ OrderPromise n (now (nodes .entry)) have (now (order .entry)) (now (order .exit)) (report r) ⌝ }
 {
     let mut toks = [0u16; 512];
     let found = checks::lent_tree(n, nodes, have, order.len() < n, &mut toks);

@@ -1,16 +1,12 @@
 // The calls that write and read the tree text, on a node table of records.
-ghost use mathlib.Core.Path.{_≡_};
-ghost use lib.ListN.{length};
-ghost use Rattle.calls.specs.Calls.{ring, filled-as, write-call, ReadCall};
-ghost use Rattle.lent.specs.Rows.{node-rows};
-ghost use Rattle.node_records.specs.Records.{Left};
+ghost use Rattle.calls.specs.Refusals.{report};
+ghost use Rattle.node_records.specs.Records.{WriteRecords, ReadRecords};
 use calls::Answer;
 use lent::Node;
 
 // Writes the tree text to the first 2,048 bytes, zeros after it. Answers its length; or refuses (1, 2, 3), and leaves them as they were.
 pub fn write(n: usize, nodes: &[Node], bytes: &mut [u8]) -> Answer
-    ensures { λ r. ⌜ filled-as r (now (bytes .exit))
-        ≡ write-call n (length (now (nodes .entry))) (node-rows (now (nodes .entry))) (now (bytes .entry)) ⌝ }
+    ensures { λ r. ⌜ WriteRecords n (now (nodes .entry)) (now (bytes .entry)) (now (bytes .exit)) (report r) ⌝ }
 {
     let mut flat = [0u16; 65792];
     let have = lent::load(nodes, &mut flat);
@@ -20,9 +16,7 @@ pub fn write(n: usize, nodes: &[Node], bytes: &mut [u8]) -> Answer
 // Reads a tree text for n leaves, lent exactly: the node table gets its tree, and the book is emptied. Answers the count of groups, 0; or refuses
 // (1, 2, 12), and leaves both tables as they were.
 pub fn read(n: usize, nodes: &mut [Node], book: &mut [u64], text: &[u8]) -> Answer
-    ensures { λ r. ⌜ (ReadCall n (length (now (nodes .entry))) (now (text .entry)) (node-rows (now (nodes .entry))) (now (book .entry))
-        (ring r (node-rows (now (nodes .exit))) (now (book .exit))))
-        × Left r (now (nodes .entry)) (now (nodes .exit)) ⌝ }
+    ensures { λ r. ⌜ ReadRecords n (now (nodes .entry)) (now (book .entry)) (now (text .entry)) (now (nodes .exit)) (now (book .exit)) (report r) ⌝ }
 {
     let mut flat = [0u16; 65792];
     let have = lent::load(nodes, &mut flat);

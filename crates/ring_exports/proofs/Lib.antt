@@ -1,3 +1,2 @@
 -- What the walks of the exported calls share.
-pub mod Says
 pub mod Steps

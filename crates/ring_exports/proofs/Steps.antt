@@ -32,7 +32,7 @@ use Rattle.lent.proofs.Caps.{asks-nothing}
 use Rattle.calls.specs.declared.Answer.{Answer}
 use Rattle.calls.proofs.Answer as Answer·
 use Rattle.calls.proofs.Answer.Laws as Answer′
-use Rattle.calls.specs.Codes.{answer-of, Coded}
+use Rattle.calls.specs.Refusals.{reply, report}
 use Rattle.calls.proofs.code as code′
 use Rattle.calls.proofs.code.Symbol.{name as #code}
 
@@ -45,7 +45,7 @@ number b o γ v = record { ptr = (b, o); name = γ; now = v }
 
 -- what `code` says of its result and of the number that it writes
 abbrev pub Codes : Answer → ℕ → ℕ → Type 0
-Codes a r v = (answer-of r v ≡ a) × Coded r v
+Codes a r v = reply r v ≡ report a
 
 module _ {M : Type 1} (𝓤 : URA M) (H : Heap 𝓤) (A : Atoms 𝓤) (W : Given 𝓤 H A) (mem : Memory → SProp 𝓤) (run : Routine → Fun 𝓤) (κ : Lft) (q : Share) (b o : ℕ) (γ : GName) (v : ℕ) (a : Answer) (u : Val) where
   abbrev to-code : Code 𝓤 H A mem run .Ghost

@@ -1,21 +1,13 @@
 // The calls of crate `ring` on node records, for tests from C and Rust. Each returns 0, or the number of its refusal, and writes one number through
 // `value`: its own answer; or the place or byte of the refusal, 0 where the table names none.
-ghost use mathlib.Core.Path.{_≡_};
-ghost use lib.ListN.{length};
-ghost use Rattle.calls.specs.Calls.{ring, filled-as, open-call, join-call, trial-call, order-call, aim-call, write-call, ReadCall};
-ghost use Rattle.calls.specs.Codes.{answer-of, Coded};
-ghost use Rattle.calls.specs.Demands.{JoinDemand, TrialDemand, OrderDemand};
-ghost use Rattle.lent.specs.Rows.{node-rows};
-ghost use Rattle.node_records.specs.Records.{Left};
+ghost use Rattle.calls.specs.Refusals.{reply};
+ghost use Rattle.node_records.specs.Records.{OpenRecords, JoinRecords, TrialRecords, OrderRecords, AimRecords, WriteRecords, ReadRecords};
 use lent::Node;
 
 // Opens a ring of n leaves: `ring::open`. The value is the count of groups, 0.
 #[no_mangle]
 pub extern "C" fn ring_open(n: usize, nodes: &mut [Node], book: &mut [u64], value: &mut usize) -> u8
-    ensures { λ r. ⌜ ((ring (answer-of r (now (value .exit))) (node-rows (now (nodes .exit))) (now (book .exit))
-        ≡ open-call n (length (now (nodes .entry))) (node-rows (now (nodes .entry))) (now (book .entry)))
-        × Left (answer-of r (now (value .exit))) (now (nodes .entry)) (now (nodes .exit)))
-        × Coded r (now (value .exit)) ⌝ }
+    ensures { λ r. ⌜ OpenRecords n (now (nodes .entry)) (now (book .entry)) (now (nodes .exit)) (now (book .exit)) (reply r (now (value .exit))) ⌝ }
 {
     let answer = ring::open(n, nodes, book);
     calls::code(answer, value)
@@ -31,11 +23,7 @@ pub extern "C" fn ring_join(
     list: &[u16],
     value: &mut usize,
 ) -> u8
-    ensures { λ r. ⌜ ((ring (answer-of r (now (value .exit))) (node-rows (now (nodes .exit))) (now (book .exit))
-        ≡ join-call n (length (now (nodes .entry))) (node-rows (now (nodes .entry))) (now (book .entry)) count (now (list .entry)))
-        × JoinDemand n (length (now (nodes .entry))) (node-rows (now (nodes .entry))) (now (book .entry)) count (now (list .entry)) (answer-of r (now (value .exit))) (node-rows (now (nodes .exit)))
-        × Left (answer-of r (now (value .exit))) (now (nodes .entry)) (now (nodes .exit)))
-        × Coded r (now (value .exit)) ⌝ }
+    ensures { λ r. ⌜ JoinRecords n (now (nodes .entry)) (now (book .entry)) count (now (list .entry)) (now (nodes .exit)) (now (book .exit)) (reply r (now (value .exit))) ⌝ }
 {
     let answer = ring::join(n, nodes, book, count, list);
     calls::code(answer, value)
@@ -51,10 +39,7 @@ pub extern "C" fn ring_trial(
     list: &[u16],
     value: &mut usize,
 ) -> u8
-    ensures { λ r. ⌜ ((answer-of r (now (value .exit))
-        ≡ trial-call n (length (now (nodes .entry))) (node-rows (now (nodes .entry))) (now (book .entry)) count (now (list .entry)))
-        × TrialDemand n (length (now (nodes .entry))) (node-rows (now (nodes .entry))) (now (book .entry)) count (now (list .entry)) (answer-of r (now (value .exit))))
-        × Coded r (now (value .exit)) ⌝ }
+    ensures { λ r. ⌜ TrialRecords n (now (nodes .entry)) (now (book .entry)) count (now (list .entry)) (reply r (now (value .exit))) ⌝ }
 {
     let answer = ring::trial(n, nodes, book, count, list);
     calls::code(answer, value)
@@ -63,10 +48,7 @@ pub extern "C" fn ring_trial(
 // Writes the standard order to the first n places of order: `ring::order`. The value is n.
 #[no_mangle]
 pub extern "C" fn ring_order(n: usize, nodes: &[Node], order: &mut [u16], value: &mut usize) -> u8
-    ensures { λ r. ⌜ ((filled-as (answer-of r (now (value .exit))) (now (order .exit))
-        ≡ order-call n (length (now (nodes .entry))) (node-rows (now (nodes .entry))) (now (order .entry)))
-        × OrderDemand n (length (now (nodes .entry))) (node-rows (now (nodes .entry))) (now (order .entry)) (now (order .exit)))
-        × Coded r (now (value .exit)) ⌝ }
+    ensures { λ r. ⌜ OrderRecords n (now (nodes .entry)) (now (order .entry)) (now (order .exit)) (reply r (now (value .exit))) ⌝ }
 {
     let answer = ring::order(n, nodes, order);
     calls::code(answer, value)
@@ -82,9 +64,7 @@ pub extern "C" fn ring_aim(
     group: usize,
     value: &mut usize,
 ) -> u8
-    ensures { λ r. ⌜ (answer-of r (now (value .exit))
-        ≡ aim-call n (length (now (nodes .entry))) (node-rows (now (nodes .entry))) (now (book .entry)) count group)
-        × Coded r (now (value .exit)) ⌝ }
+    ensures { λ r. ⌜ AimRecords n (now (nodes .entry)) (now (book .entry)) count group (reply r (now (value .exit))) ⌝ }
 {
     let answer = ring::aim(n, nodes, book, count, group);
     calls::code(answer, value)
@@ -93,9 +73,7 @@ pub extern "C" fn ring_aim(
 // Writes the tree text to the first 2,048 bytes, zeros after it: `ring::write`. The value is its length.
 #[no_mangle]
 pub extern "C" fn ring_write(n: usize, nodes: &[Node], bytes: &mut [u8], value: &mut usize) -> u8
-    ensures { λ r. ⌜ (filled-as (answer-of r (now (value .exit))) (now (bytes .exit))
-        ≡ write-call n (length (now (nodes .entry))) (node-rows (now (nodes .entry))) (now (bytes .entry)))
-        × Coded r (now (value .exit)) ⌝ }
+    ensures { λ r. ⌜ WriteRecords n (now (nodes .entry)) (now (bytes .entry)) (now (bytes .exit)) (reply r (now (value .exit))) ⌝ }
 {
     let answer = ring::write(n, nodes, bytes);
     calls::code(answer, value)
@@ -110,10 +88,7 @@ pub extern "C" fn ring_read(
     text: &[u8],
     value: &mut usize,
 ) -> u8
-    ensures { λ r. ⌜ (ReadCall n (length (now (nodes .entry))) (now (text .entry)) (node-rows (now (nodes .entry))) (now (book .entry))
-        (ring (answer-of r (now (value .exit))) (node-rows (now (nodes .exit))) (now (book .exit)))
-        × Left (answer-of r (now (value .exit))) (now (nodes .entry)) (now (nodes .exit)))
-        × Coded r (now (value .exit)) ⌝ }
+    ensures { λ r. ⌜ ReadRecords n (now (nodes .entry)) (now (book .entry)) (now (text .entry)) (now (nodes .exit)) (now (book .exit)) (reply r (now (value .exit))) ⌝ }
 {
     let answer = ring::read(n, nodes, book, text);
     calls::code(answer, value)

@@ -9,9 +9,8 @@ use Rattle.orders.specs.Tree.{Forest}
 use Rattle.orders.specs.TreeText.{tree-text}
 use Rattle.orders.proofs.TextTree.{text-length}
 use Rattle.calls.specs.declared.Refusal.{Refusal}
-use Rattle.calls.specs.declared.Answer.the-variants.{Done, Refused}
 use Rattle.calls.specs.Tables.{over}
-use Rattle.calls.specs.Refusals.{first-refusal, short}
+use Rattle.calls.specs.Refusals.{reply, reported, first-refusal, short}
 use Rattle.calls.specs.Calls.{filled-as, tree-checks, write-refusal, write-call}
 use Rattle.calls.proofs.NodeTables.{tree-in-holds}
 use Rattle.tokens.specs.Tokens.{tree, plain, encode, Wrote}
@@ -35,7 +34,7 @@ wrote-fills t {old} {mid} {new} {k} {m} a b =
     record { long = a .many ∙ rw same-tree; bytes = h ∙ rw (a .many, same-tree) }
 
 module _ (n have : ℕ) (nodes bytes : List ℕ) where
-  pub write-refused : (r : Refusal) → first-refusal (tree-checks n have nodes (short 2048 bytes)) ≡ some r → filled-as (Refused r) bytes ≡ write-call n have nodes bytes
+  pub write-refused : (r : Refusal) → first-refusal (tree-checks n have nodes (short 2048 bytes)) ≡ some r → filled-as (reported r) bytes ≡ write-call n have nodes bytes
   unfolding write-call write-refusal
   write-refused r e = rw e
 
@@ -47,6 +46,6 @@ module _ (n have : ℕ) (nodes bytes : List ℕ) where
     pub lent-long : 2048 ≤ length bytes
     lent-long = ltb-false (length bytes) 2048 (h .long)
 
-    pub write-done : {new : List ℕ} {m : ℕ} → Fills (h .tree) bytes new m → filled-as (Done m) new ≡ write-call n have nodes bytes
+    pub write-done : {new : List ℕ} {m : ℕ} → Fills (h .tree) bytes new m → filled-as (reply 0 m) new ≡ write-call n have nodes bytes
     unfolding write-call write-refusal
     write-done f = rw (h .passes, tree-in-holds n nodes (h .tree) (h .lent .few-leaves) .1 (h .lent .tree), f .long, f .bytes)

@@ -8,27 +8,26 @@ use Rattle.orders.specs.Form.{InForm}
 use Rattle.orders.specs.TreeText.{tree-text, tree, refused, Reads, accepted}
 use Rattle.calls.specs.declared.Refusal.{Refusal}
 use Rattle.calls.specs.declared.Refusal.the-variants.{TreeText}
-use Rattle.calls.specs.declared.Answer.the-variants.{Done, Refused}
 use Rattle.calls.specs.Tables.{over}
 use Rattle.calls.specs.Book.{emptied}
 use Rattle.calls.specs.NodeTable.{table-of}
-use Rattle.calls.specs.Refusals.{first-refusal, short}
+use Rattle.calls.specs.Refusals.{reply, reported, first-refusal, short}
 use Rattle.calls.specs.Calls.{ring, table-checks, open-refusal, ReadCall, unread, read, read-outcome}
 
 pub reads-form : {n : ℕ} {x : List ℕ} {t : Forest} → Reads n x (tree t) → InForm n t
 reads-form (accepted f e) = f
 
 module _ (n have : ℕ) (x nodes book : List ℕ) where
-  pub not-read : (r : Refusal) → first-refusal (table-checks n have nodes (short 384 book)) ≡ some r → ReadCall n have x nodes book (ring (Refused r) nodes book)
+  pub not-read : (r : Refusal) → first-refusal (table-checks n have nodes (short 384 book)) ≡ some r → ReadCall n have x nodes book (ring (reported r) nodes book)
   unfolding open-refusal
   not-read r e = unread e
 
   module _ (e : first-refusal (table-checks n have nodes (short 384 book)) ≡ none) where
-    pub refused-read : (p : ℕ) → Reads n x (refused p) → ReadCall n have x nodes book (ring (Refused (TreeText p)) nodes book)
+    pub refused-read : (p : ℕ) → Reads n x (refused p) → ReadCall n have x nodes book (ring (reported (TreeText p)) nodes book)
     unfolding open-refusal read-outcome
     refused-read p h = read {f = refused p} e h
 
     pub tree-read : (t : Forest) (nodes′ book′ : List ℕ) → Reads n x (tree t) → nodes′ ≡ over (table-of t) nodes → book′ ≡ emptied book
-        → ReadCall n have x nodes book (ring (Done 0) nodes′ book′)
+        → ReadCall n have x nodes book (ring (reply 0 0) nodes′ book′)
     unfolding open-refusal read-outcome
-    tree-read t nodes′ book′ h p q = subst (λ y. ReadCall n have x nodes book (ring (Done 0) y book′)) (sym p) (subst (λ z. ReadCall n have x nodes book (ring (Done 0) (over (table-of t) nodes) z)) (sym q) (read {f = tree t} e h))
+    tree-read t nodes′ book′ h p q = subst (λ y. ReadCall n have x nodes book (ring (reply 0 0) y book′)) (sym p) (subst (λ z. ReadCall n have x nodes book (ring (reply 0 0) (over (table-of t) nodes) z)) (sym q) (read {f = tree t} e h))

@@ -14,16 +14,16 @@ use Rattle.orders.specs.TreeText.{digits, tree-text, Shaped, ShapeText, ShapeRe
 use Rattle.orders.proofs.Forms.{form-forked}
 use Rattle.orders.proofs.TextTree.{text-injective}
 use Rattle.calls.specs.declared.Refusal.{Refusal}
-use Rattle.calls.specs.declared.Answer.{Answer}
-use Rattle.calls.specs.declared.Answer.the-variants.{Done, Refused}
+use Rattle.calls.specs.declared.Refusal.the-variants.{TreeText}
 use Rattle.calls.specs.Tables.{over, padded}
 use Rattle.calls.specs.Book.{emptied}
 use Rattle.calls.specs.NodeTable.{table-of, Holds, tree-in}
-use Rattle.calls.specs.Refusals.{first-refusal, short}
+use Rattle.calls.specs.Refusals.{Reply, reply, reported, first-refusal, short}
 use Rattle.calls.specs.Calls.{Ring, ring, Filled, filled-as, filled, of-tree, table-checks, open-refusal, write-refusal, write-call, ReadCall, unread, read, read-outcome}
 use Rattle.calls.specs.Demands.{LentTree}
 use Rattle.calls.proofs.NodeTables.{tree-in-holds, table-length, over-holds}
 use Rattle.calls.proofs.Demands.{size-fine, nodes-fine}
+use Rattle.calls.proofs.Reports.{refused-number}
 use Rattle.checks.specs.Lent.{TableLent}
 use Rattle.checks.proofs.Laws.{tables-lent}
 
@@ -71,19 +71,16 @@ reads-one n t g f (breaks-rule {t = u} s e r) = absurd (keeps-rules {k = C} {m =
 
 -- ---- written, then read
 
-not-refusal : {A : Type 0} {v : ℕ} {r : Refusal} → Done v ≡ Refused r → A
-not-refusal e = absurd (let z : _≡_ {A = ℕ} 0 1 = cc in omega arith)
+not-refusal : {A : Type 0} {v : ℕ} (r : Refusal) → reported r ≡ reply 0 v → A
+not-refusal r e = absurd (refused-number r (ap (λ (s : Reply). s .number) e))
 
-filled-done : (o : Option Refusal) (v : ℕ) (xs table new : List ℕ) (m : ℕ) → filled-as (Done m) new ≡ filled o v xs table → (m ≡ v) × (new ≡ over xs table)
-filled-done (some r) v xs table new m e = not-refusal (ap (λ (x : Filled). x .answer) e)
-filled-done none v xs table new m e = (done-same (ap (λ (x : Filled). x .answer) e), ap (λ (x : Filled). x .table) e)
-  where
-    done-same : {a b : ℕ} → Done a ≡ Done b → a ≡ b
-    done-same e = cc
+filled-done : (o : Option Refusal) (v : ℕ) (xs table new : List ℕ) (m : ℕ) → filled-as (reply 0 m) new ≡ filled o v xs table → (m ≡ v) × (new ≡ over xs table)
+filled-done (some r) v xs table new m e = not-refusal r (sym (ap (λ (x : Filled). x .answer) e))
+filled-done none v xs table new m e = (ap (λ (x : Filled). x .answer .value) e, ap (λ (x : Filled). x .table) e)
 
 -- The bytes up to the answered length are the text.
 written-text : (n have : ℕ) (nodes : List ℕ) (t : Forest) → LentTree n have nodes t → (bytes new : List ℕ) (m : ℕ)
-    → filled-as (Done m) new ≡ write-call n have nodes bytes → take m new ≡ tree-text t
+    → filled-as (reply 0 m) new ≡ write-call n have nodes bytes → take m new ≡ tree-text t
 unfolding write-call
 written-text n have nodes t h bytes new m e =
     let i = tree-in-holds n nodes t (h .few-leaves) .1 (h .tree) in
@@ -93,18 +90,18 @@ written-text n have nodes t h bytes new m e =
     ap (λ k. take k new) l ∙ ap (take (length (tree-text t))) (w ∙ append-assoc (tree-text t) _ _) ∙ take-append-seam (tree-text t) _
 
 -- A tree written and read is the same tree, in any ring that is lent whole.
-pub written-read : (n have : ℕ) (nodes : List ℕ) (t : Forest) → LentTree n have nodes t → (bytes new : List ℕ) (m : ℕ) → filled-as (Done m) new ≡ write-call n have nodes bytes
+pub written-read : (n have : ℕ) (nodes : List ℕ) (t : Forest) → LentTree n have nodes t → (bytes new : List ℕ) (m : ℕ) → filled-as (reply 0 m) new ≡ write-call n have nodes bytes
     → (have₂ : ℕ) (nodes₂ book₂ : List ℕ) → open-refusal n have₂ nodes₂ book₂ ≡ none → (y : Ring) → ReadCall n have₂ (take m new) nodes₂ book₂ y
-    → (y .answer ≡ Done 0) × Holds n (y .nodes) t × (y .book ≡ emptied book₂)
+    → (y .answer ≡ reply 0 0) × Holds n (y .nodes) t × (y .book ≡ emptied book₂)
 unfolding read-outcome
 written-read n have nodes t h bytes new m e have₂ nodes₂ book₂ o y (unread p) = absurd (let q = sym p ∙ o in let z : _≡_ {A = ℕ} 0 1 = cc in omega arith)
 written-read n have nodes t h bytes new m e have₂ nodes₂ book₂ o y (read {f = f} p r) =
-    subst (λ g. (read-outcome g nodes₂ book₂ .answer ≡ Done 0) × Holds n (read-outcome g nodes₂ book₂ .nodes) t × (read-outcome g nodes₂ book₂ .book ≡ emptied book₂))
+    subst (λ g. (read-outcome g nodes₂ book₂ .answer ≡ reply 0 0) × Holds n (read-outcome g nodes₂ book₂ .nodes) t × (read-outcome g nodes₂ book₂ .book ≡ emptied book₂))
     (sym (reads-one n t (h .tree .in-form) f (subst (λ x. Reads n x f) (written-text n have nodes t h bytes new m e) r)))
     (held n t nodes₂ book₂ (h .tree .in-form) (h .few-leaves))
   where
     held : (n : ℕ) (t : Forest) (nodes book : List ℕ) → InForm n t → n ≤ 256
-        → (read-outcome (tree t) nodes book .answer ≡ Done 0) × Holds n (read-outcome (tree t) nodes book .nodes) t × (read-outcome (tree t) nodes book .book ≡ emptied book)
+        → (read-outcome (tree t) nodes book .answer ≡ reply 0 0) × Holds n (read-outcome (tree t) nodes book .nodes) t × (read-outcome (tree t) nodes book .book ≡ emptied book)
     held n t nodes book f l = (refl, over-holds n t nodes f l, refl)
 
 -- ---- read, then written
@@ -113,7 +110,7 @@ over-long : (xs old : List ℕ) (k : ℕ) → k ≤ length xs → k ≤ length (
 over-long xs old k h = omega (arith, length-append xs (drop (length xs) old))
 
 rewritten : (n have : ℕ) (nodes book bytes : List ℕ) (t : Forest) → TableLent n have nodes (short 384 book) → InForm n t → 2048 ≤ length bytes
-    → write-call n have (over (table-of t) nodes) bytes ≡ filled-as (Done (length (tree-text t))) (over (padded 2048 (tree-text t)) bytes)
+    → write-call n have (over (table-of t) nodes) bytes ≡ filled-as (reply 0 (length (tree-text t))) (over (padded 2048 (tree-text t)) bytes)
 unfolding write-call write-refusal
 rewritten n have nodes book bytes t l f b =
     rw (
@@ -124,17 +121,17 @@ rewritten n have nodes book bytes t l f b =
     )
 
 -- An accepted text written again is the same text.
-pub read-written : (n have : ℕ) (x nodes book : List ℕ) (y : Ring) → ReadCall n have x nodes book y → (v : ℕ) → y .answer ≡ Done v → (bytes : List ℕ) → 2048 ≤ length bytes
-    → write-call n have (y .nodes) bytes ≡ filled-as (Done (length x)) (over (padded 2048 x) bytes)
+pub read-written : (n have : ℕ) (x nodes book : List ℕ) (y : Ring) → ReadCall n have x nodes book y → (v : ℕ) → y .answer ≡ reply 0 v → (bytes : List ℕ) → 2048 ≤ length bytes
+    → write-call n have (y .nodes) bytes ≡ filled-as (reply 0 (length x)) (over (padded 2048 x) bytes)
 unfolding read-outcome open-refusal
-read-written n have x nodes book y (unread p) v e bytes b = not-refusal (sym e)
+read-written n have x nodes book y (unread {r = r} p) v e bytes b = not-refusal r e
 read-written n have x nodes book y (read {f = f} p r) v e bytes b = go f r e
   where
     lent : (n have : ℕ) (nodes book : List ℕ) → open-refusal n have nodes book ≡ none → TableLent n have nodes (short 384 book)
     lent n have nodes book p = tables-lent n have nodes (short 384 book) p
 
-    go : (f : Found) → Reads n x f → read-outcome f nodes book .answer ≡ Done v
-        → write-call n have (read-outcome f nodes book .nodes) bytes ≡ filled-as (Done (length x)) (over (padded 2048 x) bytes)
+    go : (f : Found) → Reads n x f → read-outcome f nodes book .answer ≡ reply 0 v
+        → write-call n have (read-outcome f nodes book .nodes) bytes ≡ filled-as (reply 0 (length x)) (over (padded 2048 x) bytes)
     go (tree t) (accepted g q) e =
-        subst (λ z. write-call n have (over (table-of t) nodes) bytes ≡ filled-as (Done (length z)) (over (padded 2048 z) bytes)) (sym q) (rewritten n have nodes book bytes t (lent n have nodes book p) g b)
-    go (Found.refused q) r e = not-refusal (sym e)
+        subst (λ z. write-call n have (over (table-of t) nodes) bytes ≡ filled-as (reply 0 (length z)) (over (padded 2048 z) bytes)) (sym q) (rewritten n have nodes book bytes t (lent n have nodes book p) g b)
+    go (Found.refused q) r e = not-refusal (TreeText q) e

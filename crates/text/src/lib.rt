@@ -4,7 +4,8 @@ ghost use Prim.Native.Nat.{_≤_, _<_};
 ghost use lib.ListN.{length, replicate};
 ghost use Rattle.orders.specs.Tree.{Forest};
 ghost use Rattle.orders.specs.TreeText.{text};
-ghost use Rattle.calls.specs.Calls.{ring, filled-as, write-call, ReadCall};
+ghost use Rattle.calls.specs.Refusals.{report};
+ghost use Rattle.calls.specs.Promises.{WritePromise, ReadPromise};
 ghost use Rattle.tokens.specs.Tokens.{tree, plain, encode, Wrote};
 ghost use Rattle.rows.specs.Rows.{Formed};
 ghost use Rattle.text.specs.Fills.{Fills};
@@ -40,7 +41,7 @@ fn fill(toks: &[u16], bytes: &mut [u8]) -> usize
 
 // Writes the tree text and zeros up to 2,048 bytes; answers the text's length.
 pub fn write(n: usize, nodes: &[u16], have: usize, bytes: &mut [u8]) -> Answer
-    ensures { λ r. ⌜ filled-as r (now (bytes .exit)) ≡ write-call n have (now (nodes .entry)) (now (bytes .entry)) ⌝ }
+    ensures { λ r. ⌜ WritePromise n (now (nodes .entry)) have (now (bytes .entry)) (now (bytes .exit)) (report r) ⌝ }
 {
     let mut toks = [0u16; 512];
     match checks::lent_tree(n, nodes, have, bytes.len() < 2048, &mut toks) {
@@ -52,7 +53,7 @@ pub fn write(n: usize, nodes: &[u16], have: usize, bytes: &mut [u8]) -> Answer
 // Reads a tree text for n leaves, lent exactly: the node table gets its tree, and the book is emptied. Answers the count of groups, 0; or refuses
 // (1, 2, 12), and leaves both tables as they were.
 pub fn read(n: usize, nodes: &mut [u16], have: usize, book: &mut [u64], text: &[u8]) -> Answer
-    ensures { λ r. ⌜ ReadCall n have (now (text .entry)) (now (nodes .entry)) (now (book .entry)) (ring r (now (nodes .exit)) (now (book .exit))) ⌝ }
+    ensures { λ r. ⌜ ReadPromise n (now (nodes .entry)) have (now (book .entry)) (now (text .entry)) (now (nodes .exit)) (now (book .exit)) (report r) ⌝ }
 {
     if let Checked::Bad(refusal) = checks::check_tables(n, nodes, have, book.len() < 384) {
         return Answer::Refused(refusal);

@@ -3,6 +3,8 @@
 use mathlib.Core.Path.{_≡_, refl}
 use mathlib.Core.Bool.{Bool, true, _&&_}
 use mathlib.Core.List.{[], _∷_, _++_}
+use Prim.Native.Nat.{ℕ}
+use lib.Dec.{eqb}
 use lib.ListN.{replicate, take, drop}
 use Rattle.orders.specs.Lists.{same}
 use Rattle.orders.specs.Form.{in-form?}
@@ -15,22 +17,26 @@ use Rattle.orders.specs.Circles.{bytes}
 use Rattle.marks.specs.Marks.{marked, word-of, words-of, leaves-of}
 use Rattle.calls.specs.Book.{groups, book-in-form?, booked, emptied}
 use Rattle.calls.specs.NodeTable.{table-of, spelled, spelled-tree, tree-in}
-use Rattle.calls.specs.Refusals.{report, bad-leaf}
+use Rattle.calls.specs.Refusals.{Reply, bad-leaf}
 use Rattle.calls.specs.Calls.{Ring, open-refusal, opened, open-call, joined-tree, join-refusal, joined, join-call, trial-call, order-refusal, order-call, write-refusal, write-call, aim-refusal, aim-call, conflict-refusal, conflicts-of, conflict-call}
+
+-- A call returned these numbers.
+abbrev says : Reply → ℕ → ℕ → Bool
+says r number value = eqb (r .number) number && eqb (r .value) value
 
 -- What is asked of the ring of circle e.
 abbrev right-e : Ring → Bool
 right-e e =
-    same (report (e .answer)) (0 ∷ 2 ∷ [])
+    says (e .answer) 0 2
     && (same (take 6 (e .nodes)) (2 ∷ 3 ∷ 257 ∷ 5 ∷ 3 ∷ 0 ∷ [])
     && (same (take 5 (drop 257 (e .nodes))) (1 ∷ 2 ∷ 2 ∷ 4 ∷ 0 ∷ [])
     && (same (drop 65792 (e .nodes)) (7 ∷ [])
     && (same (take 9 (e .book)) (5 ∷ 0 ∷ 0 ∷ 0 ∷ 20 ∷ 0 ∷ 0 ∷ 0 ∷ 0 ∷ [])
-    && (same (report (trial-call 5 256 (e .nodes) (e .book) 2 (1 ∷ 5 ∷ []))) (8 ∷ [])
-    && (same (report (trial-call 5 256 (e .nodes) (e .book) 2 (2 ∷ 4 ∷ []))) (0 ∷ 3 ∷ [])
+    && (says (trial-call 5 256 (e .nodes) (e .book) 2 (1 ∷ 5 ∷ [])) 8 0
+    && (says (trial-call 5 256 (e .nodes) (e .book) 2 (2 ∷ 4 ∷ [])) 0 3
     && (same (conflict-call 5 (e .book) 2 (1 ∷ 5 ∷ []) (replicate 97 7) .table) (1 ∷ 2 ∷ (replicate 94 0 ++ (7 ∷ [])))
     && (same (order-call 5 256 (e .nodes) (replicate 6 7) .table) (1 ∷ 2 ∷ 4 ∷ 5 ∷ 3 ∷ 7 ∷ [])
-    && (same (report (aim-call 5 256 (e .nodes) (e .book) 2 1)) (0 ∷ 3 ∷ [])
+    && (says (aim-call 5 256 (e .nodes) (e .book) 2 1) 0 3
     && same (take 16 (write-call 5 256 (e .nodes) (replicate 2049 7) .table)) (bytes "1 C(P(2 4) 5 3)" ++ (0 ∷ [])))))))))))
 
 abbrev then-e : Ring → Bool

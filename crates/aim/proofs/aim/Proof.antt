@@ -1,11 +1,12 @@
 -- Refused by the checks of the ring, or by those of the group.
 use mathlib.Core.List.{List}
-use mathlib.Core.Path.{_∙_, subst}
+use mathlib.Core.Path.{_∙_, ap, subst}
 use Prim.Native.Nat.{ℕ}
 use native.Mathlib.Omega.{arith}
 use borrow.Author.Needs.{needs}
 use denote.Ref.{now}
 use Rattle.tokens.proofs.Writes.{read-part, wrote-most}
+use Rattle.calls.specs.Refusals.{report}
 use Rattle.checks.specs.Lent.{RingLent, LendsRing}
 use Rattle.aim.proofs.Calls.{aim-refused, lent-lends, aim-there}
 use Rattle.aim.proofs.aim.Statement.{statement}
@@ -46,7 +47,7 @@ returns c = aim-refused (c .before .before .before .before .before .before .befo
 returns-2 : tie.Need-returns-2
 returns-2 c =
     let f = found (c .before .before .before) in
-    c .group-aim .ensures (f .1 .tree) (read-part (f .1 .wrote)) ∙ aim-there (c .before .before .before .before .before .before .before .before .before .before .before .args .n) (c .before .before .before .before .before .before .before .before .before .before .before .args .have) (now (c .before .before .before .before .before .before .before .before .before .before .before .args .nodes)) (now (c .before .before .before .before .before .before .before .before .before .before .before .args .book)) (c .before .before .before .before .before .before .before .before .before .before .before .args .count) (c .before .before .before .before .before .before .before .before .before .before .before .args .group) (f .1)
+    ap report (c .group-aim .ensures (f .1 .tree) (read-part (f .1 .wrote))) ∙ aim-there (c .before .before .before .before .before .before .before .before .before .before .before .args .n) (c .before .before .before .before .before .before .before .before .before .before .before .args .have) (now (c .before .before .before .before .before .before .before .before .before .before .before .args .nodes)) (now (c .before .before .before .before .before .before .before .before .before .before .before .args .book)) (c .before .before .before .before .before .before .before .before .before .before .before .args .count) (c .before .before .before .before .before .before .before .before .before .before .before .args .group) (f .1)
 
 pub aim-spec : {M : Type 1} → statement M
 aim-spec =

@@ -1,7 +1,7 @@
 use mathlib.Core.Path.{refl}
 use borrow.Author.Needs.{needs}
 use Rattle.coding.proofs.Coded.{coded}
-use Rattle.coded_conflict.proofs.Says.{Conflicts}
+use Rattle.calls.specs.Promises.{ConflictPromise}
 use Rattle.coded_conflict.proofs.conflict.Statement.{statement}
 use Rattle.coded_conflict.proofs.conflict.Tie as tie
 use Rattle.coded_conflict.proofs.conflict.Reads as reads
@@ -19,7 +19,7 @@ same-length : tie.Need-same-length
 same-length c = search needs
 
 returns : tie.Need-returns
-returns c = (coded (λ _. Conflicts (c .before .before .before .before .before .before .before .before .before .args .n) (c .before .before .before .before .before .before .before .before .before .args .book .now) (c .before .before .before .before .before .before .before .before .before .args .count) (c .before .before .before .before .before .before .before .before .before .args .list .now) (c .before .before .before .before .before .before .before .before .before .args .conflicts .now) (c .before .before .before .before .conflict .last .1 .1 .1 .1 .0)) {h = 0} refl (c .code .ensures .0) (c .before .before .before .before .conflict .ensures), c .code .ensures .1)
+returns c = coded (λ _. ConflictPromise (c .before .before .before .before .before .before .before .before .before .args .n) (c .before .before .before .before .before .before .before .before .before .args .book .now) (c .before .before .before .before .before .before .before .before .before .args .count) (c .before .before .before .before .before .before .before .before .before .args .list .now) (c .before .before .before .before .before .before .before .before .before .args .conflicts .now) (c .before .before .before .before .conflict .last .1 .1 .1 .1 .0)) {h = 0} refl (c .code .ensures) (c .before .before .before .before .conflict .ensures)
 
 pub conflict-spec : {M : Type 1} → statement M
 conflict-spec = tie.close (tie.spec conflict-requires code-requires same-length returns)

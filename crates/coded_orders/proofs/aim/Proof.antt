@@ -1,6 +1,7 @@
 use borrow.Author.Needs.{needs}
 use Rattle.coding.proofs.Coded.{coded}
-use Rattle.coded_orders.proofs.Says.{Aims}
+use Prim.Native.Nat.{ℕ}
+use Rattle.calls.specs.Promises.{AimPromise}
 use Rattle.coded_orders.proofs.aim.Statement.{statement}
 use Rattle.coded_orders.proofs.aim.Tie as tie
 use Rattle.coded_orders.proofs.aim.Reads as reads
@@ -19,7 +20,7 @@ code-requires : tie.Need-code-requires
 code-requires c κs = search needs
 
 returns : tie.Need-returns
-returns c = (coded (Aims (c .before .before .before .before .before .before .args .n) (c .before .before .before .before .before .before .args .nodes .now) (c .before .before .before .before .before .before .args .book .now) (c .before .before .before .before .before .before .args .count) (c .before .before .before .before .before .before .args .group)) (c .before .before .before .records .ensures) (c .code .ensures .0) (c .before .before .aim .ensures), c .code .ensures .1)
+returns c = coded (λ (have : ℕ). AimPromise (c .before .before .before .before .before .before .args .n) (c .before .before .before .before .before .before .args .nodes .now) have (c .before .before .before .before .before .before .args .book .now) (c .before .before .before .before .before .before .args .count) (c .before .before .before .before .before .before .args .group)) (c .before .before .before .records .ensures) (c .code .ensures) (c .before .before .aim .ensures)
 
 pub aim-spec : {M : Type 1} → statement M
 aim-spec = tie.close (tie.spec records-requires aim-requires code-requires returns)

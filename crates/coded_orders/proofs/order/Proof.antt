@@ -1,6 +1,7 @@
 use borrow.Author.Needs.{needs}
 use Rattle.coding.proofs.Coded.{coded}
-use Rattle.coded_orders.proofs.Says.{Orders}
+use Prim.Native.Nat.{ℕ}
+use Rattle.calls.specs.Promises.{OrderPromise}
 use Rattle.coded_orders.proofs.order.Statement.{statement}
 use Rattle.coded_orders.proofs.order.Tie as tie
 use Rattle.coded_orders.proofs.order.Reads as reads
@@ -22,7 +23,7 @@ same-length : tie.Need-same-length
 same-length c = search needs
 
 returns : tie.Need-returns
-returns c = (coded (Orders (c .before .before .before .before .before .before .before .before .before .args .n) (c .before .before .before .before .before .before .before .before .before .args .nodes .now) (c .before .before .before .before .before .before .before .before .before .args .order .now) (c .before .before .before .before .order .last .1 .1 .1 .0)) (c .before .before .before .before .before .before .records .ensures) (c .code .ensures .0) (c .before .before .before .before .order .ensures), c .code .ensures .1)
+returns c = coded (λ (have : ℕ). OrderPromise (c .before .before .before .before .before .before .before .before .before .args .n) (c .before .before .before .before .before .before .before .before .before .args .nodes .now) have (c .before .before .before .before .before .before .before .before .before .args .order .now) (c .before .before .before .before .order .last .1 .1 .1 .0)) (c .before .before .before .before .before .before .records .ensures) (c .code .ensures) (c .before .before .before .before .order .ensures)
 
 pub order-spec : {M : Type 1} → statement M
 order-spec =

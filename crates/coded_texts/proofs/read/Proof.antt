@@ -1,6 +1,7 @@
 use borrow.Author.Needs.{needs}
 use Rattle.coding.proofs.Coded.{coded}
-use Rattle.coded_texts.proofs.Says.{Reads-text}
+use Prim.Native.Nat.{ℕ}
+use Rattle.calls.specs.Promises.{ReadPromise}
 use Rattle.coded_texts.proofs.read.Statement.{statement}
 use Rattle.coded_texts.proofs.read.Tie as tie
 use Rattle.coded_texts.proofs.read.Reads as reads
@@ -25,7 +26,7 @@ same-length-2 : tie.Need-same-length-2
 same-length-2 c = search needs
 
 returns : tie.Need-returns
-returns c = (coded (Reads-text (c .before .before .before .before .before .before .before .before .before .before .before .before .before .before .args .n) (c .before .before .before .before .before .before .before .before .before .before .before .before .before .before .args .nodes .now) (c .before .before .before .before .before .before .before .before .before .before .before .before .before .before .args .book .now) (c .before .before .before .before .before .before .before .before .before .before .before .before .before .before .args .text .now) (c .before .before .before .before .before .before .read .last .1 .0) (c .before .before .before .before .before .before .read .last .1 .1 .1 .0)) (c .before .before .before .before .before .before .before .before .before .records .ensures) (c .code .ensures .0) (c .before .before .before .before .before .before .read .ensures), c .code .ensures .1)
+returns c = coded (λ (have : ℕ). ReadPromise (c .before .before .before .before .before .before .before .before .before .before .before .before .before .before .args .n) (c .before .before .before .before .before .before .before .before .before .before .before .before .before .before .args .nodes .now) have (c .before .before .before .before .before .before .before .before .before .before .before .before .before .before .args .book .now) (c .before .before .before .before .before .before .before .before .before .before .before .before .before .before .args .text .now) (c .before .before .before .before .before .before .read .last .1 .0) (c .before .before .before .before .before .before .read .last .1 .1 .1 .0)) (c .before .before .before .before .before .before .before .before .before .records .ensures) (c .code .ensures) (c .before .before .before .before .before .before .read .ensures)
 
 pub read-spec : {M : Type 1} → statement M
 read-spec =

@@ -1,6 +1,7 @@
 use borrow.Author.Needs.{needs}
 use Rattle.coding.proofs.Coded.{coded}
-use Rattle.coded_texts.proofs.Says.{Writes}
+use Prim.Native.Nat.{ℕ}
+use Rattle.calls.specs.Promises.{WritePromise}
 use Rattle.coded_texts.proofs.write.Statement.{statement}
 use Rattle.coded_texts.proofs.write.Tie as tie
 use Rattle.coded_texts.proofs.write.Reads as reads
@@ -22,7 +23,7 @@ same-length : tie.Need-same-length
 same-length c = search needs
 
 returns : tie.Need-returns
-returns c = (coded (Writes (c .before .before .before .before .before .before .before .before .before .args .n) (c .before .before .before .before .before .before .before .before .before .args .nodes .now) (c .before .before .before .before .before .before .before .before .before .args .bytes .now) (c .before .before .before .before .write .last .1 .1 .1 .0)) (c .before .before .before .before .before .before .records .ensures) (c .code .ensures .0) (c .before .before .before .before .write .ensures), c .code .ensures .1)
+returns c = coded (λ (have : ℕ). WritePromise (c .before .before .before .before .before .before .before .before .before .args .n) (c .before .before .before .before .before .before .before .before .before .args .nodes .now) have (c .before .before .before .before .before .before .before .before .before .args .bytes .now) (c .before .before .before .before .write .last .1 .1 .1 .0)) (c .before .before .before .before .before .before .records .ensures) (c .code .ensures) (c .before .before .before .before .write .ensures)
 
 pub write-spec : {M : Type 1} → statement M
 write-spec =

@@ -1,6 +1,7 @@
 use borrow.Author.Needs.{needs}
 use Rattle.coding.proofs.Coded.{coded}
-use Rattle.coded_updates.proofs.Says.{Tries}
+use Prim.Native.Nat.{ℕ}
+use Rattle.calls.specs.Promises.{TrialPromise}
 use Rattle.coded_updates.proofs.trial.Statement.{statement}
 use Rattle.coded_updates.proofs.trial.Tie as tie
 use Rattle.coded_updates.proofs.trial.Reads as reads
@@ -19,7 +20,7 @@ code-requires : tie.Need-code-requires
 code-requires c κs = search needs
 
 returns : tie.Need-returns
-returns c = (coded (Tries (c .before .before .before .before .before .before .before .args .n) (c .before .before .before .before .before .before .before .args .nodes .now) (c .before .before .before .before .before .before .before .args .book .now) (c .before .before .before .before .before .before .before .args .count) (c .before .before .before .before .before .before .before .args .list .now)) (c .before .before .before .records .ensures) (c .code .ensures .0) (c .before .before .trial .ensures), c .code .ensures .1)
+returns c = coded (λ (have : ℕ). TrialPromise (c .before .before .before .before .before .before .before .args .n) (c .before .before .before .before .before .before .before .args .nodes .now) have (c .before .before .before .before .before .before .before .args .book .now) (c .before .before .before .before .before .before .before .args .count) (c .before .before .before .before .before .before .before .args .list .now)) (c .before .before .before .records .ensures) (c .code .ensures) (c .before .before .trial .ensures)
 
 pub trial-spec : {M : Type 1} → statement M
 trial-spec = tie.close (tie.spec records-requires trial-requires code-requires returns)

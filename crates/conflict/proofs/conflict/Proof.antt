@@ -5,7 +5,7 @@ use denote.Ref.{now}
 use Rattle.calls.specs.Calls.{conflict-refusal}
 use Rattle.book.specs.Lists.{verdict}
 use Rattle.book.proofs.Laws.{few-groups}
-use Rattle.conflict.specs.Demand.{LentBook}
+use Rattle.calls.specs.Demands.{LentBook}
 use Rattle.conflict.proofs.Call.{passes-lent, call-refused, call-found, call-meets}
 use borrow.Author.Needs.{needs}
 use Rattle.conflict.proofs.conflict.Statement.{statement}

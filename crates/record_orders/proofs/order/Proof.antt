@@ -40,7 +40,8 @@ use denote.Triple.Walked.{says, Stays, gave-slice, stay-dropped, walkOf, goes-ga
 use denote.Exit.{yes}
 use Rattle.lent.specs.declared.Node.{Node}
 use Rattle.lent.specs.Rows.{node-rows, with-rows, zero-rows, Sound}
-use Rattle.node_records.proofs.Says.{Orders}
+use Rattle.calls.specs.Refusals.{report}
+use Rattle.calls.specs.Promises.{OrderPromise}
 use Rattle.calls.specs.declared.Answer.{Answer}
 use Rattle.calls.proofs.Answer as Answer·
 use Rattle.calls.proofs.Answer.Laws as Answer′
@@ -94,7 +95,7 @@ module _ {M : Type 1} (𝓤 : URA M) (H : Heap 𝓤) (A : Atoms 𝓤) (W : Given
       qed W (‵ (flft (ν ∷ []) fullShare) ∷ ‵ (ShrSlice (named 0) (ν ∷ []) u16 .own (nums l δ ys) (numsVal l ∷ [])) ∷ ‵ Others ∷ []) ∵ suffices ! _ (asks-nothing 𝓤 _) $ move ! (2 ∷ []) $ fsplit ! $ move ! (1 ∷ []) $ fsplit ! $ move ! (1 ∷ []) $ drop ! $ nothing ! $ move ! (2 ∷ 0 ∷ []) $ join ! $ move ! (2 ∷ 0 ∷ []) $ join ! $ frame ! $ nothing ! $ move ! (1 ∷ 0 ∷ []) $ fjoin ! $ owned ! usize (Is usize) (uint-makes 𝓤 H A W w64) (length ns) _ (refl, room .0) $ fjoin ! $ move ! (1 ∷ 0 ∷ []) $ fjoin ! $ owned ! usize (Is usize) (uint-makes 𝓤 H A W w64) n _ n-is $ fjoin ! $ done !
 
   abbrev Ensured : List ℕ → Answer → List ℕ → Type 0
-  Ensured ys r order′ = Orders n ys (length ns) order r order′
+  Ensured ys r order′ = OrderPromise n ys (length ns) order order′ (report r)
 
   -- of its result, of the length of each last list, and what it ensures
   abbrev Said : List ℕ → Answer × ((List ℕ × Unit {0})) → Val → Type 0

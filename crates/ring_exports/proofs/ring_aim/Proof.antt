@@ -41,7 +41,8 @@ use Rattle.lent.proofs.Caps.{asks-nothing}
 use Rattle.calls.specs.declared.Answer.{Answer}
 use Rattle.calls.proofs.Answer as Answer·
 use Rattle.calls.proofs.Answer.Laws as Answer′
-use Rattle.ring_exports.proofs.Says.{Aims}
+use Rattle.calls.specs.Refusals.{report}
+use Rattle.node_records.specs.Records.{AimRecords}
 use Rattle.ring_exports.proofs.Steps.{Code, number, answers, codes}
 use Rattle.calls.proofs.code.Symbol as code-def
 use Rattle.calls.proofs.code.Met as code-thm
@@ -81,14 +82,14 @@ module _ {M : Type 1} (𝓤 : URA M) (H : Heap 𝓤) (A : Atoms 𝓤) (W : Given
   Rest r = fsep (flft κ-nodes q-nodes) (fsep (flft κ-book q-book) (ftrue))
 
   abbrev Said : Answer × Unit {0} → Val → Type 0
-  Said r w = Is Answer·.the-row (r .0) (w ∷ []) × (Aims n nodes book count group (r .0))
+  Said r w = Is Answer·.the-row (r .0) (w ∷ []) × (AimRecords n nodes book count group (report (r .0)))
 
   said : (w : Val) → ent 𝓤 (Call 𝓤 H A mem run .post to-call w) (H .⇛ (ex 𝓤 (λ (r : Answer × Unit {0}). sep 𝓤 (sem 𝓤 H A (Rest r)) (fact 𝓤 (Said r w)))))
   said w =
       qed W (raw (Call 𝓤 H A mem run .post to-call w) ∷ []) ∵ updating ! $
       use1 W (later (some (λ (r : Answer). ((‵ (flft κ-nodes q-nodes) ⊛ (‵ (flft κ-book q-book) ⊛ (‵ ftrue))) ⊛ ‵ (Answer·.the-row .own r (w ∷ []))) ⊛ raw (ensured 𝓤 H A call.ended (call.clauses 𝓤 H A mem run) (κ-nodes, (κ-book, tt)) (n, (s-nodes, (s-book, (count, (group, tt))))) tt r)))) (id⊢ 𝓤 _) $ await ! tt $ pick ! (λ r.
-      split ! $ move ! (1 ∷ []) $ use1 W (some (λ (ws : (Unit {0} × (Unit {0} × (Unit {0} × (Unit {0} × (Unit {0} × Unit {0})))))). ‵ (lasts call.ended (κ-nodes, (κ-book, tt)) (n, (s-nodes, (s-book, (count, (group, tt))))) ws) ⊛ raw (fact 𝓤 (Aims n nodes book count group r)))) (id⊢ 𝓤 _) $ pick ! (λ ws.
-      split ! $ move ! (1 ∷ []) $ heard ! (Aims n nodes book count group r) (λ e. fsplit ! $ drop ! $ fsplit ! $ drop ! $ fsplit ! $ drop ! $ fsplit ! $ drop ! $ fsplit ! $ drop ! $ drop ! $ split ! $ move ! (1 ∷ []) $ facts ! Answer·.the-row (Is Answer·.the-row) (shows 𝓤 H A Answer·.the-row) r (w ∷ []) (λ is. split ! $ move ! (1 ∷ []) $ split ! $ move ! (1 ∷ []) $ drop ! $ at-once ! $ show ! (λ (r : Answer × Unit {0}). sep 𝓤 (sem 𝓤 H A (Rest r)) (fact 𝓤 (Said r w))) (r, tt) $ says ! (is, e) $ nothing ! $ move ! (1 ∷ 0 ∷ []) $ fjoin ! $ move ! (1 ∷ 0 ∷ []) $ fjoin ! $ done !))))
+      split ! $ move ! (1 ∷ []) $ use1 W (some (λ (ws : (Unit {0} × (Unit {0} × (Unit {0} × (Unit {0} × (Unit {0} × Unit {0})))))). ‵ (lasts call.ended (κ-nodes, (κ-book, tt)) (n, (s-nodes, (s-book, (count, (group, tt))))) ws) ⊛ raw (fact 𝓤 (AimRecords n nodes book count group (report r))))) (id⊢ 𝓤 _) $ pick ! (λ ws.
+      split ! $ move ! (1 ∷ []) $ heard ! (AimRecords n nodes book count group (report r)) (λ e. fsplit ! $ drop ! $ fsplit ! $ drop ! $ fsplit ! $ drop ! $ fsplit ! $ drop ! $ fsplit ! $ drop ! $ drop ! $ split ! $ move ! (1 ∷ []) $ facts ! Answer·.the-row (Is Answer·.the-row) (shows 𝓤 H A Answer·.the-row) r (w ∷ []) (λ is. split ! $ move ! (1 ∷ []) $ split ! $ move ! (1 ∷ []) $ drop ! $ at-once ! $ show ! (λ (r : Answer × Unit {0}). sep 𝓤 (sem 𝓤 H A (Rest r)) (fact 𝓤 (Said r w))) (r, tt) $ says ! (is, e) $ nothing ! $ move ! (1 ∷ 0 ∷ []) $ fjoin ! $ move ! (1 ∷ 0 ∷ []) $ fjoin ! $ done !))))
 
   abbrev Post : Val → SProp 𝓤
   Post = walkOf 𝓤 H A this.ended stayed (this.clauses 𝓤 H A mem run) .post (((κ-nodes, (κ-book, (κ, tt))), (q-nodes, (q-book, (q, tt))), tt, (n, (s-nodes, (s-book, (count, (group, (s, tt)))))), (vint w64 n ∷ [], (sliceVal (s-nodes .ptr) (length (s-nodes .now)) ∷ [], (sliceVal (s-book .ptr) (length (s-book .now)) ∷ [], (vint w64 count ∷ [], (vint w64 group ∷ [], (vptr b o ∷ [], tt))))))), tt)
@@ -106,7 +107,7 @@ module _ {M : Type 1} (𝓤 : URA M) (H : Heap 𝓤) (A : Atoms 𝓤) (W : Given
         codes mem run ! fm known-code (named 2) κ q b o γ v (x .0) u (h .0) (λ i. and-then ! (load ! (from ! (stop !)) (look ! 4 refl)) (and-then ! (load ! (from ! (stop !)) (look ! 2 refl)) (no-more !))) (λ r v′ w is coded.
         land ! (from ! (stop !)) (init ! 19 refl (uint-lawful 𝓤 H A W w8 .typed r _ is .0)) $ returns ! (look ! 19 refl) $ forget ! 3 refl $ forget ! 5 refl $ forget ! 7 refl $ forget ! 9 refl $ forget ! 11 refl $ forget ! 13 refl $ forget ! 15 refl $ forget ! 17 refl $ forget ! 19 refl $
         move ! (19 ∷ 20 ∷ []) $ free1 ! $ move ! (17 ∷ 18 ∷ []) $ free1 ! $ move ! (15 ∷ 16 ∷ []) $ free1 ! $ move ! (13 ∷ 14 ∷ []) $ free1 ! $ move ! (11 ∷ 12 ∷ []) $ free1 ! $ move ! (9 ∷ 10 ∷ []) $ free1 ! $ move ! (7 ∷ 8 ∷ []) $ free1 ! $ move ! (5 ∷ 6 ∷ []) $ free1 ! $ move ! (3 ∷ 4 ∷ []) $ free1 ! $ free0 ! $
-        suffices ! _ (ends-at 𝓤 H A this.ended stayed (this.clauses 𝓤 H A mem run) W (((κ-nodes, (κ-book, (κ, tt))), (q-nodes, (q-book, (q, tt))), tt, (n, (s-nodes, (s-book, (count, (group, (s, tt)))))), (vint w64 n ∷ [], (sliceVal (s-nodes .ptr) (length (s-nodes .now)) ∷ [], (sliceVal (s-book .ptr) (length (s-book .now)) ∷ [], (vint w64 count ∷ [], (vint w64 group ∷ [], (vptr b o ∷ [], tt))))))), tt) w r (tt, (tt, (tt, (tt, (tt, (v′, tt)))))) (tt, (tt, (tt, (tt, (tt, (tt, tt))))))) $ says ! (subst (Aims n nodes book count group) (sym (coded .0)) (h .1), coded .1) $
+        suffices ! _ (ends-at 𝓤 H A this.ended stayed (this.clauses 𝓤 H A mem run) W (((κ-nodes, (κ-book, (κ, tt))), (q-nodes, (q-book, (q, tt))), tt, (n, (s-nodes, (s-book, (count, (group, (s, tt)))))), (vint w64 n ∷ [], (sliceVal (s-nodes .ptr) (length (s-nodes .now)) ∷ [], (sliceVal (s-book .ptr) (length (s-book .now)) ∷ [], (vint w64 count ∷ [], (vint w64 group ∷ [], (vptr b o ∷ [], tt))))))), tt) w r (tt, (tt, (tt, (tt, (tt, (v′, tt)))))) (tt, (tt, (tt, (tt, (tt, (tt, tt))))))) $ says ! (subst (AimRecords n nodes book count group) (sym coded) (h .1)) $
         move ! (2 ∷ []) $ fsplit ! $ move ! (1 ∷ []) $ fsplit ! $ move ! (1 ∷ []) $ drop ! $ nothing ! $ move ! (3 ∷ 0 ∷ []) $ join ! $ move ! (1 ∷ 0 ∷ []) $ join ! $ move ! (1 ∷ 0 ∷ []) $ join ! $ frame ! $ nothing ! $ move ! (1 ∷ 0 ∷ []) $ fjoin ! $ nothing ! $ fjoin ! $ nothing ! $ fjoin ! $ nothing ! $ fjoin ! $ nothing ! $ fjoin ! $ nothing ! $ fjoin ! $ frame ! $ owned ! u8 (Is u8) (uint-makes 𝓤 H A W w8) r _ is $ done !)))))))))))
 
 ring-aim-meets : {M : Type 1} (𝓤 : URA M) (H : Heap 𝓤) (A : Atoms 𝓤) (W : Given 𝓤 H A) (mem : Memory → SProp 𝓤) (run : Routine → Fun 𝓤) (𝓣 : Tables 𝓤 H) → Triple 𝓤 (𝓣 .C call-def.name) (Call 𝓤 H A mem run) → Triple 𝓤 (𝓣 .C code-def.name) (Code 𝓤 H A mem run)

@@ -41,7 +41,8 @@ use Rattle.lent.proofs.Caps.{asks-nothing}
 use Rattle.calls.specs.declared.Answer.{Answer}
 use Rattle.calls.proofs.Answer as Answer·
 use Rattle.calls.proofs.Answer.Laws as Answer′
-use Rattle.ring_exports.proofs.Says.{Opens}
+use Rattle.calls.specs.Refusals.{report}
+use Rattle.node_records.specs.Records.{OpenRecords}
 use Rattle.ring_exports.proofs.Steps.{Code, number, answers, codes}
 use Rattle.calls.proofs.code.Symbol as code-def
 use Rattle.calls.proofs.code.Met as code-thm
@@ -81,14 +82,14 @@ module _ {M : Type 1} (𝓤 : URA M) (H : Heap 𝓤) (A : Atoms 𝓤) (W : Given
   Rest r = fsep (flft κ-nodes q-nodes) (fsep (finally T.the-row (s-nodes .name) (r .1 .0)) (fsep (flft κ-book q-book) (fsep (finally u64 (s-book .name) (r .1 .1 .0)) (ftrue))))
 
   abbrev Said : Answer × (List Node × (List ℕ × Unit {0})) → Val → Type 0
-  Said r w = Is Answer·.the-row (r .0) (w ∷ []) × ((length (r .1 .0) ≡ length nodes) × ((length (r .1 .1 .0) ≡ length book) × (Opens n nodes book (r .1 .0) (r .1 .1 .0) (r .0))))
+  Said r w = Is Answer·.the-row (r .0) (w ∷ []) × ((length (r .1 .0) ≡ length nodes) × ((length (r .1 .1 .0) ≡ length book) × (OpenRecords n nodes book (r .1 .0) (r .1 .1 .0) (report (r .0)))))
 
   said : (w : Val) → ent 𝓤 (Call 𝓤 H A mem run .post to-call w) (H .⇛ (ex 𝓤 (λ (r : Answer × (List Node × (List ℕ × Unit {0}))). sep 𝓤 (sem 𝓤 H A (Rest r)) (fact 𝓤 (Said r w)))))
   said w =
       qed W (raw (Call 𝓤 H A mem run .post to-call w) ∷ []) ∵ updating ! $
       use1 W (later (some (λ (r : Answer). ((‵ (flft κ-nodes q-nodes) ⊛ (‵ (flft κ-book q-book) ⊛ (‵ ftrue))) ⊛ ‵ (Answer·.the-row .own r (w ∷ []))) ⊛ raw (ensured 𝓤 H A call.ended (call.clauses 𝓤 H A mem run) (κ-nodes, (κ-book, tt)) (n, (s-nodes, (s-book, tt))) tt r)))) (id⊢ 𝓤 _) $ await ! tt $ pick ! (λ r.
-      split ! $ move ! (1 ∷ []) $ use1 W (some (λ (ws : (Unit {0} × (List Node × (List ℕ × Unit {0})))). ‵ (lasts call.ended (κ-nodes, (κ-book, tt)) (n, (s-nodes, (s-book, tt))) ws) ⊛ raw (fact 𝓤 (Opens n nodes book (ws .1 .0) (ws .1 .1 .0) r)))) (id⊢ 𝓤 _) $ pick ! (λ ws.
-      split ! $ move ! (1 ∷ []) $ heard ! (Opens n nodes book (ws .1 .0) (ws .1 .1 .0) r) (λ e. fsplit ! $ drop ! $ fsplit ! $ fsplit ! $ move ! (1 ∷ []) $ feqL ! (λ m-nodes. move ! (1 ∷ []) $ fsplit ! $ fsplit ! $ move ! (1 ∷ []) $ feqL ! (λ m-book. move ! (1 ∷ []) $ drop ! $ move ! (2 ∷ []) $ split ! $ move ! (1 ∷ []) $ facts ! Answer·.the-row (Is Answer·.the-row) (shows 𝓤 H A Answer·.the-row) r (w ∷ []) (λ is. split ! $ move ! (1 ∷ []) $ split ! $ move ! (1 ∷ []) $ drop ! $ at-once ! $ show ! (λ (r : Answer × (List Node × (List ℕ × Unit {0}))). sep 𝓤 (sem 𝓤 H A (Rest r)) (fact 𝓤 (Said r w))) (r, (ws .1 .0, (ws .1 .1 .0, tt))) $ says ! (is, (m-nodes, (m-book, e))) $ nothing ! $ move ! (3 ∷ 0 ∷ []) $ fjoin ! $ move ! (1 ∷ 0 ∷ []) $ fjoin ! $ move ! (2 ∷ 0 ∷ []) $ fjoin ! $ move ! (1 ∷ 0 ∷ []) $ fjoin ! $ done !))))))
+      split ! $ move ! (1 ∷ []) $ use1 W (some (λ (ws : (Unit {0} × (List Node × (List ℕ × Unit {0})))). ‵ (lasts call.ended (κ-nodes, (κ-book, tt)) (n, (s-nodes, (s-book, tt))) ws) ⊛ raw (fact 𝓤 (OpenRecords n nodes book (ws .1 .0) (ws .1 .1 .0) (report r))))) (id⊢ 𝓤 _) $ pick ! (λ ws.
+      split ! $ move ! (1 ∷ []) $ heard ! (OpenRecords n nodes book (ws .1 .0) (ws .1 .1 .0) (report r)) (λ e. fsplit ! $ drop ! $ fsplit ! $ fsplit ! $ move ! (1 ∷ []) $ feqL ! (λ m-nodes. move ! (1 ∷ []) $ fsplit ! $ fsplit ! $ move ! (1 ∷ []) $ feqL ! (λ m-book. move ! (1 ∷ []) $ drop ! $ move ! (2 ∷ []) $ split ! $ move ! (1 ∷ []) $ facts ! Answer·.the-row (Is Answer·.the-row) (shows 𝓤 H A Answer·.the-row) r (w ∷ []) (λ is. split ! $ move ! (1 ∷ []) $ split ! $ move ! (1 ∷ []) $ drop ! $ at-once ! $ show ! (λ (r : Answer × (List Node × (List ℕ × Unit {0}))). sep 𝓤 (sem 𝓤 H A (Rest r)) (fact 𝓤 (Said r w))) (r, (ws .1 .0, (ws .1 .1 .0, tt))) $ says ! (is, (m-nodes, (m-book, e))) $ nothing ! $ move ! (3 ∷ 0 ∷ []) $ fjoin ! $ move ! (1 ∷ 0 ∷ []) $ fjoin ! $ move ! (2 ∷ 0 ∷ []) $ fjoin ! $ move ! (1 ∷ 0 ∷ []) $ fjoin ! $ done !))))))
 
   abbrev Post : Val → SProp 𝓤
   Post = walkOf 𝓤 H A this.ended stayed (this.clauses 𝓤 H A mem run) .post (((κ-nodes, (κ-book, (κ, tt))), (q-nodes, (q-book, (q, tt))), tt, (n, (s-nodes, (s-book, (s, tt)))), (vint w64 n ∷ [], (sliceVal (s-nodes .ptr) (length (s-nodes .now)) ∷ [], (sliceVal (s-book .ptr) (length (s-book .now)) ∷ [], (vptr b o ∷ [], tt))))), tt)
@@ -108,7 +109,7 @@ module _ {M : Type 1} (𝓤 : URA M) (H : Heap 𝓤) (A : Atoms 𝓤) (W : Given
         codes mem run ! fm known-code (named 2) κ q b o γ v (x .0) u (h .0) (λ i. and-then ! (load ! (from ! (stop !)) (look ! 12 refl)) (and-then ! (load ! (from ! (stop !)) (look ! 2 refl)) (no-more !))) (λ r v′ w is coded.
         land ! (from ! (stop !)) (init ! 23 refl (uint-lawful 𝓤 H A W w8 .typed r _ is .0)) $ returns ! (look ! 23 refl) $ forget ! 3 refl $ forget ! 5 refl $ forget ! 7 refl $ forget ! 9 refl $ forget ! 11 refl $ forget ! 13 refl $ forget ! 15 refl $ forget ! 17 refl $ forget ! 19 refl $ forget ! 21 refl $ forget ! 23 refl $
         move ! (23 ∷ 24 ∷ []) $ free1 ! $ move ! (21 ∷ 22 ∷ []) $ free1 ! $ move ! (19 ∷ 20 ∷ []) $ free1 ! $ move ! (17 ∷ 18 ∷ []) $ free1 ! $ move ! (15 ∷ 16 ∷ []) $ free1 ! $ move ! (13 ∷ 14 ∷ []) $ free1 ! $ move ! (11 ∷ 12 ∷ []) $ free1 ! $ move ! (9 ∷ 10 ∷ []) $ free1 ! $ move ! (7 ∷ 8 ∷ []) $ free1 ! $ move ! (5 ∷ 6 ∷ []) $ free1 ! $ move ! (3 ∷ 4 ∷ []) $ free1 ! $ free0 ! $
-        suffices ! _ (ends-at 𝓤 H A this.ended stayed (this.clauses 𝓤 H A mem run) W (((κ-nodes, (κ-book, (κ, tt))), (q-nodes, (q-book, (q, tt))), tt, (n, (s-nodes, (s-book, (s, tt)))), (vint w64 n ∷ [], (sliceVal (s-nodes .ptr) (length (s-nodes .now)) ∷ [], (sliceVal (s-book .ptr) (length (s-book .now)) ∷ [], (vptr b o ∷ [], tt))))), tt) w r (tt, (x .1 .0, (x .1 .1 .0, (v′, tt)))) (tt, (h .1 .0, (h .1 .1 .0, (tt, tt))))) $ says ! (subst (Opens n nodes book (x .1 .0) (x .1 .1 .0)) (sym (coded .0)) (h .1 .1 .1), coded .1) $
+        suffices ! _ (ends-at 𝓤 H A this.ended stayed (this.clauses 𝓤 H A mem run) W (((κ-nodes, (κ-book, (κ, tt))), (q-nodes, (q-book, (q, tt))), tt, (n, (s-nodes, (s-book, (s, tt)))), (vint w64 n ∷ [], (sliceVal (s-nodes .ptr) (length (s-nodes .now)) ∷ [], (sliceVal (s-book .ptr) (length (s-book .now)) ∷ [], (vptr b o ∷ [], tt))))), tt) w r (tt, (x .1 .0, (x .1 .1 .0, (v′, tt)))) (tt, (h .1 .0, (h .1 .1 .0, (tt, tt))))) $ says ! (subst (OpenRecords n nodes book (x .1 .0) (x .1 .1 .0)) (sym coded) (h .1 .1 .1)) $
         move ! (2 ∷ []) $ fsplit ! $ move ! (1 ∷ []) $ fsplit ! $ move ! (1 ∷ []) $ fsplit ! $ move ! (1 ∷ []) $ fsplit ! $ move ! (1 ∷ []) $ drop ! $ nothing ! $ move ! (5 ∷ 0 ∷ []) $ join ! $ move ! (2 ∷ 0 ∷ []) $ join ! $ move ! (3 ∷ 0 ∷ []) $ join ! $ frame ! $ nothing ! $ move ! (3 ∷ 0 ∷ []) $ fjoin ! $ move ! (1 ∷ 0 ∷ []) $ fjoin ! $ move ! (1 ∷ 0 ∷ []) $ fjoin ! $ nothing ! $ fjoin ! $ frame ! $ owned ! u8 (Is u8) (uint-makes 𝓤 H A W w8) r _ is $ done !)))))))))))))
 
 ring-open-meets : {M : Type 1} (𝓤 : URA M) (H : Heap 𝓤) (A : Atoms 𝓤) (W : Given 𝓤 H A) (mem : Memory → SProp 𝓤) (run : Routine → Fun 𝓤) (𝓣 : Tables 𝓤 H) → Triple 𝓤 (𝓣 .C call-def.name) (Call 𝓤 H A mem run) → Triple 𝓤 (𝓣 .C code-def.name) (Code 𝓤 H A mem run)
