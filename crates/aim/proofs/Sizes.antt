@@ -7,7 +7,7 @@ use Prim.Native.Nat.{ℕ, zero, suc, _+_, _-_, _*_, _≤_, _<_}
 use native.Mathlib.Omega.{arith}
 use borrow.Author.Tests.{leb-true}
 use lib.Dec.{leb}
-use lib.ListN.{length, drop, length-take, length-drop}
+use lib.ListN.{length, drop, getD, length-take, length-drop}
 use Rattle.orders.specs.Lists.{Pick, here, there, Rearranged, done, next, numbers-from, all-of, same}
 use Rattle.orders.specs.CircularOrder.{Restriction}
 use Rattle.orders.specs.Tree.{Forest}
@@ -90,3 +90,12 @@ group-within n t book count k f h l w e m =
       some-place = omega arith;
       few-places = omega (arith, form-length n t f);
     }
+
+-- Four words, one by one.
+pub four-listed : (ws : List ℕ) → length ws ≡ 4 → getD ws 0 0 ∷ getD ws 1 0 ∷ getD ws 2 0 ∷ getD ws 3 0 ∷ [] ≡ ws
+four-listed [] e = absurd (omega arith)
+four-listed (a ∷ []) e = absurd (omega arith)
+four-listed (a ∷ (b ∷ [])) e = absurd (omega arith)
+four-listed (a ∷ (b ∷ (c ∷ []))) e = absurd (omega arith)
+four-listed (a ∷ (b ∷ (c ∷ (d ∷ [])))) e = refl
+four-listed (a ∷ (b ∷ (c ∷ (d ∷ (f ∷ ws))))) e = absurd (omega arith)

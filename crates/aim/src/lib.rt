@@ -5,7 +5,7 @@ ghost use lib.ListN.{length};
 ghost use Rattle.orders.specs.Tree.{Forest};
 ghost use Rattle.orders.specs.Conflict.{consecutive?};
 ghost use Rattle.orders.specs.Aim.{start-after, aim-of};
-ghost use Rattle.marks.specs.Marks.{marked};
+ghost use Rattle.marks.specs.Marks.{marked, leaves-of};
 ghost use Rattle.tokens.specs.Tokens.{plain, encode};
 ghost use Rattle.calls.specs.Refusals.{report};
 ghost use Rattle.calls.specs.Promises.{AimPromise};
@@ -63,6 +63,14 @@ fn is_consecutive(words: &[u64], order: &[u16]) -> bool
     starts(words, last, order) <= 1
 }
 
+// How many leaves a group's four words mark.
+fn size(words: &[u64]) -> usize
+    requires { ⌜ length (now words) ≡ 4 ⌝ }
+    ensures { λ r. ⌜ r ≡ length (leaves-of (now (words .entry))) ⌝ }
+{
+    mark_sets::size(words[0], words[1], words[2], words[3])
+}
+
 // The leaf in the middle of the run of marked leaves, the first one of two.
 pub fn middle(words: &[u64], order: &[u16]) -> usize
     requires { ⌜ GroupWithin (now words) (now order) ⌝ }
@@ -70,7 +78,7 @@ pub fn middle(words: &[u64], order: &[u16]) -> usize
 {
     let last = order[order.len() - 1];
     let start = first_start(words, last, 0, order);
-    let size = mark_sets::size(words);
+    let size = size(words);
     order[(start + (size - 1) / 2) % order.len()] as usize
 }
 

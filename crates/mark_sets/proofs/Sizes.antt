@@ -55,3 +55,14 @@ count-words width (w ∷ ws) a p v h =
 pub size-is : (ws : List ℕ) → Words ws → sum-ones ws ≡ length (leaves-of ws)
 unfolding leaves-of
 size-is ws v = count-words 64 ws 1 (marked ws) v (λ i j l. ap (marked ws) (omega arith) ∙ marked-at ws i j l)
+
+pub four-words : (a b c d : ℕ) → a < 2 ^ 64 → b < 2 ^ 64 → c < 2 ^ 64 → d < 2 ^ 64
+    → ones a + ones b + ones c + ones d ≡ length (leaves-of (a ∷ b ∷ c ∷ d ∷ []))
+four-words a b c d p q r s = omega (arith, size-is (a ∷ b ∷ c ∷ d ∷ []) fits)
+  where
+    fits : Words (a ∷ b ∷ c ∷ d ∷ [])
+    fits zero = p
+    fits (suc zero) = q
+    fits (suc (suc zero)) = r
+    fits (suc (suc (suc zero))) = s
+    fits (suc (suc (suc (suc i)))) = omega arith

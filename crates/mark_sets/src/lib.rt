@@ -4,7 +4,7 @@ ghost use Prim.Native.Nat.{_≤_, _-_, _^_, min};
 ghost use lib.Count.{ones};
 ghost use lib.Dec.{leb};
 ghost use lib.ListN.{length};
-ghost use mathlib.Core.List.{[]};
+ghost use mathlib.Core.List.{[], _∷_};
 ghost use Rattle.orders.specs.Lists.{same, all-of};
 ghost use Rattle.marks.specs.Marks.{marked, words-of, leaves-of, outside};
 
@@ -80,16 +80,9 @@ fn count(word: u64) -> usize
     u64::count_ones(word) as usize
 }
 
-// How many leaves are marked, in at most 65536 words.
-pub fn size(words: &[u64]) -> usize
-    requires { ⌜ length (now words) ≤ 65536 ⌝ }
-    ensures { λ r. ⌜ r ≡ length (leaves-of (now (words .entry))) ⌝ }
+// How many leaves a group's four words mark.
+pub fn size(first: u64, second: u64, third: u64, fourth: u64) -> usize
+    ensures { λ r. ⌜ r ≡ length (leaves-of (first ∷ second ∷ third ∷ fourth ∷ [])) ⌝ }
 {
-    let mut sum: usize = 0;
-    let mut i = 0;
-    while i < words.len() {
-        sum += count(words[i]);
-        i += 1;
-    }
-    sum
+    count(first) + count(second) + count(third) + count(fourth)
 }

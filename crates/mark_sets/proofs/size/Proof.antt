@@ -1,65 +1,45 @@
--- The sum so far and the marks of the words to come are all of them.
-use Prim.Native.Nat.{_-_, _*_, _≤_, _+_}
 use native.Mathlib.Omega.{arith}
-use mathlib.Core.Path.{_≡_, ap}
-use native.Mathlib.Numerals.{add-one}
-use lib.ListN.{length, drop, drop-of-length-le}
-use lib.Seq.{drop-cons}
-use Rattle.mark_sets.proofs.Sizes.{sum-ones, size-is}
+use borrow.Author.Needs.{needs}
+use Rattle.mark_sets.proofs.Sizes.{four-words}
 use Rattle.mark_sets.proofs.size.Statement.{statement}
 use Rattle.mark_sets.proofs.size.Tie as tie
+use Rattle.mark_sets.proofs.size.Reads as reads
+use Rattle.mark_sets.proofs.size.Lts as lts
+use Rattle.mark_sets.proofs.count.Reads as count-reads
 
-abbrev Inv-loop : tie.InvT-loop
-Inv-loop words sum₀ i₀ sum i = (i ≤ length words) × (sum + sum-ones (drop i words) ≡ sum-ones words) × (sum ≤ 64 * i)
+count-requires : tie.Need-count-requires
+count-requires c κs = search needs
 
-abbrev μ-loop : tie.MeasureT-loop
-μ-loop words sum₀ i₀ sum i = length words - i
+count-requires-2 : tie.Need-count-requires-2
+count-requires-2 c κs = search needs
 
-loop-holds : tie.Need-loop-holds Inv-loop μ-loop
-loop-holds c = (omega arith, omega arith, omega arith)
+add-result : tie.Need-add-result
+add-result c = search needs
 
-mul-count : tie.Need-mul-count Inv-loop μ-loop
-mul-count c = omega arith
+count-requires-3 : tie.Need-count-requires-3
+count-requires-3 c κs = search needs
 
-shared-slice-read-count : tie.Need-shared-slice-read-count Inv-loop μ-loop
-shared-slice-read-count c = omega arith
+add-result-2 : tie.Need-add-result-2
+add-result-2 c = search needs
 
-count-requires : tie.Need-count-requires Inv-loop μ-loop
-count-requires c κs = omega arith
+count-requires-4 : tie.Need-count-requires-4
+count-requires-4 c κs = search needs
 
-add-sum : tie.Need-add-sum Inv-loop μ-loop
-add-sum c = omega (arith, c .count .ensures .1)
+add-result-3 : tie.Need-add-result-3
+add-result-3 c = search needs
 
-add-i : tie.Need-add-i Inv-loop μ-loop
-add-i c = omega arith
-
-loop-less : tie.Need-loop-less Inv-loop μ-loop
-loop-less c = omega arith
-
-loop-again : tie.Need-loop-again Inv-loop μ-loop
-loop-again c = (
-  omega arith,
-  rw add-one (omega (arith, c .before .before .before .loop .inv .1, c .count .ensures .0, ap sum-ones (drop-cons (c .before .before .before .before .before .args .words .now) (c .before .before .before .loop .i) 0 (omega arith)))),
-  omega (arith, c .count .ensures .1),
-)
-
-returns : tie.Need-returns Inv-loop μ-loop
-returns c =
-    let d = ap sum-ones (drop-of-length-le (c .before .before .before .args .words .now) {i = c .before .loop .i} (omega arith)) in
-    omega (arith, d, c .before .loop .inv .1, size-is (c .before .before .before .args .words .now) (λ k. c .before .before .shared-slice-known .given k .fits))
+returns : tie.Need-returns
+returns c = omega (arith, c .before .before .before .count .ensures .0, c .before .before .count2 .ensures .0, c .before .count3 .ensures .0, c .count4 .ensures .0, four-words _ _ _ _ (c .before .before .before .before .good .0 .1) (c .before .before .before .before .good .1 .0 .1) (c .before .before .before .before .good .1 .1 .0 .1) (c .before .before .before .before .good .1 .1 .1 .0 .1))
 
 pub size-spec : {M : Type 1} → statement M
 size-spec =
     tie.close
     (tie.spec
-    Inv-loop
-    μ-loop
-    loop-holds
-    mul-count
-    shared-slice-read-count
     count-requires
-    add-sum
-    add-i
-    loop-less
-    loop-again
+    count-requires-2
+    add-result
+    count-requires-3
+    add-result-2
+    count-requires-4
+    add-result-3
     returns)
