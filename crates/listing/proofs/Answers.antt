@@ -1,8 +1,8 @@
 -- The tree and the order after all lines; the error line; what a part answers.
 use mathlib.Core.Path.{_≡_, refl, sym, ap, subst, _∙_}
 use mathlib.Core.Logic.{_⊎_, inl, inr}
-use mathlib.Core.List.{List, [], _∷_, _++_, map, append-nil, append-assoc}
-use Prim.Native.Nat.{ℕ, suc, _+_, _-_, _≤_, _<_}
+use mathlib.Core.List.{List, [], _∷_, map}
+use Prim.Native.Nat.{ℕ, _-_, _≤_, _<_}
 use native.Mathlib.Omega.{arith}
 use lib.ListN.{length, getD, take, drop}
 use Rattle.orders.specs.Tree.{Forest}
@@ -11,7 +11,6 @@ use Rattle.orders.specs.TreeText.{digits}
 use Rattle.orders.specs.Circles.{bytes}
 use Rattle.orders.proofs.TextTree.{form-length}
 use Rattle.calls.specs.declared.Refusal.{Refusal}
-use Rattle.calls.specs.declared.Refusal.the-variants.{RingFile}
 use Rattle.calls.specs.Refusals.{reported}
 use Rattle.tokens.specs.Tokens.{tree, plain, Wrote}
 use Rattle.tokens.proofs.Sequences.{tree-plain}
@@ -19,9 +18,10 @@ use Rattle.tokens.proofs.Writes.{read-part}
 use Rattle.parts.specs.Writers.{flat}
 use Rattle.update.specs.Update.{Published}
 use Rattle.output.specs.Appends.{Appends}
+use Rattle.output.proofs.Laws.{appends-then}
 use Rattle.ringfile.specs.declared.Scanned.{Scanned}
 use Rattle.ringfile.specs.declared.Scanned.the-variants.{Ring, Refused}
-use Rattle.ringfile.specs.RingFile.{Value, file-bytes, Rules, leaves-on, RefusedAt, Accepted, FileHolds, Says}
+use Rattle.ringfile.specs.RingFile.{Value, leaves-on, RefusedAt, FileHolds, Says}
 use Rattle.ringfile.proofs.Answers.{ring-holds, refused-byte, refused-is, refused-at}
 use Rattle.syntax.proofs.Exact.{parts-once, not-both, one-byte}
 use Rattle.ledger.specs.Ledger.{RingState, opened, run, state-at}
@@ -30,11 +30,11 @@ use Rattle.ledger.proofs.Runs.{state-all}
 use Rattle.ledger.proofs.Files.{few-names, lists-length}
 use Rattle.fields.specs.Ordered.{Ordered}
 use Rattle.listing.specs.declared.Piece.{Piece}
-use Rattle.printing.specs.Listing.{listing, error-line, printed}
+use Rattle.printing.specs.Listing.{listing, error-line}
 use Rattle.printing.specs.Printing.{final, Final}
 use Rattle.listing.specs.Parts.{Parts}
 use Rattle.listing.specs.Lists.{Lists, accepted, too-long, malformed, Listed}
-use Rattle.listing.proofs.Parts.{shown-none}
+use Rattle.listing.proofs.Parts.{shown-none, shown-more, whole-part}
 
 -- The ring after all lines.
 module _ {x : List ℕ} {n h k : ℕ} (f : FileHolds x n h k) {toks book table : List ℕ} {m count : ℕ} (s : StandsAt f k toks m book table count) where
@@ -72,30 +72,13 @@ module _ {x : List ℕ} {n h k : ℕ} (f : FileHolds x n h k) {toks book table :
     pub is-ordered : Ordered n (take (j - 0) (drop 0 order))
     is-ordered = record { tree = t; form = final-form; is = order-read; some-leaf = some-leaf; few-leaves = few-names f }
 
--- Nothing is printed past the last line, or where there is no room.
-pub no-part : (ls : List (List ℕ)) (from : ℕ) (old : List ℕ) → (from < length ls → 4096 ≤ length old → ⊥)
-    → Parts ls from old old (record { bytes = 0; next = from })
-no-part ls from old h = record {
-  forward = omega arith;
-  wrote = shown-none ls from old;
-  some-line = λ l m. absurd (h l m);
-  last-line = λ l. l;
-}
-
 -- The error line.
-pub error-part : (byte from : ℕ) {old a b new : List ℕ} {i j r : ℕ} → (0 < from → ⊥) → Wrote [] old old 0 → Appends (bytes "error 11 at byte ") 0 old a i
+pub error-part : (byte : ℕ) {from : ℕ} {old a b new : List ℕ} {i j r : ℕ} → from ≡ 0 → 4096 ≤ length old → Appends (bytes "error 11 at byte ") 0 old a i
     → Appends (digits byte) i a b j → Appends (10 ∷ []) j b new r → Parts (error-line byte ∷ []) from old new (record { bytes = r; next = 1 })
 unfolding error-line
-error-part byte from {old} {a} {b} {new} {i} {j} {r} z v p q e =
-    let from-is : from ≡ 0 = omega arith in
-    let text : Wrote ((bytes "error 11 at byte " ++ digits byte) ++ (10 ∷ [])) old new r = e .after _ old (q .after _ old (p .after [] old v)) in
-    rw from-is
-    (record {
-      forward = omega arith;
-      wrote = text;
-      some-line = λ l m. omega arith;
-      last-line = λ l. omega arith;
-    })
+error-part byte {old = old} z h p q e =
+    let ls : List (List ℕ) = error-line byte ∷ [] in
+    rw z (whole-part ls 0 (omega arith) (omega arith) (shown-more ls 0 0 (omega arith) (omega arith) (shown-none ls 0 old) (appends-then p q) e))
 
 -- What the scan says, and what is printed.
 module _ {x : List ℕ} {r : Scanned} (s : Says x r) where
@@ -133,3 +116,13 @@ lists-once (too-long h) (malformed l w) = absurd (omega arith)
 lists-once {x} (malformed {p = p} h w) (accepted {ns = ns} {vss = vss} r b l) = absurd (not-both x p w (record { ns = ns; vss = vss; rules = r; bytes = b }))
 lists-once (malformed h w) (too-long l) = absurd (omega arith)
 lists-once {x} (malformed {p = p} h w) (malformed {p = q} l v) = ap (λ (b : ℕ). error-line b ∷ []) (one-byte x p q w v)
+
+-- What a part answers and writes is determined.
+pub listed-once : {x : List ℕ} {from : ℕ} {old new new′ : List ℕ} {p p′ : Piece} → Listed x from old new p → Listed x from old new′ p′ → (p ≡ p′) × (new ≡ new′)
+listed-once {x} {from} {old} {new} {new′} {p} {p′} a b = go (a .part) (subst (λ (ls : List (List ℕ)). Parts ls from old new′ p′) (lists-once (b .all-lines) (a .all-lines)) (b .part))
+  where
+    go : Parts (a .lines) from old new p → Parts (a .lines) from old new′ p′ → (p ≡ p′) × (new ≡ new′)
+    go v w = (piece (v .wrote .many ∙ sym (w .wrote .many)) (v .after ∙ sym (w .after)), v .wrote .text ∙ sym (w .wrote .text))
+      where
+        piece : p .bytes ≡ p′ .bytes → p .next ≡ p′ .next → p ≡ p′
+        piece c d = ap (λ (m : ℕ). record { bytes = m; next = p .next }) c ∙ ap (λ (m : ℕ). record { bytes = p′ .bytes; next = m }) d

@@ -1,17 +1,17 @@
 -- The printed lines by their numbers, and the ring after so many group lines.
-use mathlib.Core.Path.{_≡_, refl, sym, ap, _∙_}
-use mathlib.Core.List.{List, [], _∷_, _++_, append-assoc}
-use Prim.Native.Nat.{ℕ, zero, suc, _+_, _-_, _≤_, _<_}
+use mathlib.Core.Path.{_≡_, refl, ap, _∙_}
+use mathlib.Core.List.{List, [], _∷_, _++_}
+use Prim.Native.Nat.{ℕ, zero, suc, _+_, _<_}
 use native.Mathlib.Omega.{arith}
 use native.Mathlib.Numerals.{add-one}
-use lib.ListN.{length, getD, take, drop, length-append, length-drop, List·getD-append}
-use lib.Seq.{take-length, take-suc, getD-append-add, getD-drop}
+use lib.ListN.{length, getD, take, length-append, List·getD-append}
+use lib.Seq.{getD-append-add}
 use Rattle.orders.specs.Form.{standard}
 use Rattle.orders.specs.TreeText.{digits}
 use Rattle.orders.specs.Circles.{bytes}
 use Rattle.ledger.specs.Ledger.{RingState, opened, outcome, next, run, state-at}
 use Rattle.fields.specs.Fields.{fields}
-use Rattle.printing.specs.Listing.{group-lines, listing, printed}
+use Rattle.printing.specs.Listing.{group-lines, listing}
 use Rattle.printing.specs.Printing.{group-line, final, ending}
 
 -- The group lines.
@@ -75,19 +75,3 @@ module _ (names lists : List (List ℕ)) where
   end-line j =
       let e : length lists + 1 + j ≡ suc (length groups-printed + j) = omega (arith, groups-length) in
       rw (parts, e) (getD-append-add groups-printed (ending names (final names lists)) j [])
-
--- One printed line more.
-printed-append : (a b : List (List ℕ)) → printed (a ++ b) ≡ printed a ++ printed b
-printed-append [] b = refl
-printed-append (x ∷ a) b = ap (λ (l : List ℕ). x ++ (10 ∷ l)) (printed-append a b) ∙ simp append-assoc
-
-pub printed-none : (from : ℕ) (ls : List (List ℕ)) → printed (take (from - from) (drop from ls)) ≡ []
-printed-none from ls = let e : from - from ≡ 0 = omega arith in rw e
-
-pub printed-more : (from i : ℕ) (ls : List (List ℕ)) → from ≤ i → i < length ls
-    → printed (take (i + 1 - from) (drop from ls)) ≡ printed (take (i - from) (drop from ls)) ++ (getD ls i [] ++ (10 ∷ []))
-printed-more from i ls h l =
-    let e : i + 1 - from ≡ suc (i - from) = omega arith in
-    let f : from + (i - from) ≡ i = omega arith in
-    rw (e, take-suc (drop from ls) (i - from) [] (omega (arith, length-drop from ls)), getD-drop from ls (i - from) [], f)
-    (printed-append (take (i - from) (drop from ls)) (getD ls i [] ∷ []))

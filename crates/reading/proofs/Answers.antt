@@ -1,19 +1,19 @@
 -- What the reader finds, from the scanner's answer and the byte of a broken rule.
-use mathlib.Core.Path.{_≡_, refl, _∙_, ap}
+use mathlib.Core.Path.{_≡_, _∙_, ap}
 use mathlib.Core.Bool.{true, false}
 use mathlib.Core.List.{List, [], _∷_}
 use Prim.Native.Nat.{ℕ, _*_, _-_, _≤_}
 use native.Mathlib.Omega.{arith}
 use lib.ListN.{take}
-use Rattle.orders.specs.Tree.{C, Forest}
-use Rattle.orders.specs.TreeText.{tree-text, Shaped, tree, refused, Reads, accepted, no-shape, breaks-rule}
+use Rattle.orders.specs.Tree.{C}
+use Rattle.orders.specs.TreeText.{tree-text, tree, refused, Reads, accepted, no-shape}
 use Rattle.orders.specs.Join.{fresh}
 use Rattle.orders.proofs.Fresh.{fresh-form}
 use Rattle.scanner.specs.Scan.{lit, start, run-at}
 use Rattle.scanner.specs.Rule.{broken-at}
 use Rattle.scanner.proofs.Exact.{refused-shape, accepted-shape, start-word, short-tree}
-use Rattle.scanner.proofs.Rule.{Least, fine, worst, broken-least}
-use Rattle.scanner.proofs.Canonical.{keeps-form}
+use Rattle.scanner.proofs.Rule.{broken-least}
+use Rattle.scanner.proofs.Outcomes.{ruled}
 use Rattle.leaves.specs.declared.Reached.{Reached}
 use Rattle.shape.specs.Texts.{WordRead}
 use Rattle.shape.specs.Texts.{Spelled}
@@ -35,13 +35,9 @@ module _ (n : ℕ) (h : 1 ≤ n) (g : n ≤ 2) (x : List ℕ) (r : Reached) wher
       accepted (fresh-form n) (s .bytes ∙ ap tree-text (short-tree n h g (s .tree) (s .shaped)))
 
 -- The rules.
-judged : (n : ℕ) (x : List ℕ) (t : Forest) → Shaped n t → x ≡ tree-text t → (p : ℕ) → Least C 0 2 t p → ((p ≡ 0 → ⊥) → Reads n x (refused p)) × (p ≡ 0 → Reads n x (tree t))
-judged n x t s b _ (fine h) = (λ z. absurd (z refl), λ z. accepted (keeps-form n t s h) b)
-judged n x t s b _ (worst p l w q) = (λ z. breaks-rule s b (record { broken = w; least = q }), λ z. absurd (omega arith))
-
 module _ (n : ℕ) (x : List ℕ) {old new : List ℕ} {k : ℕ} (s : Spelled n x old new k) (p : ℕ) (e : p ≡ broken-at C 0 2 (s .shown)) where
   found : ((p ≡ 0 → ⊥) → Reads n x (refused p)) × (p ≡ 0 → Reads n x (tree (s .shown)))
-  found = judged n x (s .shown) (s .shaped) (s .bytes) p (rw e (broken-least (s .shown) C 0 2 (omega arith)))
+  found = ruled n x (s .shown) (s .shaped) (s .bytes) p (rw e (broken-least (s .shown) C 0 2 (omega arith)))
 
   pub rule-broken : (p ≡ 0 → ⊥) → Reads n x (refused p)
   rule-broken = found .0

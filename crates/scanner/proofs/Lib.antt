@@ -5,5 +5,6 @@ pub mod Derivative
 pub mod Exact
 pub mod Rule
 pub mod Canonical
+pub mod Outcomes
 pub mod Numbers
 pub mod Moves

@@ -1,18 +1,16 @@
 -- "A tree written and read is the same tree; an accepted text written again is the same text": over what the calls' contracts say.
 use mathlib.Core.Path.{_≡_, refl, sym, _∙_, ap, subst}
-use mathlib.Core.Logic.{_⊎_, inl, inr}
 use mathlib.Core.Option.{Option, none, some}
-use mathlib.Core.List.{List, _++_, append-assoc}
-use Prim.Native.Nat.{ℕ, suc, _≤_, _<_}
+use mathlib.Core.List.{List, append-assoc}
+use Prim.Native.Nat.{ℕ, _≤_}
 use native.Mathlib.Omega.{arith}
 use borrow.Author.Tests.{le-ltb}
-use lib.ListN.{length, take, drop, length-append, length-drop, take-append-drop}
+use lib.ListN.{length, take, drop, length-append}
 use lib.Seq.{take-append-seam}
-use Rattle.orders.specs.Tree.{Kind, P, C, Forest, leaf, node, items, rev}
-use Rattle.orders.specs.Form.{first, Rises, Rising, Canonical, InForm}
-use Rattle.orders.specs.TreeText.{digits, tree-text, Shaped, ShapeText, ShapeRefused, at-byte, at-end, Breaks, leaf-falls, node-falls, wrong-way, inside, after-leaf, after-node, Found, tree, Reads, accepted, no-shape, breaks-rule}
-use Rattle.orders.proofs.Forms.{form-forked}
-use Rattle.orders.proofs.TextTree.{text-injective}
+use Rattle.orders.specs.Tree.{Forest}
+use Rattle.orders.specs.Form.{InForm}
+use Rattle.orders.specs.TreeText.{tree-text, Found, tree, Reads, accepted}
+use Rattle.orders.proofs.TextOnce.{reads-once}
 use Rattle.calls.specs.declared.Refusal.{Refusal}
 use Rattle.calls.specs.declared.Refusal.the-variants.{TreeText}
 use Rattle.calls.specs.Tables.{over, padded}
@@ -26,48 +24,6 @@ use Rattle.calls.proofs.Demands.{size-fine, nodes-fine}
 use Rattle.calls.proofs.Reports.{refused-number}
 use Rattle.checks.specs.Lent.{TableLent}
 use Rattle.checks.proofs.Laws.{tables-lent}
-
--- ---- a text has one reading where it is the text of a tree in form
-
--- The items of a P-node rise, after one whose first leaf is m (0: after none).
-abbrev Fits : Kind → ℕ → Forest → Type 0
-Fits P m f = ((m ≡ 0) × Rising (items f)) ⊎ Rises m (items f)
-Fits C m f = Unit {0}
-
-not-less : (m : ℕ) (b : ℕ) → ((m ≡ 0) ⊎ (m < b)) → b < m → ⊥
-not-less m b (inl e) h = omega arith
-not-less m b (inr l) h = omega arith
-
-leaf-fits : (m b : ℕ) (f : Forest) → Fits P m (leaf b f) → ((m ≡ 0) ⊎ (m < b)) × Fits P b f
-leaf-fits m b f (inl r) = (inl (r .0), inr (r .1))
-leaf-fits m b f (inr r) = (inr (r .0), inr (r .1))
-
-node-fits : (m : ℕ) (k : Kind) (i f : Forest) → Fits P m (node k i f) → ((m ≡ 0) ⊎ (m < first i)) × Fits P (first i) f
-node-fits m k i f (inl r) = (inl (r .0), inr (r .1))
-node-fits m k i f (inr r) = (inr (r .0), inr (r .1))
-
-keeps-rules : {k : Kind} {m o p : ℕ} {f : Forest} → Canonical f → Fits k m f → Breaks k m o f p → ⊥
-keeps-rules {m = m} c g (leaf-falls {b = b} {f = f} h) = not-less m b (leaf-fits m b f g .0) h
-keeps-rules {m = m} c g (node-falls {k = j} {i = i} {f = f} h) = not-less m (first i) (node-fits m j i f g .0) h
-keeps-rules c g (wrong-way h) = omega (arith, c .0 .0 .1)
-keeps-rules c g (inside {j = P} w) = keeps-rules (c .0 .1) (inl (refl, c .0 .0 .1)) w
-keeps-rules c g (inside {j = C} w) = keeps-rules (c .0 .1) tt w
-keeps-rules {m = m} c g (after-leaf {k = P} {b = b} {f = f} w) = keeps-rules c (leaf-fits m b f g .1) w
-keeps-rules c g (after-leaf {k = C} w) = keeps-rules c tt w
-keeps-rules {m = m} c g (after-node {k = P} {j = j} {i = i} {f = f} w) = keeps-rules (c .1) (node-fits m j i f g .1) w
-keeps-rules c g (after-node {k = C} w) = keeps-rules (c .1) tt w
-
-shape-text : (n : ℕ) (t : Forest) → InForm n t → ShapeText n (tree-text t)
-shape-text n t f = record { tree = t; shaped = record { single = f .single; forked = form-forked n t f; all-leaves = f .all-leaves }; bytes = refl }
-
-not-refused : (n : ℕ) (x : List ℕ) (p : ℕ) → ShapeText n x → ShapeRefused n x p → ⊥
-not-refused n x p s (at-byte h b g) = g (drop (suc p) x, subst (ShapeText n) (sym (take-append-drop (suc p) x)) s)
-not-refused n x p s (at-end e b g) = g s
-
-pub reads-one : (n : ℕ) (t : Forest) → InForm n t → (f : Found) → Reads n (tree-text t) f → f ≡ tree t
-reads-one n t g f (accepted {t = u} h e) = ap tree (sym (text-injective t u e))
-reads-one n t g f (no-shape s) = absurd (not-refused n (tree-text t) _ (shape-text n t g) s)
-reads-one n t g f (breaks-rule {t = u} s e r) = absurd (keeps-rules {k = C} {m = 0} (subst Canonical (text-injective t u e) (g .canonical)) tt (r .broken))
 
 -- ---- written, then read
 
@@ -97,7 +53,7 @@ unfolding read-outcome
 written-read n have nodes t h bytes new m e have₂ nodes₂ book₂ o y (unread p) = absurd (let q = sym p ∙ o in let z : _≡_ {A = ℕ} 0 1 = cc in omega arith)
 written-read n have nodes t h bytes new m e have₂ nodes₂ book₂ o y (read {f = f} p r) =
     subst (λ g. (read-outcome g nodes₂ book₂ .answer ≡ reply 0 0) × Holds n (read-outcome g nodes₂ book₂ .nodes) t × (read-outcome g nodes₂ book₂ .book ≡ emptied book₂))
-    (sym (reads-one n t (h .tree .in-form) f (subst (λ x. Reads n x f) (written-text n have nodes t h bytes new m e) r)))
+    (reads-once (accepted (h .tree .in-form) refl) (subst (λ x. Reads n x f) (written-text n have nodes t h bytes new m e) r))
     (held n t nodes₂ book₂ (h .tree .in-form) (h .few-leaves))
   where
     held : (n : ℕ) (t : Forest) (nodes book : List ℕ) → InForm n t → n ≤ 256

@@ -1,6 +1,6 @@
 use native.Mathlib.Omega.{arith}
-use Rattle.tokens.proofs.Writes.{wrote-none}
-use Rattle.listing.proofs.Answers.{no-part, error-part}
+use Rattle.listing.proofs.Parts.{shown-none, short-part, whole-part}
+use Rattle.listing.proofs.Answers.{error-part}
 use borrow.Author.Needs.{needs}
 use Rattle.listing.proofs.print_error.Statement.{statement}
 use Rattle.listing.proofs.print_error.Tie as tie
@@ -10,10 +10,10 @@ use Rattle.output.proofs.put.Reads as put-reads
 use Rattle.output.proofs.put_number.Reads as put-number-reads
 
 returns : tie.Need-returns
-returns c = no-part _ _ _ (λ l m. omega (arith, c .if1 .taken))
+returns c = whole-part _ _ (omega (arith, c .if1 .taken)) (omega arith) (shown-none _ _ _)
 
 returns-2 : tie.Need-returns-2
-returns-2 c = no-part _ _ _ (λ l m. omega (arith, c .if2 .taken))
+returns-2 c = short-part _ _ (omega (arith, c .if2 .taken)) (shown-none _ _ _)
 
 slice-aggregate-put : tie.Need-slice-aggregate-put
 slice-aggregate-put c = search needs
@@ -34,7 +34,7 @@ same-length : tie.Need-same-length
 same-length c = search needs
 
 returns-3 : tie.Need-returns-3
-returns-3 c = error-part (c .before .before .before .before .before .before .before .before .before .before .before .before .before .before .before .before .before .args .byte) (c .before .before .before .before .before .before .before .before .before .before .before .before .before .before .before .before .before .args .from) (λ z. omega (arith, c .before .before .before .before .before .before .before .before .before .before .before .before .before .before .before .if1 .left, z)) (wrote-none _) (c .before .before .before .before .before .before .before .before .before .before .before .put .ensures) (c .before .before .before .before .before .before .before .put-number .ensures .1) (c .before .before .put2 .ensures)
+returns-3 c = error-part (c .before .before .before .before .before .before .before .before .before .before .before .before .before .before .before .before .before .args .byte) (omega (arith, c .before .before .before .before .before .before .before .before .before .before .before .before .before .before .before .if1 .left)) (omega (arith, c .before .before .before .before .before .before .before .before .before .before .before .before .before .before .if2 .left)) (c .before .before .before .before .before .before .before .before .before .before .before .put .ensures) (c .before .before .before .before .before .before .before .put-number .ensures .1) (c .before .before .put2 .ensures)
 
 pub print-error-spec : {M : Type 1} → statement M
 print-error-spec =
