@@ -85,15 +85,17 @@ uint8_t tokuwhape_read(size_t n, tokuwhape_node *nodes, size_t numbers, uint64_t
                        size_t *value);
 
 /* Reads a ring file through. *value: how many names, which is n; *head: the bytes of the names line with its line end; *lines: how many
- * lines of values. Where it is refused, *head and *lines are 0. */
+ * lines of values. Where it is refused (11), *value is the byte, and *head and *lines are 0. Call it first: the two below refuse nothing. */
 uint8_t tokuwhape_scan(const uint8_t *file, size_t length, size_t *head, size_t *lines, size_t *value);
 
 /* Returns the length, 1 to 8, of the name of bin k + 1 in a file that tokuwhape_scan accepts with more than k names. *start: its first
- * byte. Of any other file or number, some part of the file. */
+ * byte. Of any bytes and any k it is word k, from 0, of the first line, parted at spaces; 0 and *start 0 where there is no such word. */
 size_t tokuwhape_name(const uint8_t *file, size_t length, size_t k, size_t *start);
 
 /* Writes the bins, rising, of value line `line`, from 0, to list and returns how many: of a file that tokuwhape_scan accepts with these
- * names and this head and with more than `line` lines. With fewer than `names` places it writes nothing and returns 0. */
+ * names and this head and with more than `line` lines. Of any bytes and any numbers the line is the 2 * names bytes from
+ * head + line * 2 * names on. Where it does not stand whole in the file, names is above 256, or there are fewer than `names` places, it
+ * writes nothing and returns 0. */
 size_t tokuwhape_group(const uint8_t *file, size_t length, size_t names, size_t head, size_t line, uint16_t *list, size_t places);
 
 #ifdef __cplusplus

@@ -112,6 +112,8 @@ static void files(void) {
     HOLDS(head == 7 && lines == 2);
     HOLDS(tokuwhape_name(at, 19, 1, &start) == 2 && start == 2);
     HOLDS(tokuwhape_group(at, 19, 3, head, 0, list, 2) == 0 && list[0] == 9);
+    HOLDS(tokuwhape_name(at, 19, 3, &start) == 0 && start == 0);
+    HOLDS(tokuwhape_group(at, 19, 3, 65537, 0, list, 3) == 0 && tokuwhape_group(at, 19, 3, head, 2, list, 3) == 0 && list[0] == 9);
     HOLDS(tokuwhape_group(at, 19, 3, head, 0, list, 3) == 2 && list[0] == 1 && list[1] == 3);
 }
 

@@ -1,17 +1,19 @@
 //! Safe calls to the proved planner of a bag ring.
 //!
-//! The functions of this crate pass lent tables on to the archive that `rt staticlib exports` makes; [`Ring`] owns its tables. What each call
-//! answers, refuses and writes is proved in the Rattle crate `exports`.
+//! The functions of this crate pass lent tables on to the archive that `rt staticlib exports` makes; [`Ring`] owns its tables, and [`RingFile`]
+//! is a file that was read through first. What each call answers, refuses and writes is proved in the Rattle crate `exports`.
 //!
 //! A ring is its number of leaves n (document 01's bins), a node table, a book of mark words and the count of groups in the book. Longer
 //! tables than the sizes below may be lent: what stands past the stated size is never touched. A refusal leaves every table as it was.
 
 mod refusal;
 mod ring;
+mod ring_file;
 pub mod symbols;
 
 pub use refusal::Refusal;
 pub use ring::Ring;
+pub use ring_file::RingFile;
 
 /// Leaves of the largest ring.
 pub const LEAVES: usize = 256;
@@ -130,22 +132,24 @@ pub fn read(n: usize, nodes: &mut [Node], book: &mut [u64], text: &[u8]) -> Resu
     })
 }
 
-/// Reads a ring file through. Returns what it holds.
+/// Reads a ring file through. Returns what it holds; a malformed file is refused with its byte, from 0. [`RingFile::read`] does this first.
 pub fn scan(file: &[u8]) -> Result<File, Refusal> {
     let (mut head, mut lines) = (0, 0);
     let names = answer(|value| unsafe { symbols::tokuwhape_scan(file.as_ptr(), file.len(), &mut head, &mut lines, value) })?;
     Ok(File { names, head, lines })
 }
 
-/// Returns the name of leaf k + 1 of an accepted file with more than k names; of any other file or number, some part of the file.
+/// Returns the name of leaf k + 1 of an accepted file, as the part of the names line that it fills. Of any bytes it is word k of the first line,
+/// parted at spaces; no byte of their start where there is no such word.
 pub fn name_of(file: &[u8], k: usize) -> &[u8] {
     let mut start = 0;
     let length = unsafe { symbols::tokuwhape_name(file.as_ptr(), file.len(), k, &mut start) };
     &file[start..start + length]
 }
 
-/// Writes the leaves, rising, of value line `line`, from 0, and returns how many: of an accepted file that holds `shape` and more than `line`
-/// lines. With fewer places than the file has names it writes nothing and returns 0.
+/// Writes the leaves, rising, of value line `line`, from 0, of an accepted file that holds `shape`, and returns how many. Of any bytes and numbers
+/// the line is that of 2 bytes for each of up to 256 names. Where it does not stand whole in the file, or the list has fewer places than there
+/// are names, nothing is written and 0 is returned. (`shape.lines` is not looked at.)
 pub fn group_of(file: &[u8], shape: File, line: usize, list: &mut [u16]) -> usize {
     let File { names, head, .. } = shape;
     unsafe { symbols::tokuwhape_group(file.as_ptr(), file.len(), names, head, line, list.as_mut_ptr(), list.len()) }

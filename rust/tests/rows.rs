@@ -1,7 +1,7 @@
 //! Circle e of document 01: its node table in numbers, lent to the archive's functions with any count of them; its conflicts; ring files; and a
 //! ring that owns its tables.
 use tokuwhape::symbols::*;
-use tokuwhape::{Node, Refusal, Ring};
+use tokuwhape::{File, Node, Refusal, Ring, RingFile};
 
 /// Numbers of a node table.
 const NUMBERS: usize = 256 * 257;
@@ -132,6 +132,25 @@ fn ring_files() {
     assert_eq!(list[..2], [1, 3]);
     assert_eq!(tokuwhape::group_of(file, shape, 1, &mut list), 0);
     assert_eq!(tokuwhape::group_of(file, shape, 0, &mut list[..2]), 0);
+    assert_eq!(tokuwhape::group_of(file, shape, 2, &mut list), 0);
+    assert_eq!(tokuwhape::group_of(file, File { head: 65_537, ..shape }, 0, &mut list), 0);
+    assert_eq!(tokuwhape::group_of(file, shape, usize::MAX, &mut list), 0);
+    assert_eq!(
+        (tokuwhape::name_of(file, 3), tokuwhape::name_of(b"A ", 1), tokuwhape::name_of(b"A _b", 1)),
+        (&b""[..], &b""[..], &b"_b"[..])
+    );
+}
+
+#[test]
+fn a_ring_file_is_read_first() {
+    assert_eq!(RingFile::read(b"A B\n1 2\n"), Err(Refusal::RingFile(6)));
+    let file = RingFile::read(b"A Bo C\n1 - 1\n0 0 0\n").unwrap();
+    assert_eq!((file.names(), file.lines()), (3, 2));
+    assert_eq!((file.name(1), file.name(3)), (Some(&b"Bo"[..]), None));
+    assert_eq!((file.group(0), file.group(1), file.group(2)), (Some(vec![1, 3]), Some(vec![]), None));
+    let mut ring = file.ring();
+    assert_eq!(ring.join(&file.group(0).unwrap()), Ok(1));
+    assert_eq!(ring.text(), "1 P(2 3)");
 }
 
 #[test]

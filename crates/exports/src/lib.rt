@@ -2,14 +2,13 @@
 // and writes one number through `value`: its own answer; or the place or byte of the refusal, 0 where the table names none. Each is handed on from
 // the crate named, with its contract.
 ghost use mathlib.Core.Path.{_≡_};
-ghost use mathlib.Core.List.{List, []};
-ghost use Prim.Native.Nat.{ℕ, _+_, _/_, _≤_, _<_};
-ghost use lib.ListN.{length, getD};
+ghost use mathlib.Core.List.{[], _∷_};
+ghost use Prim.Native.Nat.{_/_, _≤_};
+ghost use lib.ListN.{length};
 ghost use Rattle.calls.specs.Refusals.{reply};
 ghost use Rattle.calls.specs.Promises.{OpenPromise, JoinPromise, TrialPromise, OrderPromise, AimPromise, WritePromise, ReadPromise, ConflictPromise};
 ghost use Rattle.tokens.specs.Tokens.{Wrote};
-ghost use Rattle.ringfile.specs.RingFile.{Value, line, file-bytes, NameAt, leaves-on, Rules, Says};
-ghost use Rattle.coded_file.specs.Scan.{scanned, ScanCoded};
+ghost use Rattle.ringfile.specs.RingFile.{name-in, name-start, group-for, Says};
 
 // Opens a ring of n leaves: its node table gets the fresh tree, and its book is emptied. The value is the count of groups, 0.
 #[no_mangle]
@@ -124,7 +123,8 @@ pub extern "C" fn tokuwhape_conflict(
     coded_conflict::conflict(n, book, count, list, conflicts, value)
 }
 
-// Reads a ring file. The value is how many names it has; the names line's bytes and the count of value lines are written too.
+// Reads a ring file. The value is how many names it has; the names line's bytes and the count of value lines are written too. Refused, with
+// 11: the value is the byte, and the other two are 0.
 #[no_mangle]
 pub extern "C" fn tokuwhape_scan(
     file: &[u8],
@@ -132,25 +132,22 @@ pub extern "C" fn tokuwhape_scan(
     lines: &mut usize,
     value: &mut usize,
 ) -> u8
-    ensures { λ r. ⌜ Says (now (file .entry)) (scanned r (now (value .exit)) (now (head .exit)) (now (lines .exit)))
-        × ScanCoded r (now (value .exit)) (now (head .exit)) (now (lines .exit)) ⌝ }
+    ensures { λ r. ⌜ Says (now (file .entry)) (r ∷ now (value .exit) ∷ now (head .exit) ∷ now (lines .exit) ∷ []) ⌝ }
 {
     coded_file::scan(file, head, lines, value)
 }
 
-// Where name number k, from 0, of an accepted file stands: returns how many bytes it has, and writes the first one's number. Of another file or
-// number it is some part of the file.
+// Where name number k, from 0, stands, word number k of the first line: returns how many bytes it has, and writes the first one's number. 0 and
+// 0 where there is no such word.
 #[no_mangle]
 pub extern "C" fn tokuwhape_name(file: &[u8], k: usize, start: &mut usize) -> usize
-    ensures { λ r. ⌜ ((ns : List (List ℕ)) (vss : List (List Value)) → Rules ns vss → now (file .entry) ≡ file-bytes ns vss → k < length ns
-        → NameAt (now (file .entry)) ns k (now (start .exit)) r) ⌝ }
-    ensures { λ r. ⌜ now (start .exit) + r ≤ length (now (file .entry)) ⌝ }
+    ensures { λ r. ⌜ (now (start .exit) ≡ name-start (now (file .entry)) k) × (r ≡ length (name-in (now (file .entry)) k)) ⌝ }
 {
     coded_file::name(file, k, start)
 }
 
-// Writes the group of value line l, from 0, of an accepted file with so many names and a names line of head bytes to the start of the list: its
-// leaves, rising. Returns how many.
+// Writes the group of value line l, from 0, in a file with so many names and a names line of head bytes, to the start of the list: its leaves,
+// rising. Returns how many. Nothing is written where there is no such line, or the list has fewer places than there are names.
 #[no_mangle]
 pub extern "C" fn tokuwhape_group(
     file: &[u8],
@@ -159,11 +156,8 @@ pub extern "C" fn tokuwhape_group(
     l: usize,
     list: &mut [u16],
 ) -> usize
-    ensures { λ r. ⌜ ((ns : List (List ℕ)) (vss : List (List Value)) → Rules ns vss → now (file .entry) ≡ file-bytes ns vss
-        → length (now (file .entry)) ≤ 65536 → names ≡ length ns → head ≡ length (line ns) → l < length vss
-        → length ns ≤ length (now (list .entry)) → Wrote (leaves-on (getD vss l [])) (now (list .entry)) (now (list .exit)) r) ⌝ }
-    ensures { λ r. ⌜ r ≤ 256 ⌝ }
-    ensures { λ r. ⌜ (length (now (list .entry)) < names → (r ≡ 0) × (now (list .exit) ≡ now (list .entry))) ⌝ }
+    ensures { λ r. ⌜ Wrote (group-for (length (now (list .entry))) (now (file .entry)) names head l) (now (list .entry)) (now (list .exit)) r ⌝ }
+    ensures { λ r. ⌜ r ≤ length (now (list .entry)) ⌝ }
 {
     coded_file::group(file, names, head, l, list)
 }

@@ -6,7 +6,8 @@ use native.Mathlib.Omega.{arith}
 use lib.ListN.{length, getD, length-map, List·getD-map}
 use Rattle.orders.specs.Lists.{All}
 use Rattle.ringfile.specs.RingFile.{Value, leaves-on, FileHolds}
-use Rattle.ringfile.proofs.Groups.{leaves-different, leaves-within, line-length}
+use Rattle.ringfile.proofs.Values.{line-length}
+use Rattle.ringfile.proofs.Groups.{leaves-different, leaves-within}
 use Rattle.ledger.specs.Ledger.{RingState, opened, outcome, next, state-at}
 use Rattle.ledger.specs.Stands.{RingStands, Line, lists-of, StandsAt}
 use Rattle.ledger.proofs.Runs.{state-none, state-more}

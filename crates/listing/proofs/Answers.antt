@@ -21,9 +21,10 @@ use Rattle.output.specs.Appends.{Appends}
 use Rattle.output.proofs.Laws.{appends-then}
 use Rattle.ringfile.specs.declared.Scanned.{Scanned}
 use Rattle.ringfile.specs.declared.Scanned.the-variants.{Ring, Refused}
-use Rattle.ringfile.specs.RingFile.{Value, leaves-on, RefusedAt, FileHolds, Says}
-use Rattle.ringfile.proofs.Answers.{ring-holds, refused-byte, refused-is, refused-at}
-use Rattle.syntax.proofs.Exact.{parts-once, not-both, one-byte}
+use Rattle.ringfile.specs.RingFile.{Value, leaves-on, Accepted, FileRefused, FileHolds, Says, told}
+use Rattle.ringfile.proofs.Answers.{ring-holds, refused-at}
+use Rattle.orders.proofs.FirstByte.{not-refused, refused-once}
+use Rattle.syntax.proofs.Exact.{parts-once}
 use Rattle.ledger.specs.Ledger.{RingState, opened, run, state-at}
 use Rattle.ledger.specs.Stands.{lists-of, StandsAt}
 use Rattle.ledger.proofs.Runs.{state-all}
@@ -81,9 +82,9 @@ error-part byte {old = old} z h p q e =
     rw z (whole-part ls 0 (omega arith) (omega arith) (shown-more ls 0 0 (omega arith) (omega arith) (shown-none ls 0 old) (appends-then p q) e))
 
 -- What the scan says, and what is printed.
-module _ {x : List ℕ} {r : Scanned} (s : Says x r) where
+module _ {x : List ℕ} {r : Scanned} (s : Says x (told r)) where
   pub found-ring : {n h l : ℕ} → r ≡ Ring n h l → FileHolds x n h l
-  found-ring e = ring-holds (subst (Says x) e s)
+  found-ring e = ring-holds (subst (λ (q : Scanned). Says x (told q)) e s)
 
   pub found-listed : {n h l from : ℕ} {old new : List ℕ} {p : Piece} (e : r ≡ Ring n h l)
       → ((f : FileHolds x n h l) → Parts (listing (f .ns) (lists-of f)) from old new p) → Listed x from old new p
@@ -91,15 +92,12 @@ module _ {x : List ℕ} {r : Scanned} (s : Says x r) where
       let f = found-ring e in
       record { lines = listing (f .ns) (lists-of f); all-lines = accepted (f .rules) (f .bytes) (f .size); part = w f }
 
-  pub refused-listed : {why : Refusal} {from byte : ℕ} {old new : List ℕ} {p : Piece} → r ≡ Refused why → byte ≡ getD (reported why) 1 0
+  pub refused-listed : {why : Refusal} {from byte : ℕ} {old new : List ℕ} {p : Piece} → r ≡ Refused why → byte ≡ reported why .value
       → Parts (error-line byte ∷ []) from old new p → Listed x from old new p
   refused-listed {why} {from} {byte} {old} {new} {p} e b w =
-      let q = subst (Says x) e s in
-      let i = refused-is q in
-      let b′ : byte ≡ refused-byte q = b ∙ ap (λ (v : Refusal). getD (reported v) 1 0) i in
-      record { lines = error-line byte ∷ []; all-lines = go (refused-at (subst (λ (v : Refusal). Says x (Refused v)) i q)) b′; part = w }
+      record { lines = error-line byte ∷ []; all-lines = go (refused-at (subst (λ (q : Scanned). Says x (told q)) e s)) b; part = w }
     where
-      go : {j : ℕ} → ((65536 < length x) × (j ≡ 65536)) ⊎ ((length x ≤ 65536) × RefusedAt x j) → byte ≡ j → Lists x (error-line byte ∷ [])
+      go : {j : ℕ} → ((65536 < length x) × (j ≡ 65536)) ⊎ ((length x ≤ 65536) × FileRefused x j) → byte ≡ j → Lists x (error-line byte ∷ [])
       go (inl h) c = rw (c ∙ h .1) (too-long (h .0))
       go (inr h) c = rw c (malformed (h .0) (h .1))
 
@@ -109,13 +107,13 @@ lists-once {x} (accepted {ns = ns} {vss = vss} r b l) (accepted {ns = ms} {vss =
     let e = parts-once ns ms vss uss r q (sym b ∙ c) in
     ap (λ (ws : List (List ℕ)). listing ws (map leaves-on vss)) (e .0) ∙ ap (λ (wss : List (List Value)). listing ms (map leaves-on wss)) (e .1)
 lists-once (accepted r b l) (too-long h) = absurd (omega arith)
-lists-once {x} (accepted {ns = ns} {vss = vss} r b l) (malformed {p = p} h w) = absurd (not-both x p w (record { ns = ns; vss = vss; rules = r; bytes = b }))
+lists-once (accepted {ns = ns} {vss = vss} r b l) (malformed h w) = absurd (not-refused Accepted (record { ns = ns; vss = vss; rules = r; bytes = b }) w)
 lists-once (too-long h) (accepted r b l) = absurd (omega arith)
 lists-once (too-long h) (too-long l) = refl
 lists-once (too-long h) (malformed l w) = absurd (omega arith)
-lists-once {x} (malformed {p = p} h w) (accepted {ns = ns} {vss = vss} r b l) = absurd (not-both x p w (record { ns = ns; vss = vss; rules = r; bytes = b }))
+lists-once (malformed h w) (accepted {ns = ns} {vss = vss} r b l) = absurd (not-refused Accepted (record { ns = ns; vss = vss; rules = r; bytes = b }) w)
 lists-once (malformed h w) (too-long l) = absurd (omega arith)
-lists-once {x} (malformed {p = p} h w) (malformed {p = q} l v) = ap (λ (b : ℕ). error-line b ∷ []) (one-byte x p q w v)
+lists-once (malformed h w) (malformed l v) = ap (λ (b : ℕ). error-line b ∷ []) (refused-once Accepted w v)
 
 -- What a part answers and writes is determined.
 pub listed-once : {x : List ℕ} {from : ℕ} {old new new′ : List ℕ} {p p′ : Piece} → Listed x from old new p → Listed x from old new′ p′ → (p ≡ p′) × (new ≡ new′)

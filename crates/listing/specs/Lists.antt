@@ -3,7 +3,7 @@ use mathlib.Core.Path.{_≡_}
 use mathlib.Core.List.{List, [], _∷_, map}
 use Prim.Native.Nat.{ℕ, _≤_, _<_}
 use lib.ListN.{length}
-use Rattle.ringfile.specs.RingFile.{Value, file-bytes, Rules, leaves-on, RefusedAt}
+use Rattle.ringfile.specs.RingFile.{Value, file-bytes, Rules, leaves-on, FileRefused}
 use Rattle.printing.specs.Listing.{listing, error-line}
 use Rattle.listing.specs.Parts.{Parts}
 use Rattle.listing.specs.declared.Piece.{Piece}
@@ -12,7 +12,7 @@ use Rattle.listing.specs.declared.Piece.{Piece}
 pub data Lists (x : List ℕ) : List (List ℕ) → Type 0 where
   accepted : {ns : List (List ℕ)} {vss : List (List Value)} → Rules ns vss → x ≡ file-bytes ns vss → length x ≤ 65536 → Lists x (listing ns (map leaves-on vss))
   too-long : 65536 < length x → Lists x (error-line 65536 ∷ [])
-  malformed : {p : ℕ} → length x ≤ 65536 → RefusedAt x p → Lists x (error-line p ∷ [])
+  malformed : {p : ℕ} → length x ≤ 65536 → FileRefused x p → Lists x (error-line p ∷ [])
 
 -- The part of the file's printed lines that begins with the line with number `from`.
 pub record Listed (x : List ℕ) (from : ℕ) (old new : List ℕ) (p : Piece) : Type 0 where

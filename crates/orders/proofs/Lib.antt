@@ -32,6 +32,7 @@ pub mod FormTests
 pub mod StandardOrders
 pub mod Digits
 pub mod TextTree
+pub mod FirstByte
 pub mod TextOnce
 pub mod Joining
 pub mod Fresh

@@ -3,48 +3,15 @@
 -- of the shape is not refused for its shape, and any other text at one byte only, since what begins alike up to a byte does so up to each one before.
 use mathlib.Core.Path.{_≡_, refl, sym, _∙_, ap, subst}
 use mathlib.Core.Logic.{_⊎_, inl, inr}
-use mathlib.Core.List.{List, _++_, append-assoc}
-use Prim.Native.Nat.{ℕ, suc, _≤_, _<_}
+use mathlib.Core.List.{List}
+use Prim.Native.Nat.{ℕ, _<_}
 use native.Mathlib.Omega.{arith}
-use lib.ListN.{length, take, drop, take-append-drop}
-use lib.Seq.{take-all, take-take}
 use Rattle.orders.specs.Tree.{Kind, P, C, Forest, leaf, node, items}
 use Rattle.orders.specs.Form.{first, Rises, Rising, Canonical, InForm}
-use Rattle.orders.specs.TreeText.{tree-text, Shaped, ShapeText, ShapeBegun, ShapeRefused, at-byte, at-end, Breaks, leaf-falls, node-falls, wrong-way, inside, after-leaf, after-node, RuleRefused, Found, tree, refused, Reads, accepted, no-shape, breaks-rule}
+use Rattle.orders.specs.TreeText.{tree-text, Shaped, ShapeText, Breaks, leaf-falls, node-falls, wrong-way, inside, after-leaf, after-node, RuleRefused, Found, tree, refused, Reads, accepted, no-shape, breaks-rule}
 use Rattle.orders.proofs.Forms.{form-forked}
 use Rattle.orders.proofs.TextTree.{text-injective}
-
--- Of any accepted texts: the bytes x up to place p begin one, those up to the next place do not.
-module _ (A : List ℕ → Type 0) (x : List ℕ) where
-  abbrev pub Begins : ℕ → Type 0
-  Begins p = (y : List ℕ) × A (take p x ++ y)
-
-  abbrev pub Stops : ℕ → Type 0
-  Stops p = (p ≤ length x) × Begins p × (p < length x → Begins (suc p) → ⊥)
-
-  pub begins-less : (p q : ℕ) → p ≤ q → Begins q → Begins p
-  begins-less p q h b =
-      let e : take q x ≡ take p x ++ drop p (take q x) = sym (take-append-drop p (take q x)) ∙ rw (take-take p q x h) in
-      (drop p (take q x) ++ b .0, subst A (ap (λ (l : List ℕ). l ++ b .0) e ∙ append-assoc (take p x) (drop p (take q x)) (b .0)) (b .1))
-
-  pub stops-once : (p q : ℕ) → Stops p → Stops q → p ≡ q
-  stops-once p q a b =
-      let f : p < q → ⊥ = λ h. a .2 (omega (arith, b .0)) (begins-less (suc p) q h (b .1)) in
-      let g : q < p → ⊥ = λ h. b .2 (omega (arith, a .0)) (begins-less (suc q) p h (a .1)) in
-      omega (arith, f, g)
-
--- Refused for its shape: at one byte, and not where it has the shape.
-module _ {n : ℕ} {x : List ℕ} where
-  stops-at : {p : ℕ} → ShapeRefused n x p → Stops (ShapeText n) x p
-  stops-at (at-byte l b g) = (omega arith, b, λ h. g)
-  stops-at {p} (at-end e b g) = (omega arith, subst (ShapeBegun n) (sym (take-all p x (omega arith))) b, λ h. absurd (omega arith))
-
-  pub shape-once : {p q : ℕ} → ShapeRefused n x p → ShapeRefused n x q → p ≡ q
-  shape-once {p} {q} a b = stops-once (ShapeText n) x p q (stops-at a) (stops-at b)
-
-  pub shape-not-refused : {p : ℕ} → ShapeText n x → ShapeRefused n x p → ⊥
-  shape-not-refused {p} s (at-byte h b g) = g (drop (suc p) x, subst (ShapeText n) (sym (take-append-drop (suc p) x)) s)
-  shape-not-refused s (at-end e b g) = g s
+use Rattle.orders.proofs.FirstByte.{not-refused, refused-once}
 
 -- The items of a P-node rise, after one whose first leaf is m (0: after none).
 abbrev Fits : Kind → ℕ → Forest → Type 0
@@ -93,11 +60,11 @@ same-tree {t = t} {u} e d = text-injective t u (sym e ∙ d)
 
 pub reads-once : {n : ℕ} {x : List ℕ} {f g : Found} → Reads n x f → Reads n x g → f ≡ g
 reads-once (accepted h e) (accepted k d) = ap tree (same-tree e d)
-reads-once (accepted h e) (no-shape s) = absurd (shape-not-refused (shape-text (form-shaped h) e) s)
+reads-once (accepted h e) (no-shape s) = absurd (not-refused (ShapeText _) (shape-text (form-shaped h) e) s)
 reads-once (accepted {t = t} h e) (breaks-rule {p = p} s d r) = absurd (form-keeps h (subst (λ (u : Forest). Breaks C 0 2 u p) (same-tree d e) (r .broken)))
-reads-once (no-shape s) (accepted h e) = absurd (shape-not-refused (shape-text (form-shaped h) e) s)
-reads-once (no-shape s) (no-shape r) = ap refused (shape-once s r)
-reads-once (no-shape s) (breaks-rule k e r) = absurd (shape-not-refused (shape-text k e) s)
+reads-once (no-shape s) (accepted h e) = absurd (not-refused (ShapeText _) (shape-text (form-shaped h) e) s)
+reads-once (no-shape s) (no-shape r) = ap refused (refused-once (ShapeText _) s r)
+reads-once (no-shape s) (breaks-rule k e r) = absurd (not-refused (ShapeText _) (shape-text k e) s)
 reads-once (breaks-rule {p = p} s d r) (accepted h e) = absurd (form-keeps h (subst (λ (u : Forest). Breaks C 0 2 u p) (same-tree d e) (r .broken)))
-reads-once (breaks-rule k e r) (no-shape s) = absurd (shape-not-refused (shape-text k e) s)
+reads-once (breaks-rule k e r) (no-shape s) = absurd (not-refused (ShapeText _) (shape-text k e) s)
 reads-once (breaks-rule s d r) (breaks-rule {p = q} k e w) = ap refused (rule-once r (subst (λ (u : Forest). RuleRefused u q) (same-tree e d) w))

@@ -1,26 +1,44 @@
--- What an answer about a file says, by its case.
-use mathlib.Core.Path.{_≡_, refl}
+-- What an answer about a file says, by its numbers; and a file has one.
+use mathlib.Core.Path.{_≡_, refl, sym, _∙_, ap}
 use mathlib.Core.Logic.{_⊎_, inl, inr}
-use mathlib.Core.List.{List}
+use mathlib.Core.List.{List, [], _∷_}
 use Prim.Native.Nat.{ℕ, _≤_, _<_}
-use lib.ListN.{length}
-use Rattle.calls.specs.declared.Refusal.{Refusal}
-use Rattle.calls.specs.declared.Refusal.the-variants.{RingFile}
-use Rattle.ringfile.specs.declared.Scanned.the-variants.{Ring, Refused}
-use Rattle.ringfile.specs.RingFile.{FileHolds, RefusedAt, Says, ring, too-long, malformed}
+use native.Mathlib.Omega.{arith}
+use lib.ListN.{length, length-append}
+use Rattle.orders.proofs.FirstByte.{not-refused, refused-once}
+use Rattle.syntax.proofs.Exact.{parts-once}
+use Rattle.ringfile.specs.RingFile.{Accepted, further, line, FileRefused, FileHolds, Says, ring, too-long, malformed}
 
-pub ring-holds : {x : List ℕ} {n h l : ℕ} → Says x (Ring n h l) → FileHolds x n h l
+pub ring-holds : {x : List ℕ} {n h l : ℕ} → Says x (0 ∷ n ∷ h ∷ l ∷ []) → FileHolds x n h l
 ring-holds (ring h) = h
 
--- The byte of a refusal.
-abbrev pub refused-byte : {x : List ℕ} {r : Refusal} → Says x (Refused r) → ℕ
-refused-byte (too-long {p = p} h e) = p
-refused-byte (malformed {p = p} h w) = p
+-- A refusal: an accepted file has a names line.
+line-some : (ns : List (List ℕ)) → 1 ≤ length (line ns)
+line-some [] = omega arith
+line-some (w ∷ []) = omega (arith, length-append w (further []))
+line-some (w ∷ (v ∷ ws)) = omega (arith, length-append w (further (v ∷ ws)))
 
-pub refused-is : {x : List ℕ} {r : Refusal} (s : Says x (Refused r)) → r ≡ RingFile (refused-byte s)
-refused-is (too-long h e) = refl
-refused-is (malformed h w) = refl
-
-pub refused-at : {x : List ℕ} {p : ℕ} → Says x (Refused (RingFile p)) → ((65536 < length x) × (p ≡ 65536)) ⊎ ((length x ≤ 65536) × RefusedAt x p)
-refused-at (too-long h e) = inl (h, e)
+pub refused-at : {x : List ℕ} {r p : ℕ} → Says x (r ∷ p ∷ 0 ∷ 0 ∷ []) → ((65536 < length x) × (p ≡ 65536)) ⊎ ((length x ≤ 65536) × FileRefused x p)
+refused-at (ring f) = absurd (omega (arith, f .head, line-some (f .ns)))
+refused-at (too-long h) = inl (h, refl)
 refused-at (malformed h w) = inr (h, w)
+
+-- A file has one answer.
+is-accepted : {x : List ℕ} {n h l : ℕ} → FileHolds x n h l → Accepted x
+is-accepted f = record { ns = f .ns; vss = f .vss; rules = f .rules; bytes = f .bytes }
+
+pub holds-once : {x : List ℕ} {n h l m i k : ℕ} (f : FileHolds x n h l) (g : FileHolds x m i k) → (n ≡ m) × (h ≡ i) × (l ≡ k)
+holds-once f g =
+    let e = parts-once (f .ns) (g .ns) (f .vss) (g .vss) (f .rules) (g .rules) (sym (f .bytes) ∙ g .bytes) in
+    (f .leaves ∙ ap length (e .0) ∙ sym (g .leaves), f .head ∙ ap (λ ws. length (line ws)) (e .0) ∙ sym (g .head), f .lines ∙ ap length (e .1) ∙ sym (g .lines))
+
+pub says-once : {x a b : List ℕ} → Says x a → Says x b → a ≡ b
+says-once (ring f) (ring g) = let e = holds-once f g in cc
+says-once (ring f) (too-long h) = absurd (omega (arith, f .size))
+says-once (ring f) (malformed h w) = absurd (not-refused Accepted (is-accepted f) w)
+says-once (too-long h) (ring f) = absurd (omega (arith, f .size))
+says-once (too-long h) (too-long k) = refl
+says-once (too-long h) (malformed k w) = absurd (omega arith)
+says-once (malformed h w) (ring f) = absurd (not-refused Accepted (is-accepted f) w)
+says-once (malformed h w) (too-long k) = absurd (omega arith)
+says-once (malformed h w) (malformed k v) = ap (λ b. 11 ∷ b ∷ 0 ∷ 0 ∷ []) (refused-once Accepted w v)

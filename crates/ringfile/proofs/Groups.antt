@@ -1,20 +1,19 @@
--- The group of a line: from a leaf on, and how its list begins.
-use mathlib.Core.Path.{_≡_, refl, sym, _∙_, ap, ap₂}
+-- The group of a line: its leaves, and how a loop writes them.
+use mathlib.Core.Path.{_≡_, sym, _∙_, ap, ap₂}
 use mathlib.Core.Bool.{Bool, true, false, cond}
-use mathlib.Core.List.{List, [], _∷_, _++_, append-nil}
+use mathlib.Core.List.{List, [], _∷_}
 use Prim.Native.Nat.{ℕ, suc, _+_, _-_, _≤_, _<_}
 use native.Mathlib.Omega.{arith}
 use native.Mathlib.Numerals.{add-one}
-use lib.ListN.{length, length-append, drop, getD, set}
-use lib.Seq.{append-snoc}
+use lib.ListN.{length, getD, set}
+use borrow.Author.Tests.{lt-ltb, le-ltb}
 use Rattle.orders.specs.Lists.{All, Distinct, those-of, numbers-from}
 use Rattle.orders.proofs.Members.{in-all}
 use Rattle.orders.proofs.Numbers.{those-different, in-those, in-range}
-use Rattle.orders.proofs.ListLaws.{all-at}
 use Rattle.tokens.specs.Tokens.{Wrote}
-use Rattle.tokens.proofs.Writes.{write-step}
-use Rattle.ringfile.specs.RingFile.{Value, off, in-group, leaves-on, Rules}
-use Rattle.syntax.specs.Words.{leaves-after}
+use Rattle.tokens.proofs.Writes.{wrote-none, Written, written-start, written-same, written-one, written-end}
+use Rattle.ringfile.specs.RingFile.{Value, off, in-group, leaves-on, FileHolds, line-in, value-in, group-in, group-for}
+use Rattle.ringfile.proofs.Values.{group-none, group-held}
 
 -- The leaves of a group are different leaves of the ring.
 pub leaves-different : (vs : List Value) → Distinct (leaves-on vs)
@@ -30,56 +29,59 @@ leaves-within vs =
     p : ℕ → Bool
     p b = in-group (getD vs (b - 1) off)
 
-pub leaves-all : (vs : List Value) → leaves-after 0 vs ≡ leaves-on vs
-unfolding leaves-on leaves-after
-leaves-all vs = let e : length vs - 0 ≡ length vs = omega arith in ap (λ k. those-of (λ b. in-group (getD vs (b - 1) off)) (numbers-from 1 k)) e
+-- The leaves of the group from number i + 1 on: what a loop has still to write.
+module _ (x : List ℕ) (n h l : ℕ) where
+  abbrev on? : ℕ → Bool
+  on? b = value-in x n h l (b - 1)
 
-pub leaves-none : (i : ℕ) (vs : List Value) → length vs ≤ i → leaves-after i vs ≡ []
-unfolding leaves-after
-leaves-none i vs h = let e : length vs - i ≡ 0 = omega arith in ap (λ k. those-of (λ b. in-group (getD vs (b - 1) off)) (numbers-from (suc i) k)) e
+  unfoldable pub leaves-after : ℕ → List ℕ
+  leaves-after i = those-of on? (numbers-from (suc i) (n - i))
 
-pub leaves-next : (i : ℕ) (vs : List Value) → i < length vs
-    → leaves-after i vs ≡ cond (in-group (getD vs i off)) ((i + 1) ∷ leaves-after (i + 1) vs) (leaves-after (i + 1) vs)
-unfolding leaves-after
-leaves-next i vs h =
-    let e : length vs - i ≡ suc (length vs - (i + 1)) = omega arith in
-    let p : suc i - 1 ≡ i = omega arith in
-    ap (λ k. those-of on? (numbers-from (suc i) k)) e ∙ ap₂ (λ j s. cond (in-group (getD vs j off)) (s ∷ later s) (later s)) p (sym (add-one i))
-  where
-    on? : ℕ → Bool
-    on? b = in-group (getD vs (b - 1) off)
+  after-next : (i : ℕ) → i < n → leaves-after i ≡ cond (value-in x n h l i) ((i + 1) ∷ leaves-after (i + 1)) (leaves-after (i + 1))
+  unfolding leaves-after
+  after-next i m =
+      let e : n - i ≡ suc (n - (i + 1)) = omega arith in
+      let p : suc i - 1 ≡ i = omega arith in
+      ap (λ k. those-of on? (numbers-from (suc i) k)) e ∙ ap₂ (λ j s. cond (value-in x n h l j) (s ∷ later s) (later s)) p (sym (add-one i))
+    where
+      later : ℕ → List ℕ
+      later s = those-of on? (numbers-from (suc s) (n - (i + 1)))
 
-    later : ℕ → List ℕ
-    later s = those-of on? (numbers-from (suc s) (length vs - (i + 1)))
+  after-none : (i : ℕ) → n ≤ i → leaves-after i ≡ []
+  unfolding leaves-after
+  after-none i m = let e : n - i ≡ 0 = omega arith in ap (λ k. those-of on? (numbers-from (suc i) k)) e
 
--- Every line has a value for each name.
-pub line-length : (ns : List (List ℕ)) (vss : List (List Value)) (l : ℕ) → Rules ns vss → l < length vss → length (getD vss l []) ≡ length ns
-line-length ns vss l r = all-at (λ vs. length vs ≡ length ns) [] vss l (r .values)
+  module _ {old : List ℕ} where
+    pub group-start : Written (group-in x n h l) (leaves-after 0) old old 0
+    unfolding group-in leaves-after
+    group-start =
+        let e : n ≡ n - 0 = omega arith in
+        written-same (leaves-after 0) (ap (λ k. those-of on? (numbers-from 1 k)) e) (written-start (group-in x n h l) old)
 
--- The group, written up to the leaf i.
-pub record Upto (vs : List Value) (old : List ℕ) (i k : ℕ) (new : List ℕ) : Type 0 where
-  ws : List ℕ
-  many : length ws ≡ k
-  text : new ≡ ws ++ drop k old
-  all : leaves-on vs ≡ ws ++ leaves-after i vs
+    pub group-on : {i k : ℕ} {new : List ℕ} → i < n → k < length old → value-in x n h l i ≡ true → Written (group-in x n h l) (leaves-after i) old new k
+        → Written (group-in x n h l) (leaves-after (i + 1)) old (set new k (i + 1)) (k + 1)
+    group-on {i} m r v w = written-one (i + 1) (leaves-after (i + 1)) r (after-next i m ∙ rw v) w
 
-module _ (vs : List Value) (old : List ℕ) where
-  pub upto-start : Upto vs old 0 0 old
-  upto-start = record { ws = []; many = refl; text = refl; all = sym (leaves-all vs) }
+    pub group-off : {i k : ℕ} {new : List ℕ} → i < n → value-in x n h l i ≡ false → Written (group-in x n h l) (leaves-after i) old new k
+        → Written (group-in x n h l) (leaves-after (i + 1)) old new k
+    group-off {i} m v w = written-same (leaves-after (i + 1)) (after-next i m ∙ rw v) w
 
-  pub upto-on : {i k : ℕ} {new : List ℕ} → i < length vs → k < length old → in-group (getD vs i off) ≡ true → Upto vs old i k new
-      → Upto vs old (i + 1) (k + 1) (set new k (i + 1))
-  upto-on {i} {k} h m v u = record {
-    ws = u .ws ++ ((i + 1) ∷ []);
-    many = omega (arith, u .many, length-append (u .ws) ((i + 1) ∷ []));
-    text = ap (λ l. set l k (i + 1)) (u .text) ∙ write-step (u .ws) old k (i + 1) (u .many) m;
-    all = u .all ∙ rw (leaves-next i vs h, v) (sym (append-snoc (u .ws) (i + 1) (leaves-after (i + 1) vs)));
-  }
+    -- All of it; and nothing, where there is no line or too few places.
+    pub group-end : {i k : ℕ} {new : List ℕ} → n ≤ length old → n ≤ i → Written (group-in x n h l) (leaves-after i) old new k
+        → Wrote (group-for (length old) x n h l) old new k
+    unfolding group-for
+    group-end {i} r m w = rw (le-ltb (length old) n r) (written-end (written-same [] (after-none i m) w))
 
-  pub upto-off : {i k : ℕ} {new : List ℕ} → i < length vs → in-group (getD vs i off) ≡ false → Upto vs old i k new → Upto vs old (i + 1) k new
-  upto-off {i} h v u = record { ws = u .ws; many = u .many; text = u .text; all = u .all ∙ rw (leaves-next i vs h, v) }
+    pub group-short : length old < n → Wrote (group-for (length old) x n h l) old old 0
+    unfolding group-for
+    group-short m = rw (lt-ltb (length old) n m) (wrote-none old)
 
-  pub upto-end : {i k : ℕ} {new : List ℕ} → length vs ≤ i → Upto vs old i k new → Wrote (leaves-on vs) old new k
-  upto-end {i} h u =
-      let e : leaves-on vs ≡ u .ws = u .all ∙ rw (leaves-none i vs h) (append-nil (u .ws)) in
-      rw e (record { many = sym (u .many); text = u .text ∙ rw (u .many) })
+    pub group-absent : n ≤ length old → line-in x n h l ≡ [] → Wrote (group-for (length old) x n h l) old old 0
+    unfolding group-for
+    group-absent r e = rw (le-ltb (length old) n r, group-none x n h l e) (wrote-none old)
+
+-- Of an accepted file, and with enough places, it is the line's group.
+pub group-file : {x : List ℕ} {n h k : ℕ} (f : FileHolds x n h k) (l : ℕ) {old new : List ℕ} {r : ℕ} → l < k → n ≤ length old
+    → Wrote (group-for (length old) x n h l) old new r → Wrote (leaves-on (getD (f .vss) l [])) old new r
+unfolding group-for
+group-file {n = n} f l {old} {new} {r} p m w = rw (sym (group-held f l p)) (rw (le-ltb (length old) n m) at w)

@@ -8,7 +8,7 @@ use native.Mathlib.Numerals.{add-one}
 use lib.ListN.{length, length-take, take, drop, getD, take-append-drop}
 use lib.Seq.{take-suc, drop-cons, take-all}
 use Rattle.calls.specs.declared.Refusal.the-variants.{RingFile}
-use Rattle.ringfile.specs.RingFile.{Value, RefusedAt, Says, ring, malformed}
+use Rattle.ringfile.specs.RingFile.{Value, FileRefused, Says, told, ring, malformed}
 use Rattle.syntax.specs.Scanner.{FileState, naming, due, got, start, step}
 use Rattle.cursor.specs.Cursors.{CursorStands, Stepped, Advances}
 use Rattle.cursor.specs.declared.Cursor.{Cursor}
@@ -47,7 +47,7 @@ module _ (x : List ℕ) (i : ℕ) (c r : Cursor) (inside : i < length x) (h : Ad
         stands = q;
       }
 
-  pub says-bad : length x ≤ 65536 → r .phase ≡ 3 → Says x (Refused (RingFile i))
+  pub says-bad : length x ≤ 65536 → r .phase ≡ 3 → Says x (told (Refused (RingFile i)))
   says-bad l e =
       malformed l (at-end-of (bad-byte (k .state) (take i x) (getD x i 0) (drop (suc i) x) (k .run) (none-of (step (k .state) (getD x i 0)) came)))
     where
@@ -55,20 +55,20 @@ module _ (x : List ℕ) (i : ℕ) (c r : Cursor) (inside : i < length x) (h : Ad
       none-of none q = refl
       none-of (some t) q = absurd (not-three t q e)
 
-      at-end-of : RefusedAt (take i x ++ (getD x i 0 ∷ drop (suc i) x)) (length (take i x)) → RefusedAt x i
+      at-end-of : FileRefused (take i x ++ (getD x i 0 ∷ drop (suc i) x)) (length (take i x)) → FileRefused x i
       at-end-of w =
           let e : take i x ++ (getD x i 0 ∷ drop (suc i) x) ≡ x = ap (λ l. take i x ++ l) (sym (drop-cons x i 0 inside)) ∙ take-append-drop i x in
           let n : length (take i x) ≡ i = omega (arith, length-take i x) in
-          subst (λ j. RefusedAt x j) n (subst (λ l. RefusedAt l (length (take i x))) e w)
+          subst (λ j. FileRefused x j) n (subst (λ l. FileRefused l (length (take i x))) e w)
 
 module _ (x : List ℕ) (i : ℕ) (c : Cursor) (l : length x ≤ 65536) (k : Reach x i c) (ended : i ≡ length x) where
   ran : Run start x (k .state)
   ran = subst (λ z. Run start z (k .state)) (take-all i x (omega arith)) (k .run)
 
-  pub says-ring : c .phase ≡ 1 → c .got ≡ 0 → Says x (Ring (c .names) (c .start) (c .lines))
+  pub says-ring : c .phase ≡ 1 → c .got ≡ 0 → Says x (told (Ring (c .names) (c .start) (c .lines)))
   says-ring p g = go (k .state) (k .stands) ran
     where
-      go : (s : FileState) → CursorStands c s → Run start x s → Says x (Ring (c .names) (c .start) (c .lines))
+      go : (s : FileState) → CursorStands c s → Run start x s → Says x (told (Ring (c .names) (c .start) (c .lines)))
       go (naming ns w) q r = absurd (omega (arith, q .0))
       go (due ns vss []) q r =
           let f = whole-file ns vss x r in
@@ -76,9 +76,9 @@ module _ (x : List ℕ) (i : ℕ) (c : Cursor) (l : length x ≤ 65536) (k : Rea
       go (due ns vss (v ∷ vs)) q r = absurd (omega (arith, q .3))
       go (got ns vss vs v) q r = absurd (omega (arith, q .0))
 
-  pub says-short : ((c .phase ≡ 1) × (c .got ≡ 0) → ⊥) → Says x (Refused (RingFile i))
+  pub says-short : ((c .phase ≡ 1) × (c .got ≡ 0) → ⊥) → Says x (told (Refused (RingFile i)))
   says-short n =
-      malformed l (subst (λ j. RefusedAt x j) (sym ended) (too-short (k .state) x ran (λ ns vss e. go ns vss (subst (CursorStands c) e (k .stands)))))
+      malformed l (subst (λ j. FileRefused x j) (sym ended) (too-short (k .state) x ran (λ ns vss e. go ns vss (subst (CursorStands c) e (k .stands)))))
     where
       go : (ns : List (List ℕ)) (vss : List (List Value)) → CursorStands c (due ns vss []) → ⊥
       go ns vss q = n (q .0, q .3)

@@ -1,10 +1,9 @@
 // The ring file: whether it is accepted, and its names and groups, read where they stand.
 ghost use mathlib.Core.Path.{_≡_};
-ghost use mathlib.Core.List.{List, []};
-ghost use Prim.Native.Nat.{ℕ, _+_, _-_, _≤_, _<_};
-ghost use lib.ListN.{length, getD};
+ghost use Prim.Native.Nat.{_+_, _≤_};
+ghost use lib.ListN.{length};
 ghost use Rattle.tokens.specs.Tokens.{Wrote};
-ghost use Rattle.ringfile.specs.RingFile.{Value, off, in-group, line, file-bytes, NameAt, leaves-on, Rules, Says};
+ghost use Rattle.ringfile.specs.RingFile.{name-in, name-start, line-in, value-in, group-for, Says, told};
 use calls::Refusal;
 
 // What a file holds: a ring of `names` leaves, a names line of `head` bytes, and `lines` lines of values; or why it is refused.
@@ -25,7 +24,7 @@ pub struct Part {
 
 // Reads the file: what it holds, or the byte at which it is refused.
 pub fn scan(file: &[u8]) -> Scanned
-    ensures { λ r. ⌜ Says (now (file .entry)) r ⌝ }
+    ensures { λ r. ⌜ Says (now (file .entry)) (told r) ⌝ }
 {
     let n = file.len();
     if 65536 < n {
@@ -56,27 +55,26 @@ pub fn scan(file: &[u8]) -> Scanned
     }
 }
 
-// Where name number k, from 0, of an accepted file stands. Of another file or number it is some part of the file.
+// Where name number k, from 0, stands: word number k of the first line. 0 and 0 where there is no such word.
 pub fn name_at(file: &[u8], k: usize) -> Part
-    ensures { λ r. ⌜ ((ns : List (List ℕ)) (vss : List (List Value)) → Rules ns vss → now (file .entry) ≡ file-bytes ns vss → k < length ns
-        → NameAt (now (file .entry)) ns k (r .start) (r .length)) ⌝ }
-    ensures { λ r. ⌜ r .start + r .length ≤ length (now (file .entry)) ⌝ }
+    ensures { λ r. ⌜ (r .start ≡ name-start (now (file .entry)) k) × (r .length ≡ length (name-in (now (file .entry)) k)) ⌝ }
 {
-    if 256 <= k {
+    let start = words::place(file, k);
+    if file.len() < start {
         return Part {
             start: 0,
             length: 0,
         };
     }
-    let start = words::place(file, k);
     let length = words::word_end(&file[start..]);
     Part { start, length }
 }
 
-// Name number k, from 0, of an accepted file: the part of the file that it fills. Of another file or number it is some part of the file.
+// Name number k, from 0, as the part of the file that `name_at` tells: its bytes, and that it starts so many bytes on. No byte where there is no
+// such name.
 pub fn name_of(file: &[u8], k: usize) -> &[u8]
-    ensures { λ r. ⌜ ((ns : List (List ℕ)) (vss : List (List Value)) → Rules ns vss → now (file .entry) ≡ file-bytes ns vss → k < length ns
-        → now r ≡ getD ns k []) ⌝ }
+    ensures { λ r. ⌜ now r ≡ name-in (now (file .entry)) k ⌝ }
+    ensures { λ r. ⌜ r .ptr ≡ (file .entry .ptr .0, name-start (now (file .entry)) k + file .entry .ptr .1) ⌝ }
 {
     let part = name_at(file, k);
     let start = part.start;
@@ -84,61 +82,60 @@ pub fn name_of(file: &[u8], k: usize) -> &[u8]
     &file[start..end]
 }
 
-// Whether value number i of value line l, both from 0, is `1`, in an accepted file with so many names and a names line of head bytes.
-// Of other numbers the answer means nothing.
-pub fn value_of(file: &[u8], names: usize, head: usize, l: usize, i: usize) -> bool
-    ensures { λ r. ⌜ ((ns : List (List ℕ)) (vss : List (List Value)) → Rules ns vss → now (file .entry) ≡ file-bytes ns vss
-        → length (now (file .entry)) ≤ 65536 → names ≡ length ns → head ≡ length (line ns) → l < length vss
-        → i < length ns → r ≡ in-group (getD (getD vss l []) i off)) ⌝ }
+// The bytes of value line l, from 0, in a file with so many names and a names line of head bytes. No byte where there is no such line.
+fn line_of(file: &[u8], names: usize, head: usize, l: usize) -> &[u8]
+    ensures { λ r. ⌜ now r ≡ line-in (now (file .entry)) names head l ⌝ }
 {
+    if names == 0 {
+        return &file[0..0];
+    }
     if 256 < names {
-        return false;
+        return &file[0..0];
     }
-    if 65536 < head {
-        return false;
+    if file.len() < head {
+        return &file[0..0];
     }
-    if 65536 < l {
-        return false;
+    let width = 2 * names;
+    if (file.len() - head) / width <= l {
+        return &file[0..0];
     }
-    if 256 < i {
-        return false;
-    }
-    let at = head + (l * (2 * names) + 2 * i);
-    if at < file.len() {
-        return file[at] == 49;
-    }
-    false
+    let start = head + l * width;
+    let end = start + width;
+    &file[start..end]
 }
 
-// Writes the group of value line l, from 0, of an accepted file to the start of the list: its leaves, rising. Returns how many. The list has
-// a place for each leaf of the ring; with fewer places, nothing is written. Of other numbers the answer means nothing.
-pub fn group_of(file: &[u8], names: usize, head: usize, l: usize, list: &mut [u16]) -> usize
-    ensures { λ r. ⌜ ((ns : List (List ℕ)) (vss : List (List Value)) → Rules ns vss → now (file .entry) ≡ file-bytes ns vss
-        → length (now (file .entry)) ≤ 65536 → names ≡ length ns → head ≡ length (line ns) → l < length vss
-        → length ns ≤ length (now (list .entry)) → Wrote (leaves-on (getD vss l [])) (now (list .entry)) (now (list .exit)) r) ⌝ }
-    ensures { λ r. ⌜ r ≤ 256 ⌝ }
-    ensures { λ r. ⌜ (length (now (list .entry)) < names → (r ≡ 0) × (now (list .exit) ≡ now (list .entry))) ⌝ }
+// Whether value number i of value line l, both from 0, is `1`, in a file with so many names and a names line of head bytes. False where there
+// is no such value.
+pub fn value_of(file: &[u8], names: usize, head: usize, l: usize, i: usize) -> bool
+    ensures { λ r. ⌜ r ≡ value-in (now (file .entry)) names head l i ⌝ }
 {
-    if 256 < names {
-        return 0;
+    let values = line_of(file, names, head, l);
+    if values.len() <= i {
+        return false;
     }
+    if values.len() <= 2 * i {
+        return false;
+    }
+    values[2 * i] == 49
+}
+
+// Writes the group of value line l, from 0, in a file with so many names and a names line of head bytes, to the start of the list: its leaves,
+// rising. Returns how many. Nothing is written where there is no such line, or the list has fewer places than there are names.
+pub fn group_of(file: &[u8], names: usize, head: usize, l: usize, list: &mut [u16]) -> usize
+    ensures { λ r. ⌜ Wrote (group-for (length (now (list .entry))) (now (file .entry)) names head l) (now (list .entry)) (now (list .exit)) r ⌝ }
+    ensures { λ r. ⌜ r ≤ length (now (list .entry)) ⌝ }
+{
     if list.len() < names {
         return 0;
     }
-    if 65536 < head {
-        return 0;
-    }
-    if 65536 < l {
-        return 0;
-    }
-    let at = head + l * (2 * names);
-    if file.len() + 1 < at + 2 * names {
+    let values = line_of(file, names, head, l);
+    if values.len() == 0 {
         return 0;
     }
     let mut k = 0;
     let mut leaf = 0;
     while leaf < names {
-        let value = file[at + 2 * leaf];
+        let value = values[2 * leaf];
         leaf += 1;
         if value == 49 {
             list[k] = leaf as u16;

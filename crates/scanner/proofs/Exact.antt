@@ -10,7 +10,8 @@ use Rattle.orders.specs.Lists.{Rearranged, done}
 use Rattle.orders.specs.CircularOrder.{others}
 use Rattle.orders.specs.Tree.{Forest, nil, leaf, node, items, frontier}
 use Rattle.orders.specs.Form.{Single}
-use Rattle.orders.specs.TreeText.{digits-in, digits, letter, text, more, tree-text, Shaped, ShapeText, ShapeRefused, at-byte, at-end}
+use Rattle.orders.specs.TreeText.{digits-in, digits, letter, text, more, tree-text, Shaped, ShapeText, ShapeRefused}
+use Rattle.orders.specs.FirstByte.{at-byte, at-end}
 use Rattle.orders.specs.Join.{fresh}
 use Rattle.orders.proofs.Rearranged.{perm-length, perm-refl, short-perm}
 use Rattle.orders.proofs.Numbers.{numbers-length}

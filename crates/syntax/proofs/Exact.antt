@@ -6,7 +6,8 @@ use Prim.Native.Nat.{ℕ, suc, _≤_, _<_}
 use native.Mathlib.Omega.{arith}
 use lib.ListN.{length, length-append, take, drop, take-append-drop}
 use lib.Seq.{take-at, take-all, take-append-seam, take-take}
-use Rattle.syntax.specs.RingFile.{Value, file-bytes, Rules, Accepted, FileBegun, RefusedAt, at-byte, at-end}
+use Rattle.syntax.specs.RingFile.{Value, file-bytes, Rules, Accepted, FileRefused}
+use Rattle.orders.specs.FirstByte.{Begun, at-byte, at-end}
 use Rattle.syntax.specs.Scanner.{FileState, due, start, step}
 use Rattle.syntax.proofs.Steps.{relation-steps, Run, then, run-after, run-ends}
 use Rattle.syntax.proofs.Reached.{ok-start, run-text, run-ok, ok-begun, fewer-begun}
@@ -16,13 +17,13 @@ use Rattle.syntax.proofs.Complete.{file-run}
 runs-on : (s : FileState) (y z : List ℕ) → Run start y s → (a : Accepted (y ++ z)) → Run s z (due (a .ns) (a .vss) [])
 runs-on s y z r a = run-after r (subst (λ l. Run start l (due (a .ns) (a .vss) [])) (sym (a .bytes)) (file-run (a .ns) (a .vss) (a .rules)))
 
-begun-so : (y : List ℕ) (s : FileState) → Run start y s → FileBegun y
-begun-so y s r = subst FileBegun (run-text r) (ok-begun s (run-ok r ok-start))
+begun-so : (y : List ℕ) (s : FileState) → Run start y s → Begun Accepted y
+begun-so y s r = subst (Begun Accepted) (run-text r) (ok-begun s (run-ok r ok-start))
 
 -- The next byte leads nowhere.
-pub bad-byte : (s : FileState) (y : List ℕ) (b : ℕ) (x : List ℕ) → Run start y s → step s b ≡ none → RefusedAt (y ++ (b ∷ x)) (length y)
+pub bad-byte : (s : FileState) (y : List ℕ) (b : ℕ) (x : List ℕ) → Run start y s → step s b ≡ none → FileRefused (y ++ (b ∷ x)) (length y)
 bad-byte s y b x r e =
-    at-byte (omega (arith, length-append y (b ∷ x))) (subst FileBegun (sym (take-append-seam y (b ∷ x))) (begun-so y s r))
+    at-byte (omega (arith, length-append y (b ∷ x))) (subst (Begun Accepted) (sym (take-append-seam y (b ∷ x))) (begun-so y s r))
     (λ g. stuck (g .0) (subst Accepted (append-assoc y (b ∷ []) (g .0)) (subst (λ l. Accepted (l ++ g .0)) up-to (g .1))))
   where
     up-to : take (suc (length y)) (y ++ (b ∷ x)) ≡ y ++ (b ∷ [])
@@ -41,7 +42,7 @@ pub whole-file : (ns : List (List ℕ)) (vss : List (List Value)) (x : List ℕ)
 whole-file ns vss x r = (run-ok r ok-start .rules, sym (run-text r) ∙ append-nil (file-bytes ns vss))
 
 pub too-short : (s : FileState) (x : List ℕ) → Run start x s → ((ns : List (List ℕ)) (vss : List (List Value)) → s ≡ due ns vss [] → ⊥)
-    → RefusedAt x (length x)
+    → FileRefused x (length x)
 too-short s x r h =
     at-end refl (begun-so x s r) (λ a. let b = subst Accepted (sym (append-nil x)) a in h (b .ns) (b .vss) (run-ends (runs-on s x [] r b)))
 
@@ -51,27 +52,3 @@ pub parts-once : (ns ms : List (List ℕ)) (vss uss : List (List Value)) → Rul
 parts-once ns ms vss uss r s e =
     let q = run-ends (runs-on (due ns vss []) (file-bytes ns vss) [] (file-run ns vss r) (record { ns = ms; vss = uss; rules = s; bytes = append-nil (file-bytes ns vss) ∙ e })) in
     (cc q, cc q)
-
--- What is refused at a byte is not accepted, and is refused at no other byte.
-begun-less : (p q : ℕ) (x : List ℕ) → p ≤ q → FileBegun (take q x) → FileBegun (take p x)
-begun-less p q x h b =
-    subst FileBegun (take-take p q x h) (fewer-begun (take p (take q x)) (drop p (take q x)) (subst FileBegun (sym (take-append-drop p (take q x))) b))
-
-begun-all : (p : ℕ) (x : List ℕ) → p ≤ length x → FileBegun x → FileBegun (take p x)
-begun-all p x h b = begun-less p (length x) x h (subst FileBegun (sym (take-all (length x) x (omega arith))) b)
-
-pub not-both : (x : List ℕ) (p : ℕ) → RefusedAt x p → Accepted x → ⊥
-not-both x p (at-byte l b n) a = n (begun-all (suc p) x l ([], subst Accepted (sym (append-nil x)) a))
-not-both x p (at-end e b n) a = n a
-
-before : (x : List ℕ) (p q : ℕ) → RefusedAt x p → RefusedAt x q → p < q → ⊥
-before x p q (at-byte l b n) (at-byte m d o) h = n (begun-less (suc p) q x h d)
-before x p q (at-byte l b n) (at-end e d o) h = n (begun-all (suc p) x l d)
-before x p q (at-end e b n) (at-byte l d o) h = omega arith
-before x p q (at-end e b n) (at-end f d o) h = omega arith
-
-pub one-byte : (x : List ℕ) (p q : ℕ) → RefusedAt x p → RefusedAt x q → p ≡ q
-one-byte x p q a b =
-    let h : (p < q) → ⊥ = before x p q a b in
-    let k : (q < p) → ⊥ = before x q p b a in
-    omega (arith, h, k)

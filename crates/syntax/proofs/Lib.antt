@@ -1,5 +1,6 @@
 pub mod Lists
 pub mod Words
+pub mod FirstLine
 pub mod NewNames
 pub mod Steps
 pub mod Reached

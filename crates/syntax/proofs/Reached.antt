@@ -6,7 +6,8 @@ use native.Mathlib.Omega.{arith}
 use lib.ListN.{length, length-append, replicate, length-replicate}
 use Rattle.orders.specs.Lists.{All, Distinct, In}
 use Rattle.orders.proofs.ListLaws.{all-append}
-use Rattle.syntax.specs.RingFile.{NameByte, Name, Value, off, value-word, further, line, value-lines, file-bytes, Accepted, FileBegun}
+use Rattle.syntax.specs.RingFile.{NameByte, Name, Value, off, value-word, further, line, value-lines, file-bytes, Accepted}
+use Rattle.orders.specs.FirstByte.{Begun}
 use Rattle.syntax.specs.Words.{spaced}
 use Rattle.syntax.specs.Scanner.{FileState, naming, due, got, start, text, Naming, Due, Ok}
 use Rattle.syntax.proofs.Lists.{distinct-snoc}
@@ -115,7 +116,7 @@ run-ok (then j r) k = run-ok r (ok-step j k)
 
 -- A state with a value due or got: the line is filled up with zeros.
 filled : (ns : List (List ℕ)) (vss : List (List Value)) (vs : List Value) (v : Value) → Due ns vss vs
-    → FileBegun (file-bytes ns vss ++ (spaced (map value-word vs) ++ value-word v))
+    → Begun Accepted (file-bytes ns vss ++ (spaced (map value-word vs) ++ value-word v))
 filled ns vss vs v k = (
   further (map value-word us),
   record {
@@ -138,11 +139,11 @@ filled ns vss vs v k = (
     full = omega (arith, length-append vs (v ∷ us), length-replicate (length ns - (length vs + 1)) off, k .left)
 
 -- A file that begins with more begins with less.
-pub fewer-begun : (x y : List ℕ) → FileBegun (x ++ y) → FileBegun x
+pub fewer-begun : (x y : List ℕ) → Begun Accepted (x ++ y) → Begun Accepted x
 fewer-begun x y b = (y ++ b .0, subst Accepted (append-assoc x y (b .0)) (b .1))
 
 -- A state with a begun name: the name is made whole, and the line ends.
-named : (ns : List (List ℕ)) (w : List ℕ) → Naming ns w → FileBegun (spaced ns ++ w)
+named : (ns : List (List ℕ)) (w : List ℕ) → Naming ns w → Begun Accepted (spaced ns ++ w)
 named ns w k = (
   k .open-end .rest ++ (10 ∷ []),
   record {
@@ -168,9 +169,9 @@ named ns w k = (
     v = w ++ (k .open-end .rest)
 
 -- Each such state goes on to an accepted file.
-pub ok-begun : (s : FileState) → Ok s → FileBegun (text s)
+pub ok-begun : (s : FileState) → Ok s → Begun Accepted (text s)
 ok-begun (naming ns w) k = named ns w k
 ok-begun (due ns vss vs) k =
     fewer-begun (file-bytes ns vss ++ spaced (map value-word vs)) (value-word off)
-    (subst FileBegun (sym (append-assoc (file-bytes ns vss) (spaced (map value-word vs)) (value-word off))) (filled ns vss vs off k))
+    (subst (Begun Accepted) (sym (append-assoc (file-bytes ns vss) (spaced (map value-word vs)) (value-word off))) (filled ns vss vs off k))
 ok-begun (got ns vss vs v) k = filled ns vss vs v k

@@ -1,9 +1,11 @@
 -- Document 01, "Ring file and lister": the bytes of a ring file, the files that are accepted, and the byte at which any other is refused (11).
 use mathlib.Core.Path.{_≡_}
-use mathlib.Core.Bool.{Bool, true, false}
+use mathlib.Core.Bool.{Bool, true, false, cond, _&&_}
 use mathlib.Core.List.{List, [], _∷_, _++_, map}
-use Prim.Native.Nat.{ℕ, zero, suc, _+_, _-_, _≤_, _<_}
+use Prim.Native.Nat.{ℕ, zero, suc, _+_, _-_, _*_, _≤_, _<_}
+use lib.Dec.{eqb, leb, ltb}
 use lib.ListN.{length, take, drop, getD}
+use Rattle.orders.specs.FirstByte.{RefusedAt}
 use Rattle.orders.specs.Lists.{All, Distinct, In, those-of, numbers-from}
 
 -- "A to Z, a to z and 0 to 9".
@@ -70,30 +72,20 @@ place-of [] k = 0
 place-of (w ∷ ws) zero = 0
 place-of (w ∷ ws) (suc k) = length w + 1 + place-of ws k
 
--- Name number k, from 0, of the file x stands in s and the bytes after it, n of them.
-pub record NameAt (x : List ℕ) (ns : List (List ℕ)) (k s n : ℕ) : Type 0 where
-  pub starts : s ≡ place-of ns k
-  pub bytes : n ≡ length (getD ns k [])
-  pub name : take n (drop s x) ≡ getD ns k []
-
 -- The group of a line: the leaves with the value `1`, rising. A leaf's number is its place in the line, from 1.
 unfoldable pub leaves-on : List Value → List ℕ
 leaves-on vs = those-of (λ b. in-group (getD vs (b - 1) off)) (numbers-from 1 (length vs))
 
--- x is an accepted file, the size limit apart; some such file begins with x.
+-- x is an accepted file, the size limit apart.
 pub record Accepted (x : List ℕ) : Type 0 where
   pub ns : List (List ℕ)
   pub vss : List (List Value)
   pub rules : Rules ns vss
   pub bytes : x ≡ file-bytes ns vss
 
-abbrev pub FileBegun : List ℕ → Type 0
-FileBegun x = (y : List ℕ) × Accepted (x ++ y)
-
--- "The first byte up to and including which no accepted file begins alike, the size limit apart, or the length if the file ends too soon."
-pub data RefusedAt (x : List ℕ) (p : ℕ) : Type 0 where
-  at-byte : p < length x → FileBegun (take p x) → (FileBegun (take (suc p) x) → ⊥) → RefusedAt x p
-  at-end : p ≡ length x → FileBegun x → (Accepted x → ⊥) → RefusedAt x p
+-- 11 names this byte.
+abbrev pub FileRefused : List ℕ → ℕ → Type 0
+FileRefused = RefusedAt Accepted
 
 -- x is accepted: a ring of n leaves, a names line of h bytes, and l lines of values.
 pub record FileHolds (x : List ℕ) (n h l : ℕ) : Type 0 where
@@ -105,3 +97,38 @@ pub record FileHolds (x : List ℕ) (n h l : ℕ) : Type 0 where
   pub leaves : n ≡ length ns
   pub head : h ≡ length (line ns)
   pub lines : l ≡ length vss
+
+-- The readers of names and values, for any bytes x and any numbers; in an accepted file they find the names, the values and the groups
+-- (`ringfile/proofs/Values`).
+
+-- The words of the first line: the bytes before the first line end, parted at spaces. `in-front`: one byte more in front of the first word.
+abbrev pub in-front : ℕ → List (List ℕ) → List (List ℕ)
+in-front b [] = (b ∷ []) ∷ []
+in-front b (w ∷ ws) = (b ∷ w) ∷ ws
+
+abbrev pub words-in : List ℕ → List (List ℕ)
+words-in [] = [] ∷ []
+words-in (b ∷ x) = cond (eqb b 32) ([] ∷ words-in x) (cond (eqb b 10) ([] ∷ []) (in-front b (words-in x)))
+
+-- Name number k, from 0: word number k of the first line, and the byte at which it starts. Where there is no such word: no byte, and 0.
+unfoldable pub name-in : List ℕ → ℕ → List ℕ
+name-in x k = getD (words-in x) k []
+
+unfoldable pub name-start : List ℕ → ℕ → ℕ
+name-start x k = cond (ltb k (length (words-in x))) (place-of (words-in x) k) 0
+
+-- Value line l, from 0, with 2 bytes for each of so many names, the first value line at byte `head`. It has no byte where it does not stand
+-- whole in the file, or where there are more names than a ring has leaves.
+unfoldable pub line-in : List ℕ → ℕ → ℕ → ℕ → List ℕ
+line-in x names head l = cond (leb names 256 && leb (head + suc l * (2 * names)) (length x)) (take (2 * names) (drop (head + l * (2 * names)) x)) []
+
+-- Whether value number i, from 0, of the line is `1`; the leaves, rising, whose value is `1`.
+unfoldable pub value-in : List ℕ → ℕ → ℕ → ℕ → ℕ → Bool
+value-in x names head l i = eqb (getD (line-in x names head l) (2 * i) 0) 49
+
+unfoldable pub group-in : List ℕ → ℕ → ℕ → ℕ → List ℕ
+group-in x names head l = those-of (λ b. value-in x names head l (b - 1)) (numbers-from 1 names)
+
+-- What is written of the group to a list of so many places: all of it where there is a place for each name, else nothing.
+unfoldable pub group-for : ℕ → List ℕ → ℕ → ℕ → ℕ → List ℕ
+group-for places x names head l = cond (ltb places names) [] (group-in x names head l)

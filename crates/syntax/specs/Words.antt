@@ -1,12 +1,12 @@
--- Words of bytes, and the leaves of a line, as the private functions find them in a file.
+-- Words of bytes, as the private functions find them in a file.
 use mathlib.Core.Path.{_≡_}
 use mathlib.Core.Bool.{Bool, cond}
 use mathlib.Core.List.{List, [], _∷_, _++_}
-use Prim.Native.Nat.{ℕ, suc, _+_, _-_}
-use lib.Dec.{eqb}
-use lib.ListN.{length, take, getD}
-use Rattle.orders.specs.Lists.{All, some-of, those-of, same, numbers-from}
-use Rattle.syntax.specs.RingFile.{Value, off, in-group}
+use Prim.Native.Nat.{ℕ, _+_}
+use lib.Dec.{eqb, ltb}
+use lib.ListN.{length, take}
+use Rattle.orders.specs.Lists.{All, some-of, same}
+use Rattle.syntax.specs.RingFile.{place-of, words-in}
 
 -- The bytes before the first space or line end.
 abbrev pub word-end : List ℕ → ℕ
@@ -29,6 +29,6 @@ among ns w = some-of (same w) ns
 abbrev pub begins : List ℕ → List ℕ → Bool
 begins t v = same (take (length t) v) t
 
--- The leaves of `leaves-on` from number i + 1 on.
-unfoldable pub leaves-after : ℕ → List Value → List ℕ
-leaves-after i vs = those-of (λ b. in-group (getD vs (b - 1) off)) (numbers-from (suc i) (length vs - i))
+-- Where word number k, from 0, of the first line starts; past the last byte where there is no such word.
+unfoldable pub place-in : List ℕ → ℕ → ℕ
+place-in x k = cond (ltb k (length (words-in x))) (place-of (words-in x) k) (1 + length x)

@@ -1,11 +1,11 @@
 // The words of a names line: whether one can be new, and where one stands.
 ghost use mathlib.Core.Path.{_≡_};
-ghost use mathlib.Core.List.{List, _++_};
-ghost use Prim.Native.Nat.{ℕ, _≤_, _<_};
+ghost use mathlib.Core.List.{List};
+ghost use Prim.Native.Nat.{ℕ, _≤_};
 ghost use lib.ListN.{length};
 ghost use Rattle.orders.specs.Lists.{All, Distinct, elem, those-of};
-ghost use Rattle.syntax.specs.RingFile.{alphabet, Name, line, place-of};
-ghost use Rattle.syntax.specs.Words.{word-end, Word, spaced, among, begins};
+ghost use Rattle.syntax.specs.RingFile.{alphabet, Name};
+ghost use Rattle.syntax.specs.Words.{word-end, Word, spaced, among, begins, place-in};
 ghost use Rattle.syntax.specs.Scanner.{room, is-new};
 
 // Whether b may stand in a name.
@@ -126,18 +126,20 @@ pub fn word_end(x: &[u8]) -> usize
     i
 }
 
-// Where name number k, from 0, of the names line that x begins with starts: after so many spaces.
+// Where word number k, from 0, of the first line of x starts: after so many spaces. Past the last byte where there is no such word.
 pub fn place(x: &[u8], k: usize) -> usize
-    ensures { λ r. ⌜ ((ns : List (List ℕ)) (t : List ℕ) → All Word ns → now (x .entry) ≡ line ns ++ t → k < length ns → r ≡ place-of ns k) ⌝ }
-    ensures { λ r. ⌜ r ≤ length (now (x .entry)) ⌝ }
+    ensures { λ r. ⌜ r ≡ place-in (now (x .entry)) k ⌝ }
 {
     let mut left = k;
     let mut i = 0;
-    while i < x.len() {
-        if left == 0 {
-            return i;
+    while left != 0 {
+        if i >= x.len() {
+            return x.len() + 1;
         }
         let b = x[i];
+        if b == 10 {
+            return x.len() + 1;
+        }
         i += 1;
         if b == 32 {
             left -= 1;

@@ -68,19 +68,20 @@ fn may_begin(names: &HashSet<&[u8]>, part: &[u8]) -> bool {
     }
 }
 
-/// Returns the names of an accepted file as the parts of its names line.
+/// Returns the words of the first line as parts of the file: the names, where it is accepted.
 pub(crate) fn names(file: &[u8]) -> impl Iterator<Item = &[u8]> {
     let line = file.split(|&byte| byte == b'\n').next().unwrap_or_default();
     line.split(|&byte| byte == b' ')
 }
 
-/// Returns name `k`, from 0, of an accepted file as the part of its names line; of another number an empty part.
+/// Returns word `k`, from 0, of the first line as a part of the file, whatever its bytes are; no byte of its start where
+/// there is no such word.
 pub fn name_of(file: &[u8], k: usize) -> &[u8] {
-    names(file).nth(k).unwrap_or_default()
+    names(file).nth(k).unwrap_or(&file[..0])
 }
 
-/// Writes the bins of value line `line`, from 0, of an accepted file into `list`, rising, and returns how many. With
-/// fewer places than names, or another line, it writes nothing and returns 0.
+/// Writes the bins of value line `line`, from 0, into `list`, rising, and returns how many. With fewer places than
+/// names, more than 256 names, or a line that does not stand whole in the file, it writes nothing and returns 0.
 pub fn group_of(file: &[u8], names: usize, head: usize, line: usize, list: &mut [u16]) -> usize {
     if names > list.len().min(NAMES) {
         return 0;

@@ -1,4 +1,4 @@
-//! Ring files: accepted ones, whose names and groups are compared too, and changed ones.
+//! Ring files, accepted and changed ones: what they hold, and their names and groups, by the file's numbers and by any.
 use crate::draw::Draw;
 use crate::tables::{Answer, Tally};
 use std::collections::HashSet;
@@ -68,28 +68,54 @@ fn scan(tally: &mut Tally, bytes: &[u8]) -> Option<File> {
     ours.ok()
 }
 
-/// Compares a name of an accepted file.
+/// Compares a name: the part of the file that it is.
 fn compare_name(tally: &mut Tally, bytes: &[u8], k: usize) {
-    let name = tokuwhape::name_of(bytes, k);
-    assert_eq!(name, plain::name_of(bytes, k), "name {k} of {:?}", String::from_utf8_lossy(bytes));
-    tally.count("name", &Ok(name.len()));
+    let (ours, theirs) = (tokuwhape::name_of(bytes, k), plain::name_of(bytes, k));
+    assert_eq!(ours.as_ptr_range(), theirs.as_ptr_range(), "name {k} of {:?}", String::from_utf8_lossy(bytes));
+    tally.count("name", &Ok(ours.len()));
 }
 
-/// Compares a group of an accepted file, with so many places for it.
+/// Compares a group, with so many places for it.
 fn compare_group(tally: &mut Tally, bytes: &[u8], shape: File, line: usize, places: usize) {
     let (mut ours, mut theirs) = (vec![7; places], vec![7; places]);
     let many = tokuwhape::group_of(bytes, shape, line, &mut ours);
-    assert_eq!(many, plain::group_of(bytes, shape.names, shape.head, line, &mut theirs), "line {line}");
-    assert_eq!(ours, theirs, "line {line}");
+    assert_eq!(many, plain::group_of(bytes, shape.names, shape.head, line, &mut theirs), "{shape:?}, line {line}");
+    assert_eq!(ours, theirs, "{shape:?}, line {line}");
     if places < shape.names {
         assert!(many == 0 && ours.iter().all(|&old| old == 7));
     }
     tally.count("group", &Ok(many));
 }
 
-/// Compares what the file holds and, where it is accepted, some names and groups.
+/// A number near another, or none that any file has.
+fn any_number(draw: &mut Draw, near: usize) -> usize {
+    let (small, far) = (draw.below(300), usize::MAX - draw.below(4));
+    let any = (draw.number() >> draw.below(64)) as usize;
+    draw.pick(&[near, near, near.saturating_sub(1), near + 1, 0, small, any, far, far / 2, far / 512])
+}
+
+/// Compares names and groups by numbers that need not be the file's.
+fn compare_any(tally: &mut Tally, draw: &mut Draw, bytes: &[u8], near: File) {
+    let k = any_number(draw, near.names);
+    compare_name(tally, bytes, k);
+    let (names, head) = (any_number(draw, near.names), any_number(draw, near.head));
+    let line = any_number(draw, near.lines);
+    let small = draw.below(300);
+    let places = draw.pick(&[256, near.names, names.min(300), small]);
+    compare_group(tally, bytes, File { names, head, lines: near.lines }, line, places);
+}
+
+/// Compares what the file holds, and some names and groups.
 fn compare(tally: &mut Tally, draw: &mut Draw, bytes: &[u8]) {
-    let Some(shape) = scan(tally, bytes) else { return };
+    let Some(shape) = scan(tally, bytes) else {
+        let head = bytes.iter().position(|&byte| byte == b'\n').map_or(bytes.len(), |end| end + 1);
+        let names = bytes[..head].split(|&byte| byte == b' ').count();
+        let lines = (bytes.len() - head) / (2 * names);
+        for _ in 0..3 {
+            compare_any(tally, draw, bytes, File { names, head, lines });
+        }
+        return;
+    };
     for k in [0, shape.names - 1, draw.below(shape.names)] {
         compare_name(tally, bytes, k);
     }
@@ -99,6 +125,7 @@ fn compare(tally: &mut Tally, draw: &mut Draw, bytes: &[u8]) {
             compare_group(tally, bytes, shape, line, places);
         }
     }
+    compare_any(tally, draw, bytes, shape);
 }
 
 /// A ring file, accepted or changed.

@@ -7,7 +7,7 @@ use Rattle.calls.proofs.number.Reads as number-reads
 use Rattle.calls.proofs.place.Reads as place-reads
 use Rattle.ringfile.proofs.scan.Reads as scan-reads
 use denote.Ref.{now}
-use Rattle.coded_file.proofs.Coding.{ring-coded, refused-coded}
+use Rattle.coded_file.proofs.Coding.{ring-said, refused-said}
 
 scan-requires : tie.Need-scan-requires
 scan-requires c κs = search needs
@@ -25,10 +25,10 @@ number-requires : tie.Need-number-requires
 number-requires c κs = search needs
 
 returns : tie.Need-returns
-returns c = ring-coded (now (c .before .before .before .before .before .args .file)) (c .before .before .before .scan .result) (c .before .before .before .scan .ensures) (c .before .found .given .0 .0) (c .before .found .given .0 .1 .0) (c .before .found .given .0 .1 .1 .0) (c .before .found .given .1)
+returns c = ring-said (now (c .before .before .before .before .before .args .file)) (c .before .before .before .scan .result) (c .before .before .before .scan .ensures) (c .before .found .given .0 .0) (c .before .found .given .0 .1 .0) (c .before .found .given .0 .1 .1 .0) (c .before .found .given .1)
 
 returns-2 : tie.Need-returns-2
-returns-2 c = refused-coded (now (c .before .before .before .before .before .before .before .args .file)) (c .before .before .before .before .before .scan .result) (c .before .before .before .before .before .scan .ensures) (c .number .result) (c .before .place .result) (c .before .before .before .found2 .given .0 .0) (c .before .before .before .found2 .given .1) (c .number .ensures) (c .before .place .ensures)
+returns-2 c = refused-said (now (c .before .before .before .before .before .before .before .args .file)) (c .before .before .before .before .before .scan .result) (c .before .before .before .before .before .scan .ensures) (c .number .result) (c .before .place .result) (c .before .before .before .found2 .given .0 .0) (c .before .before .before .found2 .given .1) (c .number .ensures) (c .before .place .ensures)
 
 pub scan-spec : {M : Type 1} → statement M
 scan-spec =

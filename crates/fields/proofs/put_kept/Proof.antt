@@ -8,6 +8,7 @@ use Rattle.orders.specs.CircularOrder.{Restriction}
 use Rattle.orders.specs.Aim.{aim-of}
 use Rattle.output.proofs.Laws.{appends-then, appends-as}
 use Rattle.ringfile.specs.RingFile.{FileHolds}
+use Rattle.ringfile.proofs.Values.{name-held}
 use Rattle.fields.specs.Fields.{name}
 use Rattle.series.proofs.Words.{name-few}
 use Rattle.fields.proofs.Aiming.{same-group, aim-range, kept-within}
@@ -31,13 +32,13 @@ leaf c = rw (aimed c) (aim-range (c .before .before .before .before .before .bef
 named : (c : tie.After-name-of) (f : FileHolds (now (c .before .before .before .before .before .before .before .before .before .before .before .before .before .before .before .args .file)) (c .before .before .before .before .before .before .before .before .before .before .before .before .before .before .before .args .names) (c .before .before .before .before .before .before .before .before .before .before .before .before .before .before .before .args .head) (c .before .before .before .before .before .before .before .before .before .before .before .before .before .before .before .args .lines))
     → now (c .name-of .result) ≡ name (f .ns) (aim-of (elem (now (c .before .before .before .before .before .before .before .before .before .before .before .before .before .before .before .args .list))) (now (c .before .before .before .before .before .before .before .before .before .before .before .before .before .before .before .args .order)))
 named c f =
-    c .name-of .ensures (f .ns) (f .vss) (f .rules) (f .bytes) (omega (arith, leaf (c .before .before .before .before .before .before), f .leaves))
+    c .name-of .ensures .0 ∙ name-held f (c .before .before .before .before .before .before .middle .result - 1)
     ∙ ap (name (f .ns)) (aimed (c .before .before .before .before .before .before))
 
 few : (c : tie.After-name-of) → length (now (c .name-of .result)) ≤ 8
 few c =
     let f = c .before .before .before .before .before .before .before .before .before .before .before .before .before .before .before .pre .0 in
-    rw (c .name-of .ensures (f .ns) (f .vss) (f .rules) (f .bytes) (omega (arith, leaf (c .before .before .before .before .before .before), f .leaves)))
+    rw (c .name-of .ensures .0 ∙ name-held f (c .before .before .before .before .before .before .middle .result - 1))
     (name-few f (c .before .before .before .before .before .before .middle .result - 1) (omega (arith, leaf (c .before .before .before .before .before .before))))
 
 slice-aggregate-mark-list : tie.Need-slice-aggregate-mark-list

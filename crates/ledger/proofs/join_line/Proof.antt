@@ -7,9 +7,10 @@ use denote.Ref.{now}
 use lib.ListN.{take, drop, getD}
 use Rattle.tokens.proofs.Writes.{read-part}
 use Rattle.ringfile.specs.RingFile.{leaves-on, FileHolds}
+use Rattle.ringfile.proofs.Groups.{group-file}
 use Rattle.ledger.specs.Ledger.{state-at}
 use Rattle.ledger.specs.Stands.{lists-of}
-use Rattle.ledger.proofs.Files.{file-line, stands-more}
+use Rattle.ledger.proofs.Files.{few-names, file-line, stands-more}
 use Rattle.ledger.proofs.join_line.Statement.{statement}
 use Rattle.ledger.proofs.join_line.Tie as tie
 use Rattle.ledger.proofs.join_line.Reads as reads
@@ -38,7 +39,7 @@ part-advance-end c = search needs
 -- The leaves that were read.
 leaves : (c : tie.After-group-of) (f : FileHolds (now (c .before .before .before .before .before .before .args .file)) (c .before .before .before .before .before .before .args .names) (c .before .before .before .before .before .before .args .head) (c .before .before .before .before .before .before .args .lines))
     → take (c .group-of .result - 0) (drop 0 (c .group-of .last .1 .1 .1 .1 .0)) ≡ leaves-on (getD (f .vss) (c .before .before .before .before .before .before .args .l) [])
-leaves c f = read-part (c .group-of .ensures .0 (f .ns) (f .vss) (f .rules) (f .bytes) (f .size) (f .leaves) (f .head) (omega (arith, c .before .before .before .before .before .before .pre .1, f .lines)) (omega (arith, f .rules .names .few-names)))
+leaves c f = read-part (group-file f (c .before .before .before .before .before .before .args .l) (c .before .before .before .before .before .before .pre .1) (omega (arith, few-names f)) (c .group-of .ensures .0))
 
 advance-requires : tie.Need-advance-requires
 advance-requires c κs = (state-at (c .before .before .before .before .before .before .before .before .before .before .before .before .args .names) (lists-of (c .before .before .before .before .before .before .before .before .before .before .before .before .pre .0)) (c .before .before .before .before .before .before .before .before .before .before .before .before .args .l), c .before .before .before .before .before .before .before .before .before .before .before .before .pre .3, rw (leaves (c .before .before .before .before .before .before) (c .before .before .before .before .before .before .before .before .before .before .before .before .pre .0)) (file-line (c .before .before .before .before .before .before .before .before .before .before .before .before .pre .0) (c .before .before .before .before .before .before .before .before .before .before .before .before .args .l) (c .before .before .before .before .before .before .before .before .before .before .before .before .pre .1)), c .before .before .before .before .before .before .before .before .before .before .before .before .pre .2)

@@ -6,9 +6,10 @@ use denote.Ref.{now}
 use lib.ListN.{length, take, drop, getD}
 use Rattle.tokens.proofs.Writes.{read-part}
 use Rattle.ringfile.specs.RingFile.{leaves-on, FileHolds}
+use Rattle.ringfile.proofs.Groups.{group-file}
 use Rattle.ledger.specs.Ledger.{state-at}
 use Rattle.ledger.specs.Stands.{Line, lists-of}
-use Rattle.ledger.proofs.Files.{file-line, stands-more}
+use Rattle.ledger.proofs.Files.{few-names, file-line, stands-more}
 use Rattle.printing.proofs.Printing.{line-appends}
 use borrow.Author.Needs.{needs}
 use Rattle.printing.proofs.print_group.Statement.{statement}
@@ -23,7 +24,7 @@ use Rattle.ringfile.proofs.group_of.Reads as group-of-reads
 -- The leaves that were read.
 leaves : (c : tie.After-group-of) (f : FileHolds (now (c .before .before .before .before .before .before .before .before .args .file)) (c .before .before .before .before .before .before .before .before .args .names) (c .before .before .before .before .before .before .before .before .args .head) (c .before .before .before .before .before .before .before .before .args .lines))
     → take (c .group-of .result - 0) (drop 0 (c .group-of .last .1 .1 .1 .1 .0)) ≡ leaves-on (getD (f .vss) (c .before .before .before .before .before .before .before .before .args .l) [])
-leaves c f = read-part (c .group-of .ensures .0 (f .ns) (f .vss) (f .rules) (f .bytes) (f .size) (f .leaves) (f .head) (omega (arith, c .before .before .before .before .before .before .before .before .pre .2, f .lines)) (omega (arith, f .rules .names .few-names)))
+leaves c f = read-part (group-file f (c .before .before .before .before .before .before .before .before .args .l) (c .before .before .before .before .before .before .before .before .pre .2) (omega (arith, few-names f)) (c .group-of .ensures .0))
 
 line : (c : tie.After-group-of) → Line (c .before .before .before .before .before .before .before .before .args .names) (take (c .group-of .result - 0) (drop 0 (c .group-of .last .1 .1 .1 .1 .0)))
 line c = rw (leaves c (c .before .before .before .before .before .before .before .before .pre .0)) (file-line (c .before .before .before .before .before .before .before .before .pre .0) (c .before .before .before .before .before .before .before .before .args .l) (c .before .before .before .before .before .before .before .before .pre .2))

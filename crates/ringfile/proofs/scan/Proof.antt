@@ -20,7 +20,7 @@ abbrev μ-loop : tie.MeasureT-loop
 μ-loop file n c₀ i₀ c i = length file - i
 
 returns : tie.Need-returns Inv-loop μ-loop
-returns c = too-long (c .if1 .taken) refl
+returns c = too-long (c .if1 .taken)
 
 at-phase-requires : tie.Need-at-phase-requires Inv-loop μ-loop
 at-phase-requires c κs = tt

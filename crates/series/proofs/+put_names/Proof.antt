@@ -6,6 +6,7 @@ use denote.Ref.{now}
 use lib.ListN.{length, getD}
 use Rattle.output.proofs.Laws.{appends-none, appends-then, appends-as}
 use Rattle.ringfile.specs.RingFile.{FileHolds}
+use Rattle.ringfile.proofs.Values.{name-held}
 use Rattle.series.specs.Series.{name}
 use Rattle.series.proofs.Words.{words-none, words-one, words-more, all-first, all-tail, name-few}
 use Prim.Native.Nat.{ℕ, _+_, _-_, _≤_, _<_}
@@ -39,7 +40,7 @@ first c = all-first (λ b. (1 ≤ b) × (b ≤ c .before .before .before .before
 
 named : {t : ℕ} (c : put-names-lts.After-name-of (put-names-calls t) (put-names-at t) put-names.Post) (f : FileHolds (now (c .before .before .before .before .before .before .args .file)) (c .before .before .before .before .before .before .args .names) (c .before .before .before .before .before .before .args .head) (c .before .before .before .before .before .before .args .lines))
     → now (c .name-of .result) ≡ getD (f .ns) (getD (now (c .before .before .before .before .before .before .args .order)) 0 0 - 1) []
-named c f = c .name-of .ensures (f .ns) (f .vss) (f .rules) (f .bytes) (omega (arith, first (c .before .before), f .leaves))
+named c f = c .name-of .ensures .0 ∙ name-held f (getD (now (c .before .before .before .before .before .before .args .order)) 0 0 - 1)
 
 few : {t : ℕ} (c : put-names-lts.After-name-of (put-names-calls t) (put-names-at t) put-names.Post) → length (now (c .name-of .result)) ≤ 8
 few c = rw (named c (c .before .before .before .before .before .before .pre .1 .0)) (name-few (c .before .before .before .before .before .before .pre .1 .0) (getD (now (c .before .before .before .before .before .before .args .order)) 0 0 - 1) (omega (arith, first (c .before .before))))

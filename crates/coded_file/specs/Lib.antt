@@ -1,2 +1,0 @@
--- What the scan of a ring file answers, as numbers.
-pub mod Scan
