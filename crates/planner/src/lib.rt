@@ -56,8 +56,8 @@ pub fn trial(
 ) -> Answer
     ensures { λ r. ⌜ TrialPromise n (now (nodes .entry)) have (now (book .entry)) count (now (list .entry)) (report r) ⌝ }
 {
-    let mut toks = [0u16; 512];
-    let tried = attempts::attempt(n, nodes, have, book, count, list, &mut toks);
+    let mut spare = [0u16; 512];
+    let tried = attempts::attempt(n, nodes, have, book, count, list, &mut spare);
     match tried {
         Tried::Refused(refusal) => Answer::Refused(refusal),
         Tried::Joined(_) => Answer::Done(count + 1),
