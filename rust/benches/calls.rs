@@ -263,6 +263,26 @@ fn longest_conflict(n: usize) -> Row {
     ("conflict, longest list", times)
 }
 
+/// The text of n leaves with one node in another, n - 2 deep: P-nodes and C-nodes in turn.
+fn deepest(n: usize) -> Vec<u8> {
+    let opened: String = (2..n).map(|leaf| format!("{}({leaf} ", ["P", "C"][leaf % 2])).collect();
+    format!("1 {opened}{n}{}", ")".repeat(n - 2)).into_bytes()
+}
+
+/// The calls on the deepest tree of n leaves: a trial of the innermost pair, and one of the pair with all nodes between.
+fn deep_rows(n: usize) -> Vec<Row> {
+    let text = deepest(n);
+    let deep = || changed(n, |ring| ring.read(&text));
+    let (inner, ends) = ([n as u16 - 1, n as u16], [2, n as u16]);
+    vec![
+        ("trial, deepest tree, inner pair", short(deep(), |ring| ring.trial(black_box(&inner)))),
+        ("trial, deepest tree, outer pair", short(deep(), |ring| ring.trial(black_box(&ends)))),
+        ("order, deepest tree", short(deep(), |ring| ring.order())),
+        ("write, deepest tree", short(deep(), |ring| ring.write())),
+        ("read, deepest tree", short(deep(), |ring| ring.read(black_box(&text)))),
+    ]
+}
+
 /// The calls on a ring file with n names.
 fn file_rows(n: usize) -> Vec<Row> {
     let file = ring_file(n, &runs(n)[..GROUPS]);
@@ -275,7 +295,7 @@ fn file_rows(n: usize) -> Vec<Row> {
 }
 
 fn main() {
-    let tables = SIZES.map(|n| [ring_rows(n), vec![longest_conflict(n)], file_rows(n)].concat());
+    let tables = SIZES.map(|n| [ring_rows(n), vec![longest_conflict(n)], deep_rows(n), file_rows(n)].concat());
     println!("| call | n | proved, ns | plain, ns | ratio |\n|---|---|---|---|---|");
     for call in 0..tables[0].len() {
         for (n, table) in SIZES.iter().zip(&tables) {
