@@ -4,6 +4,8 @@ use native.Mathlib.Omega.{arith}
 use lib.ListN.{length, length-set}
 use Rattle.tokens.proofs.Steps.{Left, from-start, part-left, at-last, next-item, next-token, frontier-leaf-at}
 use Rattle.tokens.proofs.Writes.{written-start, written-one, written-then, written-end}
+use Rattle.tokens.proofs.Counts.{node-tokens}
+use Rattle.frontier.proofs.Unvisited.{unvisited-fall}
 use Rattle.frontier.proofs.Collecting.{Collected, node-frontier, leaf-room, some-room, node-room}
 use Prim.Native.Nat.{ℕ, _-_, _≤_, _<_}
 use borrow.Fn.Kinds.{In}
@@ -20,10 +22,10 @@ use Rattle.frontier.proofs.+collect_c+collect_p.{statement}
 use Rattle.frontier.proofs.+collect_c+collect_p.Tie.{close}
 
 abbrev μ-collect-c : Measures 2 collect-c-kinds.ps ℕ
-μ-collect-c κs a = length (a .0 .now)
+μ-collect-c κs a = node-tokens (a .0 .now)
 
 abbrev μ-collect-p : Measures 2 collect-p-kinds.ps ℕ
-μ-collect-p κs a = length (a .0 .now)
+μ-collect-p κs a = node-tokens (a .0 .now)
 
 abbrev collect-c-at : ℕ → In 2 collect-c-kinds.ps
 collect-c-at t = and 2 collect-c-kinds.ps (is 2 collect-c-kinds.ps μ-collect-c t) collect-c.Pre
@@ -121,7 +123,7 @@ collect-c-part-collect-p-end : (t : ℕ) → collect-c-lts.Need-part-collect-p-e
 collect-c-part-collect-p-end t c = omega (arith, some-room (c .before .before .before .before .before .before .before .before .before .before .before .pre .1) (c .before .before .before .before .before .before .before .before .loop .inv .2) (c .before .before .before .before .before .before .before .loop-test .taken))
 
 collect-c-collect-p-requires : (t : ℕ) → collect-c-lts.Need-collect-p-requires (collect-c-calls t) (collect-c-at t) collect-c.Post collect-c-Inv-loop collect-c-μ-loop
-collect-c-collect-p-requires t c κs = let q = node-room (c .before .before .before .before .before .before .before .before .before .before .before .before .pre .1) (c .before .before .before .before .before .before .before .before .before .loop .inv .2) (c .before .before .before .before .before .before .before .before .loop-test .taken) (c .before .before .before .before .before .before .if1 .left) (c .before .before .before .before .items .ensures .1) in (omega (arith, c .before .before .before .before .items .ensures .0), (q .0, q .1, omega (arith, q .2, c .collect-p-arg .given)))
+collect-c-collect-p-requires t c κs = let q = node-room (c .before .before .before .before .before .before .before .before .before .before .before .before .pre .1) (c .before .before .before .before .before .before .before .before .before .loop .inv .2) (c .before .before .before .before .before .before .before .before .loop-test .taken) (c .before .before .before .before .before .before .if1 .left) (c .before .before .before .before .items .ensures .1) in (omega (arith, unvisited-fall (c .before .before .before .before .before .before .before .before .before .before .before .before .pre .1 .0, c .before .before .before .before .before .before .before .before .before .before .before .before .pre .1 .1) (c .before .before .before .before .before .before .before .before .before .loop .inv .2) (c .before .before .before .before .before .before .before .before .loop-test .taken) (c .before .before .before .before .before .before .if1 .left) (c .before .before .before .before .items .ensures .1)), (q .0, q .1, omega (arith, q .2, c .collect-p-arg .given)))
 
 collect-c-add-k-2 : (t : ℕ) → collect-c-lts.Need-add-k-2 (collect-c-calls t) (collect-c-at t) collect-c.Post collect-c-Inv-loop collect-c-μ-loop
 collect-c-add-k-2 t c = let q = node-room (c .before .before .before .before .before .before .before .before .before .before .before .before .before .before .before .pre .1) (c .before .before .before .before .before .before .before .before .before .before .before .before .loop .inv .2) (c .before .before .before .before .before .before .before .before .before .before .before .loop-test .taken) (c .before .before .before .before .before .before .before .before .before .if1 .left) (c .before .before .before .before .before .before .before .items .ensures .1) in omega (arith, some-room (c .before .before .before .before .before .before .before .before .before .before .before .before .before .before .before .pre .1) (c .before .before .before .before .before .before .before .before .before .before .before .before .loop .inv .2) (c .before .before .before .before .before .before .before .before .before .before .before .loop-test .taken), c .before .before .collect-p .ensures (q .0) (q .1) .many, q .2)
@@ -145,7 +147,7 @@ collect-c-part-collect-c-end : (t : ℕ) → collect-c-lts.Need-part-collect-c-e
 collect-c-part-collect-c-end t c = omega (arith, some-room (c .before .before .before .before .before .before .before .before .before .before .before .pre .1) (c .before .before .before .before .before .before .before .before .loop .inv .2) (c .before .before .before .before .before .before .before .loop-test .taken))
 
 collect-c-collect-c-requires : (t : ℕ) → collect-c-lts.Need-collect-c-requires (collect-c-calls t) (collect-c-at t) collect-c.Post collect-c-Inv-loop collect-c-μ-loop
-collect-c-collect-c-requires t c κs = let q = node-room (c .before .before .before .before .before .before .before .before .before .before .before .before .pre .1) (c .before .before .before .before .before .before .before .before .before .loop .inv .2) (c .before .before .before .before .before .before .before .before .loop-test .taken) (c .before .before .before .before .before .before .if1 .left) (c .before .before .before .before .items .ensures .1) in (omega (arith, c .before .before .before .before .items .ensures .0), (q .0, q .1, omega (arith, q .2, c .collect-c-arg .given)))
+collect-c-collect-c-requires t c κs = let q = node-room (c .before .before .before .before .before .before .before .before .before .before .before .before .pre .1) (c .before .before .before .before .before .before .before .before .before .loop .inv .2) (c .before .before .before .before .before .before .before .before .loop-test .taken) (c .before .before .before .before .before .before .if1 .left) (c .before .before .before .before .items .ensures .1) in (omega (arith, unvisited-fall (c .before .before .before .before .before .before .before .before .before .before .before .before .pre .1 .0, c .before .before .before .before .before .before .before .before .before .before .before .before .pre .1 .1) (c .before .before .before .before .before .before .before .before .before .loop .inv .2) (c .before .before .before .before .before .before .before .before .loop-test .taken) (c .before .before .before .before .before .before .if1 .left) (c .before .before .before .before .items .ensures .1)), (q .0, q .1, omega (arith, q .2, c .collect-c-arg .given)))
 
 collect-c-add-k-3 : (t : ℕ) → collect-c-lts.Need-add-k-3 (collect-c-calls t) (collect-c-at t) collect-c.Post collect-c-Inv-loop collect-c-μ-loop
 collect-c-add-k-3 t c = let q = node-room (c .before .before .before .before .before .before .before .before .before .before .before .before .before .before .before .pre .1) (c .before .before .before .before .before .before .before .before .before .before .before .before .loop .inv .2) (c .before .before .before .before .before .before .before .before .before .before .before .loop-test .taken) (c .before .before .before .before .before .before .before .before .before .if1 .left) (c .before .before .before .before .before .before .before .items .ensures .1) in omega (arith, some-room (c .before .before .before .before .before .before .before .before .before .before .before .before .before .before .before .pre .1) (c .before .before .before .before .before .before .before .before .before .before .before .before .loop .inv .2) (c .before .before .before .before .before .before .before .before .before .before .before .loop-test .taken), c .before .before .collect-c .ensures (q .0) (q .1) .many, q .2)
@@ -244,7 +246,7 @@ collect-p-part-collect-c-end : (t : ℕ) → collect-p-lts.Need-part-collect-c-e
 collect-p-part-collect-c-end t c = omega (arith, some-room (c .before .before .before .before .before .before .before .before .before .before .before .pre .1) (c .before .before .before .before .before .before .before .before .loop .inv .2) (c .before .before .before .before .before .before .before .loop-test .taken))
 
 collect-p-collect-c-requires : (t : ℕ) → collect-p-lts.Need-collect-c-requires (collect-p-calls t) (collect-p-at t) collect-p.Post collect-p-Inv-loop collect-p-μ-loop
-collect-p-collect-c-requires t c κs = let q = node-room (c .before .before .before .before .before .before .before .before .before .before .before .before .pre .1) (c .before .before .before .before .before .before .before .before .before .loop .inv .2) (c .before .before .before .before .before .before .before .before .loop-test .taken) (c .before .before .before .before .before .before .if1 .left) (c .before .before .before .before .items .ensures .1) in (omega (arith, c .before .before .before .before .items .ensures .0), (q .0, q .1, omega (arith, q .2, c .collect-c-arg .given)))
+collect-p-collect-c-requires t c κs = let q = node-room (c .before .before .before .before .before .before .before .before .before .before .before .before .pre .1) (c .before .before .before .before .before .before .before .before .before .loop .inv .2) (c .before .before .before .before .before .before .before .before .loop-test .taken) (c .before .before .before .before .before .before .if1 .left) (c .before .before .before .before .items .ensures .1) in (omega (arith, unvisited-fall (c .before .before .before .before .before .before .before .before .before .before .before .before .pre .1 .0, c .before .before .before .before .before .before .before .before .before .before .before .before .pre .1 .1) (c .before .before .before .before .before .before .before .before .before .loop .inv .2) (c .before .before .before .before .before .before .before .before .loop-test .taken) (c .before .before .before .before .before .before .if1 .left) (c .before .before .before .before .items .ensures .1)), (q .0, q .1, omega (arith, q .2, c .collect-c-arg .given)))
 
 collect-p-add-k-2 : (t : ℕ) → collect-p-lts.Need-add-k-2 (collect-p-calls t) (collect-p-at t) collect-p.Post collect-p-Inv-loop collect-p-μ-loop
 collect-p-add-k-2 t c = let q = node-room (c .before .before .before .before .before .before .before .before .before .before .before .before .before .before .before .pre .1) (c .before .before .before .before .before .before .before .before .before .before .before .before .loop .inv .2) (c .before .before .before .before .before .before .before .before .before .before .before .loop-test .taken) (c .before .before .before .before .before .before .before .before .before .if1 .left) (c .before .before .before .before .before .before .before .items .ensures .1) in omega (arith, some-room (c .before .before .before .before .before .before .before .before .before .before .before .before .before .before .before .pre .1) (c .before .before .before .before .before .before .before .before .before .before .before .before .loop .inv .2) (c .before .before .before .before .before .before .before .before .before .before .before .loop-test .taken), c .before .before .collect-c .ensures (q .0) (q .1) .many, q .2)
@@ -268,7 +270,7 @@ collect-p-part-collect-p-end : (t : ℕ) → collect-p-lts.Need-part-collect-p-e
 collect-p-part-collect-p-end t c = omega (arith, some-room (c .before .before .before .before .before .before .before .before .before .before .before .pre .1) (c .before .before .before .before .before .before .before .before .loop .inv .2) (c .before .before .before .before .before .before .before .loop-test .taken))
 
 collect-p-collect-p-requires : (t : ℕ) → collect-p-lts.Need-collect-p-requires (collect-p-calls t) (collect-p-at t) collect-p.Post collect-p-Inv-loop collect-p-μ-loop
-collect-p-collect-p-requires t c κs = let q = node-room (c .before .before .before .before .before .before .before .before .before .before .before .before .pre .1) (c .before .before .before .before .before .before .before .before .before .loop .inv .2) (c .before .before .before .before .before .before .before .before .loop-test .taken) (c .before .before .before .before .before .before .if1 .left) (c .before .before .before .before .items .ensures .1) in (omega (arith, c .before .before .before .before .items .ensures .0), (q .0, q .1, omega (arith, q .2, c .collect-p-arg .given)))
+collect-p-collect-p-requires t c κs = let q = node-room (c .before .before .before .before .before .before .before .before .before .before .before .before .pre .1) (c .before .before .before .before .before .before .before .before .before .loop .inv .2) (c .before .before .before .before .before .before .before .before .loop-test .taken) (c .before .before .before .before .before .before .if1 .left) (c .before .before .before .before .items .ensures .1) in (omega (arith, unvisited-fall (c .before .before .before .before .before .before .before .before .before .before .before .before .pre .1 .0, c .before .before .before .before .before .before .before .before .before .before .before .before .pre .1 .1) (c .before .before .before .before .before .before .before .before .before .loop .inv .2) (c .before .before .before .before .before .before .before .before .loop-test .taken) (c .before .before .before .before .before .before .if1 .left) (c .before .before .before .before .items .ensures .1)), (q .0, q .1, omega (arith, q .2, c .collect-p-arg .given)))
 
 collect-p-add-k-3 : (t : ℕ) → collect-p-lts.Need-add-k-3 (collect-p-calls t) (collect-p-at t) collect-p.Post collect-p-Inv-loop collect-p-μ-loop
 collect-p-add-k-3 t c = let q = node-room (c .before .before .before .before .before .before .before .before .before .before .before .before .before .before .before .pre .1) (c .before .before .before .before .before .before .before .before .before .before .before .before .loop .inv .2) (c .before .before .before .before .before .before .before .before .before .before .before .loop-test .taken) (c .before .before .before .before .before .before .before .before .before .if1 .left) (c .before .before .before .before .before .before .before .items .ensures .1) in omega (arith, some-room (c .before .before .before .before .before .before .before .before .before .before .before .before .before .before .before .pre .1) (c .before .before .before .before .before .before .before .before .before .before .before .before .loop .inv .2) (c .before .before .before .before .before .before .before .before .before .before .before .loop-test .taken), c .before .before .collect-p .ensures (q .0) (q .1) .many, q .2)
