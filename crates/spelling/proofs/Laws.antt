@@ -1,6 +1,6 @@
 -- The text of a sequence, by its first item; and a byte after what was written.
-use mathlib.Core.Path.{_≡_, refl, sym, ap, _∙_}
-use mathlib.Core.List.{List, [], _∷_, _++_, append-assoc, append-nil}
+use mathlib.Core.Path.{_≡_, refl, ap, _∙_}
+use mathlib.Core.List.{List, [], _∷_, _++_}
 use Prim.Native.Nat.{ℕ, suc, _+_, _≤_, _<_}
 use native.Mathlib.Omega.{arith}
 use lib.ListN.{length, drop, set, length-append, length-drop}
@@ -19,13 +19,11 @@ more-gap nil = refl
 more-gap (leaf b f) = refl
 more-gap (node k i f) = refl
 
-pub text-split : (j : Judged) → text (tree j) ≡ opening (tree j) ++ text (tree (items-of j)) ++ closing (tree j) ++ text (tree (rest-of j))
+pub text-split : (j : Judged) → text (tree j) ≡ opening (tree j) ++ (text (tree (items-of j)) ++ (closing (tree j) ++ text (tree (rest-of j))))
 unfolding opening closing items-of rest-of
 text-split j-nil = refl
-text-split (j-leaf s b j) = rw (more-gap (tree j), append-nil) (sym (append-assoc (digits b) (gap (tree j)) (text (tree j))))
-text-split (j-node s k i j) =
-    ap (λ (l : List ℕ). letter k ∷ 40 ∷ (text (tree i) ++ (41 ∷ l))) (more-gap (tree j))
-    ∙ simp append-assoc
+text-split (j-leaf s b j) = rw (more-gap (tree j))
+text-split (j-node s k i j) = ap (λ (l : List ℕ). letter k ∷ 40 ∷ (text (tree i) ++ (41 ∷ l))) (more-gap (tree j))
 
 -- What was written, and a byte after it.
 pub wrote-byte : {xs old new : List ℕ} {k : ℕ} (v : ℕ) → Wrote xs old new k → length xs < length old → Wrote (xs ++ (v ∷ [])) old (set new k v) (k + 1)
@@ -63,15 +61,7 @@ closing-node j-nil e ne h = absurd (omega (arith, ap length e))
 closing-node (j-leaf s b j) e ne h = absurd (h refl)
 closing-node (j-node s k i j) e ne h = refl
 
--- The bytes of the four parts of a text.
-pub room-split : (j : Judged) {n : ℕ} → length (text (tree j)) ≤ n
-    → length (opening (tree j)) + length (text (tree (items-of j))) + length (closing (tree j)) + length (text (tree (rest-of j))) ≤ n
-room-split j h = omega (arith, simp length-append at (ap length (text-split j)))
-
--- Room for n more after what was written.
-pub wrote-room : {xs old new : List ℕ} {k : ℕ} (n : ℕ) → Wrote xs old new k → length xs + n ≤ length old → k + n ≤ length new
-wrote-room {xs} {old} n w h = omega (arith, w .many, ap length (w .text), length-append xs (drop (length xs) old), length-drop (length xs) old)
-
+-- A text that fits changes no length.
 pub wrote-length : {xs old new : List ℕ} {k : ℕ} → Wrote xs old new k → length xs ≤ length old → length new ≡ length old
 wrote-length {xs} {old} w h = omega (arith, ap length (w .text), length-append xs (drop (length xs) old), length-drop (length xs) old)
 

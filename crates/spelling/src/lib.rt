@@ -64,44 +64,50 @@ fn write_closing(toks: &[u16], out: &mut [u8]) -> usize
     1 + write_gap(tokens::rest(toks), &mut out[1..])
 }
 
-// Writes the text of a P-node's items, and says how many bytes. (A leaf among them has no items of its own.)
+// Writes the text of a P-node's items, and says how many bytes.
 fn write_p(toks: &[u16], out: &mut [u8]) -> usize
     requires { ⌜ Room text (now toks) (length (now out)) ⌝ }
     ensures { λ r. ⌜ ((j : Judged) → now (toks .entry) ≡ encode j → Wrote (text (tree j)) (now (out .entry)) (now (out .exit)) r) ⌝ }
 {
-    if toks.len() == 0 {
-        return 0;
+    let mut k = 0;
+    let mut i = 0;
+    while i < toks.len() {
+        let next = &toks[i..];
+        // 1 a P-node, 3 a C-node
+        let kind = toks[i] / 8 % 4;
+        k += write_opening(next, &mut out[k..]);
+        if kind == 3 {
+            k += write_c(tokens::items(next), &mut out[k..]);
+        } else if kind == 1 {
+            k += write_p(tokens::items(next), &mut out[k..]);
+        }
+        k += write_closing(next, &mut out[k..]);
+        i += tokens::size(next);
     }
-    let a = write_opening(toks, out);
-    let inner = tokens::items(toks);
-    let mut b = 0;
-    if tokens::shape(toks) == 2 {
-        b = a + write_p(inner, &mut out[a..]);
-    } else {
-        b = a + write_c(inner, &mut out[a..]);
-    }
-    let c = b + write_closing(toks, &mut out[b..]);
-    c + write_p(tokens::rest(toks), &mut out[c..])
+    k
 }
 
-// Writes the text of a C-node's items, and says how many bytes. (A leaf among them has no items of its own.)
+// Writes the text of a C-node's items, and says how many bytes.
 fn write_c(toks: &[u16], out: &mut [u8]) -> usize
     requires { ⌜ Room text (now toks) (length (now out)) ⌝ }
     ensures { λ r. ⌜ ((j : Judged) → now (toks .entry) ≡ encode j → Wrote (text (tree j)) (now (out .entry)) (now (out .exit)) r) ⌝ }
 {
-    if toks.len() == 0 {
-        return 0;
+    let mut k = 0;
+    let mut i = 0;
+    while i < toks.len() {
+        let next = &toks[i..];
+        // 1 a P-node, 3 a C-node
+        let kind = toks[i] / 8 % 4;
+        k += write_opening(next, &mut out[k..]);
+        if kind == 1 {
+            k += write_p(tokens::items(next), &mut out[k..]);
+        } else if kind == 3 {
+            k += write_c(tokens::items(next), &mut out[k..]);
+        }
+        k += write_closing(next, &mut out[k..]);
+        i += tokens::size(next);
     }
-    let a = write_opening(toks, out);
-    let inner = tokens::items(toks);
-    let mut b = 0;
-    if tokens::shape(toks) == 2 {
-        b = a + write_p(inner, &mut out[a..]);
-    } else {
-        b = a + write_c(inner, &mut out[a..]);
-    }
-    let c = b + write_closing(toks, &mut out[b..]);
-    c + write_c(tokens::rest(toks), &mut out[c..])
+    k
 }
 
 // Writes the tree text of a tree in tokens, and says how many bytes.
