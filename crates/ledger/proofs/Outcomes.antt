@@ -27,7 +27,7 @@ use Rattle.leaving_out.proofs.Joined.{answers-tree, no-tree}
 use Rattle.ledger.specs.Ledger.{Outcome, kept, refused, empty, full, RingState, opened, joined, outcome, next}
 use Rattle.ledger.specs.declared.Tried.{Tried}
 use Rattle.ledger.specs.declared.Tried.the-variants.{Kept, Stays}
-use Rattle.ledger.specs.Stands.{RingStands, Line, Answers, is-kept, is-refused, is-empty, is-full}
+use Rattle.ledger.specs.Stands.{RingStands, Line, LineAnswers, is-kept, is-refused, is-empty, is-full}
 use Rattle.ledger.proofs.Books.{groups-booked, table-more}
 
 -- The fresh ring.
@@ -70,32 +70,32 @@ module _ (n : ℕ) (s : RingState) where
     same-group = ap marked w ∙ marked-group 4 n list (line .few-leaves) (line .group (omega (arith, some-leaf)))
 
     pub tried-refused : {r : Updated} → (length (s .groups) ≡ 96 → ⊥) → r ≡ Impossible → Joined (join (marked words) (s .tree)) old new r
-        → Answers (outcome n s list) old new Stays
+        → LineAnswers (outcome n s list) old new Stays
     tried-refused q e a =
         let z = no-tree (s .tree) same-group e a in
         rw (outcome-joined list some-leaf q, z) is-refused
 
     pub tried-kept : {r : Updated} {m : ℕ} → (length (s .groups) ≡ 96 → ⊥) → r ≡ Tokens m → Joined (join (marked words) (s .tree)) old new r
-        → Answers (outcome n s list) old new (Kept m)
+        → LineAnswers (outcome n s list) old new (Kept m)
     tried-kept {r} {m} q e a =
         let x = answers-tree e (subst (λ H. Joined (join H (s .tree)) old new r) same-group a) in
         rw (outcome-joined list some-leaf q, x .1) (is-kept (x .2))
 
-  pub tried-empty : (list : List ℕ) {old new : List ℕ} → length list ≡ 0 → Answers (outcome n s list) old new Stays
+  pub tried-empty : (list : List ℕ) {old new : List ℕ} → length list ≡ 0 → LineAnswers (outcome n s list) old new Stays
   tried-empty list h = rw (outcome-empty list h) is-empty
 
-  pub tried-full : (list : List ℕ) {old new : List ℕ} → (length list ≡ 0 → ⊥) → length (s .groups) ≡ 96 → Answers (outcome n s list) old new Stays
+  pub tried-full : (list : List ℕ) {old new : List ℕ} → (length list ≡ 0 → ⊥) → length (s .groups) ≡ 96 → LineAnswers (outcome n s list) old new Stays
   tried-full list h e = rw (outcome-full list h e) is-full
 
 -- Only a line that is kept changes the ring.
-pub answers-kept : {o : Outcome} {old new : List ℕ} {r : Tried} {k : ℕ} → r ≡ Kept k → Answers o old new r
+pub answers-kept : {o : Outcome} {old new : List ℕ} {r : Tried} {k : ℕ} → r ≡ Kept k → LineAnswers o old new r
     → (t : Forest) × (o ≡ kept t) × Wrote (flat t) old new k
 answers-kept {old = old} {new} {k = k} e (is-kept {t = t} {k = j} w) = let q : j ≡ k = cc in (t, refl, subst (Wrote (flat t) old new) q w)
 answers-kept e is-refused = absurd (let z : _≡_ {A = ℕ} 0 1 = cc in omega (arith, z))
 answers-kept e is-empty = absurd (let z : _≡_ {A = ℕ} 0 1 = cc in omega (arith, z))
 answers-kept e is-full = absurd (let z : _≡_ {A = ℕ} 0 1 = cc in omega (arith, z))
 
-pub answers-stays : {o : Outcome} {old new : List ℕ} {r : Tried} → r ≡ Stays → Answers o old new r
+pub answers-stays : {o : Outcome} {old new : List ℕ} {r : Tried} → r ≡ Stays → LineAnswers o old new r
     → (s : RingState) (line : ℕ) (list : List ℕ) → next s line list o ≡ s
 answers-stays h (is-kept {k = k} w) s line list = absurd (let z : _≡_ {A = ℕ} 0 1 = cc in omega (arith, z))
 answers-stays h is-refused s line list = refl
@@ -121,11 +121,11 @@ outcome-kept n s (b ∷ l) t e =
 
 -- The ring after a line that is kept.
 module _ (n : ℕ) (s : RingState) (line : ℕ) (list : List ℕ) {toks book table : List ℕ} {m count : ℕ} (h : RingStands n s toks m book table count) where
-  pub stays : {old new : List ℕ} {r : Tried} → r ≡ Stays → Answers (outcome n s list) old new r
+  pub stays : {old new : List ℕ} {r : Tried} → r ≡ Stays → LineAnswers (outcome n s list) old new r
       → RingStands n (next s line list (outcome n s list)) toks m book table count
   stays e a = subst (λ (u : RingState). RingStands n u toks m book table count) (sym (answers-stays e a s line list)) h
 
-  module _ {old tree : List ℕ} {r : Tried} {k : ℕ} (e : r ≡ Kept k) (a : Answers (outcome n s list) old tree r) where
+  module _ {old tree : List ℕ} {r : Tried} {k : ℕ} (e : r ≡ Kept k) (a : LineAnswers (outcome n s list) old tree r) where
     x : (t : Forest) × (outcome n s list ≡ kept t) × Wrote (flat t) old tree k
     x = answers-kept e a
 

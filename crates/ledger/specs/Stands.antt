@@ -31,11 +31,11 @@ pub record Line (n : ℕ) (list : List ℕ) : Type 0 where
 
 -- What a group line does: where it is kept, the new tree is written to the start of a table, and the answer says how many tokens it has; else
 -- the ring stays as it is.
-pub data Answers : Outcome → List ℕ → List ℕ → Tried → Type 0 where
-  is-kept : {t : Forest} {old new : List ℕ} {k : ℕ} → Wrote (flat t) old new k → Answers (kept t) old new (Kept k)
-  is-refused : {ns old new : List ℕ} → Answers (refused ns) old new Stays
-  is-empty : {old new : List ℕ} → Answers empty old new Stays
-  is-full : {old new : List ℕ} → Answers full old new Stays
+pub data LineAnswers : Outcome → List ℕ → List ℕ → Tried → Type 0 where
+  is-kept : {t : Forest} {old new : List ℕ} {k : ℕ} → Wrote (flat t) old new k → LineAnswers (kept t) old new (Kept k)
+  is-refused : {ns old new : List ℕ} → LineAnswers (refused ns) old new Stays
+  is-empty : {old new : List ℕ} → LineAnswers empty old new Stays
+  is-full : {old new : List ℕ} → LineAnswers full old new Stays
 
 -- The groups of an accepted file, in the sequence of its lines.
 abbrev pub lists-of : {x : List ℕ} {n h l : ℕ} → FileHolds x n h l → List (List ℕ)

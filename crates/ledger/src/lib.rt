@@ -7,7 +7,7 @@ ghost use Rattle.ringfile.specs.RingFile.{FileHolds};
 ghost use Rattle.parts.specs.Writers.{flat};
 ghost use Rattle.update.specs.Update.{Published};
 ghost use Rattle.ledger.specs.Ledger.{RingState, opened, outcome, next};
-ghost use Rattle.ledger.specs.Stands.{RingStands, Line, Answers, StandsAt, Tables};
+ghost use Rattle.ledger.specs.Stands.{RingStands, Line, LineAnswers, StandsAt, Tables};
 use update::Updated;
 
 // The sizes of a ring in lent tables: how many tokens its tree has, and how many groups its book.
@@ -38,7 +38,7 @@ pub fn fresh_ring(n: usize, toks: &mut [u16]) -> Ring
 fn attempt(toks: &[u16], n: usize, count: usize, list: &[u16], out: &mut [u16]) -> Tried
     requires { ⌜ (Published n (now toks)) × (Line n (now list)) × (512 ≤ length (now out)) ⌝ }
     ensures { λ r. ⌜ ((s : RingState) → now (toks .entry) ≡ flat (s .tree) → count ≡ length (s .groups)
-        → Answers (outcome n s (now (list .entry))) (now (out .entry)) (now (out .exit)) r) ⌝ }
+        → LineAnswers (outcome n s (now (list .entry))) (now (out .entry)) (now (out .exit)) r) ⌝ }
 {
     if list.len() == 0 {
         return Tried::Stays;

@@ -18,7 +18,7 @@ use Rattle.scanner.proofs.Moves.{at-end, all-read, word-read, word-byte, word-b
 use Rattle.scanner.proofs.Exact.{others-length, refused-shape, accepted-shape, start-pre}
 use Rattle.leaves.specs.declared.Reached.{Reached}
 use Rattle.leaves.specs.Passages.{Marks, OpenedRead, kind-of}
-use Rattle.shape.specs.Texts.{WordRead, Begins, Opening, WholeRead, ShapeRead}
+use Rattle.shape.specs.Texts.{WordRead, TextBegins, Opening, WholeRead, ShapeRead}
 use Rattle.numerals.proofs.Numerals.{drop-step}
 use Rattle.nodes.proofs.Nodes.{letter-kind, node-wrote}
 
@@ -77,7 +77,7 @@ module _ (x : List ℕ) where
       opening-3 i k = record { stops = λ f. absurd (omega arith); goes = λ f. record { long = i; one = one; space = space; kind = k } }
 
 -- The root, after the opening.
-module _ (x : List ℕ) (b : Begins x) where
+module _ (x : List ℕ) (b : TextBegins x) where
   to-root : (l : List ℕ) → run-at x 0 (pre (49 ∷ 32 ∷ []) l) ≡ run-at x 3 (open-due [] l)
   to-root l =
       pre-byte x 0 (omega (arith, b .long)) 49 (32 ∷ []) l (b .one) ∙ pre-byte x 1 (omega (arith, b .long)) 32 [] l (b .space)

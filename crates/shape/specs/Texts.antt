@@ -16,7 +16,7 @@ pub record WordRead (x word : List ℕ) (r : Reached) : Type 0 where
   pub goes : r .ok ≡ true → run-at x 0 (lit word) ≡ accepted
 
 -- `1`, a space and a letter; or the byte at which the text is refused.
-pub record Begins (x : List ℕ) : Type 0 where
+pub record TextBegins (x : List ℕ) : Type 0 where
   pub long : 3 ≤ length x
   pub one : getD x 0 0 ≡ 49
   pub space : getD x 1 0 ≡ 32
@@ -24,7 +24,7 @@ pub record Begins (x : List ℕ) : Type 0 where
 
 pub record Opening (x : List ℕ) (r : ℕ) : Type 0 where
   pub stops : r < 3 → (l : List ℕ) → run-at x 0 (pre (49 ∷ 32 ∷ []) l) ≡ refused r
-  pub goes : 3 ≤ r → Begins x
+  pub goes : 3 ≤ r → TextBegins x
 
 -- The whole text: the tree that it spells, whose tokens were written.
 pub record Whole (x l old new : List ℕ) (r : Reached) : Type 0 where

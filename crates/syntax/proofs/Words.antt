@@ -13,7 +13,7 @@ use Rattle.orders.proofs.Numbers.{in-range, numbers-in, numbers-distinct}
 use Rattle.orders.proofs.FormTests.{same-decides}
 use Rattle.orders.proofs.Tests.{false-if}
 use Rattle.syntax.specs.RingFile.{alphabet, NameByte}
-use Rattle.syntax.specs.Words.{among}
+use Rattle.syntax.specs.Words.{is-among}
 use Rattle.syntax.specs.Scanner.{spare, is-new}
 use Rattle.syntax.proofs.Lists.{clash, distinct-append}
 
@@ -23,14 +23,14 @@ same-true a b = same-decides a b .0
 pub same-self : (a : List ℕ) → same a a ≡ true
 same-self a = same-decides a a .1 refl
 
-pub among-in : (ns : List (List ℕ)) (w : List ℕ) → among ns w ≡ true → In w ns
+pub among-in : (ns : List (List ℕ)) (w : List ℕ) → is-among ns w ≡ true → In w ns
 among-in ns w e = let r = of-some (same w) ns e in subst (λ z. In z ns) (sym (same-true w (r .0) (r .2))) (r .1)
 
-pub in-among : (ns : List (List ℕ)) (w : List ℕ) → In w ns → among ns w ≡ true
+pub in-among : (ns : List (List ℕ)) (w : List ℕ) → In w ns → is-among ns w ≡ true
 in-among ns w i = to-some (same w) ns w i (same-self w)
 
-pub not-among : (ns : List (List ℕ)) (w : List ℕ) → (In w ns → ⊥) → among ns w ≡ false
-not-among ns w n = false-if (among ns w) (λ q. n (among-in ns w q))
+pub not-among : (ns : List (List ℕ)) (w : List ℕ) → (In w ns → ⊥) → is-among ns w ≡ false
+not-among ns w n = false-if (is-among ns w) (λ q. n (among-in ns w q))
 
 -- A candidate that is no earlier name.
 pub record Spare (ns cs : List (List ℕ)) : Type 0 where
@@ -40,22 +40,22 @@ pub record Spare (ns cs : List (List ℕ)) : Type 0 where
 
 pub spare-true : (ns cs : List (List ℕ)) → spare ns cs ≡ true → Spare ns cs
 spare-true ns cs e =
-    let r = of-some (λ c. not (among ns c)) cs e in
-    record { one = r .0; candidate = r .1; new = λ i. clash (in-among ns (r .0) i) (not-true (among ns (r .0)) (r .2)) }
+    let r = of-some (λ c. not (is-among ns c)) cs e in
+    record { one = r .0; candidate = r .1; new = λ i. clash (in-among ns (r .0) i) (not-true (is-among ns (r .0)) (r .2)) }
 
 pub true-spare : (ns cs : List (List ℕ)) (v : List ℕ) → In v cs → (In v ns → ⊥) → spare ns cs ≡ true
-true-spare ns cs v i n = to-some (λ c. not (among ns c)) cs v i (ap not (not-among ns v n))
+true-spare ns cs v i n = to-some (λ c. not (is-among ns c)) cs v i (ap not (not-among ns v n))
 
 pub no-spare : (ns cs : List (List ℕ)) → spare ns cs ≡ false → (v : List ℕ) → In v cs → In v ns
-no-spare ns cs e v i = go (among ns v) refl
+no-spare ns cs e v i = go (is-among ns v) refl
   where
-    go : (t : Bool) → among ns v ≡ t → In v ns
+    go : (t : Bool) → is-among ns v ≡ t → In v ns
     go true q = among-in ns v q
     go false q = clash (true-spare ns cs v i (λ j. clash (in-among ns v j) q)) e
 
 pub new-true : (ns : List (List ℕ)) (w : List ℕ) → is-new ns w ≡ true → (1 ≤ length w) × (In w ns → ⊥)
 new-true ns [] e = absurd (true≢false (sym e))
-new-true ns (b ∷ w) e = (omega arith, λ i. clash (in-among ns (b ∷ w) i) (not-true (among ns (b ∷ w)) e))
+new-true ns (b ∷ w) e = (omega arith, λ i. clash (in-among ns (b ∷ w) i) (not-true (is-among ns (b ∷ w)) e))
 
 pub true-new : (ns : List (List ℕ)) (w : List ℕ) → 1 ≤ length w → (In w ns → ⊥) → is-new ns w ≡ true
 true-new ns [] h n = absurd (omega arith)

@@ -7,11 +7,11 @@ use lib.Dec.{eqb, ltb}
 use lib.ListN.{length}
 use Rattle.orders.specs.Lists.{All, Distinct, In, elem, some-of}
 use Rattle.syntax.specs.RingFile.{alphabet, NameByte, Name, Value, off, on, hyphen, value-word, file-bytes, Rules}
-use Rattle.syntax.specs.Words.{spaced, among}
+use Rattle.syntax.specs.Words.{spaced, is-among}
 
 -- Some candidate is no earlier name.
 abbrev pub spare : List (List ℕ) → List (List ℕ) → Bool
-spare ns cs = some-of (λ c. not (among ns c)) cs
+spare ns cs = some-of (λ c. not (is-among ns c)) cs
 
 -- The names that begin with t, where t has 7 or 8 bytes.
 abbrev pub longer : List ℕ → List (List ℕ)
@@ -24,7 +24,7 @@ room ns t = cond (ltb (length t) 7) true (spare ns (longer t))
 -- t is a new name.
 abbrev pub is-new : List (List ℕ) → List ℕ → Bool
 is-new ns [] = false
-is-new ns (b ∷ w) = not (among ns (b ∷ w))
+is-new ns (b ∷ w) = not (is-among ns (b ∷ w))
 
 pub data FileState : Type 0 where
   -- The whole names, and the begun one.

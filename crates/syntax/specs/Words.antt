@@ -23,8 +23,8 @@ spaced [] = []
 spaced (w ∷ ws) = w ++ (32 ∷ spaced ws)
 
 -- The tests whether w is one of the words, and whether v begins with t.
-abbrev pub among : List (List ℕ) → List ℕ → Bool
-among ns w = some-of (same w) ns
+abbrev pub is-among : List (List ℕ) → List ℕ → Bool
+is-among ns w = some-of (same w) ns
 
 abbrev pub begins : List ℕ → List ℕ → Bool
 begins t v = same (take (length t) v) t

@@ -11,7 +11,7 @@ use lib.ListN.{length, take, drop, getD, drop-of-length-le}
 use lib.Seq.{drop-cons, drop-length}
 use borrow.Author.Tests.{eq-eqb, ne-eqb, lt-ltb, le-ltb}
 use Rattle.orders.specs.Lists.{All, same, those-of}
-use Rattle.syntax.specs.Words.{Word, spaced, among, begins}
+use Rattle.syntax.specs.Words.{Word, spaced, is-among, begins}
 
 module _ (past : ℕ → ℕ) (w : List ℕ) where
   -- How many bytes of a word are those of w, after the byte b: one more than w has where it differs. past: what follows where w is at its end.
@@ -100,10 +100,10 @@ or-else c r = cond c true r
 abbrev pub seek : List ℕ → ℕ → List ℕ → Bool
 seek w j x = over (all-of w) w or-else false j x
 
-pub seek-words : (w : List ℕ) (x : List ℕ) (ns : List (List ℕ)) → All Word ns → x ≡ spaced ns → seek w 0 x ≡ among ns w
+pub seek-words : (w : List ℕ) (x : List ℕ) (ns : List (List ℕ)) → All Word ns → x ≡ spaced ns → seek w 0 x ≡ is-among ns w
 seek-words w x ns h e = ap (λ l. seek w 0 l) e ∙ over-words (all-of w) w or-else false (same w) (λ v. is-word w v 0 (omega arith)) ns h ∙ go ns
   where
-    go : (ms : List (List ℕ)) → told (all-of w) w or-else false (same w) ms ≡ among ms w
+    go : (ms : List (List ℕ)) → told (all-of w) w or-else false (same w) ms ≡ is-among ms w
     go [] = refl
     go (v ∷ ms) = rw (go ms)
 

@@ -10,7 +10,7 @@ use borrow.Author.Tests.{eq-eqb, ne-eqb, lt-ltb, le-ltb}
 use Rattle.orders.specs.Lists.{All, Distinct, those-of}
 use Rattle.orders.proofs.Members.{all-in, in-all}
 use Rattle.syntax.specs.RingFile.{NameByte, Name}
-use Rattle.syntax.specs.Words.{Word, among, begins}
+use Rattle.syntax.specs.Words.{Word, is-among, begins}
 use Rattle.syntax.specs.Scanner.{is-new, room, spare, longer}
 use Rattle.syntax.proofs.Words.{no-space}
 use Rattle.words.proofs.Counting.{spare-count}
@@ -53,6 +53,6 @@ pub new-empty : (ns : List (List ℕ)) (w : List ℕ) → length w ≡ 0 → fal
 new-empty ns [] h = refl
 new-empty ns (b ∷ w) h = absurd (omega arith)
 
-pub new-is : (ns : List (List ℕ)) (w : List ℕ) (c : Bool) → 1 ≤ length w → among ns w ≡ c → not c ≡ is-new ns w
+pub new-is : (ns : List (List ℕ)) (w : List ℕ) (c : Bool) → 1 ≤ length w → is-among ns w ≡ c → not c ≡ is-new ns w
 new-is ns [] c h e = absurd (omega arith)
 new-is ns (b ∷ w) c h e = ap not (sym e)

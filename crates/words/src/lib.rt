@@ -5,7 +5,7 @@ ghost use Prim.Native.Nat.{ℕ, _≤_};
 ghost use lib.ListN.{length};
 ghost use Rattle.orders.specs.Lists.{All, Distinct, elem, those-of};
 ghost use Rattle.syntax.specs.RingFile.{alphabet, Name};
-ghost use Rattle.syntax.specs.Words.{word-end, Word, spaced, among, begins, place-in};
+ghost use Rattle.syntax.specs.Words.{word-end, Word, spaced, is-among, begins, place-in};
 ghost use Rattle.syntax.specs.Scanner.{room, is-new};
 
 // Whether b may stand in a name.
@@ -22,7 +22,7 @@ pub fn letter(b: u8) -> bool
 
 // Whether w is one of the words of x, a space after each. j: how many bytes of the word are those of w; m + 1 where it differs.
 pub fn is_among(x: &[u8], w: &[u8]) -> bool
-    ensures { λ r. ⌜ ((ns : List (List ℕ)) → All Word ns → now (x .entry) ≡ spaced ns → r ≡ among ns (now (w .entry))) ⌝ }
+    ensures { λ r. ⌜ ((ns : List (List ℕ)) → All Word ns → now (x .entry) ≡ spaced ns → r ≡ is-among ns (now (w .entry))) ⌝ }
 {
     let m = w.len();
     let mut j = 0;
