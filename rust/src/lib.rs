@@ -140,7 +140,7 @@ pub fn scan(file: &[u8]) -> Result<File, Refusal> {
 }
 
 /// Returns the name of leaf k + 1 of an accepted file, as the part of the names line that it fills. Of any bytes it is word k of the first line,
-/// parted at spaces; no byte of their start where there is no such word.
+/// parted at spaces; the empty part at the start of the file where there is no such word.
 pub fn name_of(file: &[u8], k: usize) -> &[u8] {
     let mut start = 0;
     let length = unsafe { symbols::tokuwhape_name(file.as_ptr(), file.len(), k, &mut start) };
@@ -148,7 +148,7 @@ pub fn name_of(file: &[u8], k: usize) -> &[u8] {
 }
 
 /// Writes the leaves, rising, of value line `line`, from 0, of an accepted file that holds `shape`, and returns how many. Of any bytes and numbers
-/// the line is that of 2 bytes for each of up to 256 names. Where it does not stand whole in the file, or the list has fewer places than there
+/// the line is the 2 * names bytes from head + line * 2 * names on, for up to 256 names. Where it does not stand whole in the file, or the list has fewer places than there
 /// are names, nothing is written and 0 is returned. (`shape.lines` is not looked at.)
 pub fn group_of(file: &[u8], shape: File, line: usize, list: &mut [u16]) -> usize {
     let File { names, head, .. } = shape;

@@ -18,7 +18,7 @@ use Rattle.calls.specs.declared.Refusal.{Refusal}
 use Rattle.calls.specs.declared.Refusal.the-variants.{RingSize, ShortTable, NotInForm, NoSuchGroup, NotConsecutive}
 use Rattle.calls.specs.Book.{book-in-form?}
 use Rattle.calls.specs.NodeTable.{tree-in}
-use Rattle.calls.specs.Refusals.{Reply, reply, reported, refuse, first-refusal, bad-size, short, short-nodes}
+use Rattle.calls.specs.Refusals.{Reply, reply, refuse, first-refusal, bad-size, short, short-nodes}
 use Rattle.calls.specs.Calls.{is-none, of-tree, group-numbered, answered, aim-refusal, aim-call}
 use Rattle.calls.proofs.NodeTables.{tree-in-holds}
 use Rattle.calls.proofs.Reports.{refused-number}

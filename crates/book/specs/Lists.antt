@@ -9,9 +9,9 @@ use Rattle.calls.specs.declared.Refusal.{Refusal}
 use Rattle.book.specs.declared.Checked.{Checked}
 use Rattle.book.specs.declared.Checked.the-variants.{Fine, Bad}
 
-abbrev pub verdict : Checked → Option Refusal
-verdict Fine = none
-verdict (Bad r) = some r
+abbrev pub refusal-in : Checked → Option Refusal
+refusal-in Fine = none
+refusal-in (Bad r) = some r
 
 -- Of the leaves up to n, those of the list `earlier` are marked.
 abbrev pub Seen : ℕ → List ℕ → List ℕ → Type 0

@@ -7,7 +7,7 @@ ghost use Rattle.orders.specs.Lists.{elem};
 ghost use Rattle.calls.specs.Refusals.{first-refusal, bad-leaf, list-checks};
 ghost use Rattle.calls.specs.Book.{group-in-form?, book-in-form?, booked, emptied};
 ghost use Rattle.book.specs.Groups.{groups-in-form?};
-ghost use Rattle.book.specs.Lists.{verdict, Seen};
+ghost use Rattle.book.specs.Lists.{refusal-in, Seen};
 use calls::Refusal;
 
 // What the check of a group's list says: it is a list of different leaves of the ring, or why it is refused.
@@ -78,7 +78,7 @@ pub fn clear(book: &mut [u64])
 // Checks 5 and 6 on the part of a list from place k on; `seen` has the marks of the leaves before it, and gets more of them.
 fn bad_leaf(list: &[u16], n: usize, k: usize, seen: &mut [u64]) -> Checked
     requires { ⌜ (n ≤ 256) × (length (now seen) ≡ 4) × (k + length (now list) < 2 ^ 64) ⌝ }
-    ensures { λ r. ⌜ ((earlier : List ℕ) → Seen n (now (seen .entry)) earlier → verdict r ≡ bad-leaf n earlier k (now (list .entry))) ⌝ }
+    ensures { λ r. ⌜ ((earlier : List ℕ) → Seen n (now (seen .entry)) earlier → refusal-in r ≡ bad-leaf n earlier k (now (list .entry))) ⌝ }
 {
     if list.len() == 0 {
         return Checked::Fine;
@@ -100,7 +100,7 @@ fn bad_leaf(list: &[u16], n: usize, k: usize, seen: &mut [u64]) -> Checked
 // Checks 4, 5 and 6: whether the list is a group of a ring with n leaves.
 pub fn check_list(list: &[u16], n: usize) -> Checked
     requires { ⌜ n ≤ 256 ⌝ }
-    ensures { λ r. ⌜ verdict r ≡ first-refusal (list-checks n (now (list .entry))) ⌝ }
+    ensures { λ r. ⌜ refusal-in r ≡ first-refusal (list-checks n (now (list .entry))) ⌝ }
 {
     if list.len() == 0 {
         return Checked::Bad(Refusal::EmptyGroup);

@@ -56,7 +56,7 @@ abbrev pub ring-checks : ℕ → ℕ → List ℕ → List ℕ → ℕ → List 
 ring-checks n have nodes book count =
     table-checks n have nodes (short 384 book) ++ (refuse (is-none (tree-in n nodes) || not (book-in-form? n book count)) NotInForm ∷ [])
 
--- A ring with this tree in its node table.
+-- The node table with this tree; as it was where there is none.
 abbrev pub with-tree : Option Forest → List ℕ → List ℕ
 with-tree none nodes = nodes
 with-tree (some t) nodes = over (table-of t) nodes

@@ -4,7 +4,7 @@ ghost use Prim.Native.Nat.{_≤_};
 ghost use lib.ListN.{length};
 ghost use Rattle.calls.specs.Refusals.{first-refusal};
 ghost use Rattle.calls.specs.Calls.{table-checks};
-ghost use Rattle.book.specs.Lists.{verdict};
+ghost use Rattle.book.specs.Lists.{refusal-in};
 ghost use Rattle.checks.specs.Lent.{LendsTree, LendsRing};
 use book::Checked;
 use calls::Refusal;
@@ -18,7 +18,7 @@ pub enum Lent {
 
 // Checks 1 and 2 on a node table of `have` records; `other` says that another lent table is too short.
 pub fn check_tables(n: usize, nodes: &[u16], have: usize, other: bool) -> Checked
-    ensures { λ r. ⌜ verdict r ≡ first-refusal (table-checks n have (now (nodes .entry)) other) ⌝ }
+    ensures { λ r. ⌜ refusal-in r ≡ first-refusal (table-checks n have (now (nodes .entry)) other) ⌝ }
 {
     if n == 0 {
         return Checked::Bad(Refusal::RingSize);

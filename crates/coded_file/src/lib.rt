@@ -43,8 +43,8 @@ pub fn name(file: &[u8], k: usize, start: &mut usize) -> usize
     part.length
 }
 
-// Writes the group of value line l, from 0, in a file with so many names and a names line of head bytes, to the start of the list: its leaves,
-// rising. Returns how many. Nothing is written where there is no such line, or the list has fewer places than there are names.
+// Writes the group of value line l, from 0, in a file with so many names, at most 256, and a names line of head bytes, to the start of the list: its
+// leaves, rising. Returns how many. Nothing is written where there is no such line, or the list has fewer places than there are names.
 pub fn group(file: &[u8], names: usize, head: usize, l: usize, list: &mut [u16]) -> usize
     ensures { λ r. ⌜ Wrote (group-for (length (now (list .entry))) (now (file .entry)) names head l) (now (list .entry)) (now (list .exit)) r ⌝ }
     ensures { λ r. ⌜ r ≤ length (now (list .entry)) ⌝ }

@@ -22,7 +22,7 @@ use Rattle.calls.specs.Calls.{Filled, filled-as, conflict-refusal, conflicts-of
 use Rattle.calls.proofs.Demands.{passes-iff}
 use Rattle.book.specs.declared.Checked.{Checked}
 use Rattle.book.specs.declared.Checked.the-variants.{Bad}
-use Rattle.book.specs.Lists.{verdict}
+use Rattle.book.specs.Lists.{refusal-in}
 use Rattle.book.proofs.Laws.{few-groups}
 use Rattle.tokens.specs.Tokens.{Wrote}
 use Rattle.stand_in.specs.StandIn.{group}
@@ -110,10 +110,10 @@ drop-zeros zero (suc k) = let e : 0 - suc k ≡ 0 = omega arith in rw e
 drop-zeros (suc w) (suc k) = let e : suc w - suc k ≡ w - k = omega arith in rw e (drop-zeros w k)
 
 module _ (n : ℕ) (book : List ℕ) (count : ℕ) (list table : List ℕ) where
-  pub call-refused : {r : Checked} {why : Refusal} → r ≡ Bad why → verdict r ≡ conflict-refusal n book count list table
+  pub call-refused : {r : Checked} {why : Refusal} → r ≡ Bad why → refusal-in r ≡ conflict-refusal n book count list table
       → filled-as (reported why) table ≡ conflict-call n book count list table
   unfolding conflict-call
-  call-refused e h = let q = sym h ∙ ap verdict e in rw q
+  call-refused e h = let q = sym h ∙ ap refusal-in e in rw q
 
   pub call-found : {numbers new : List ℕ} {k m : ℕ} → conflict-refusal n book count list table ≡ none
       → Wrote (conflicts-of n book count list) (replicate 96 0) numbers k → Wrote numbers table new m

@@ -8,7 +8,7 @@ ghost use Rattle.orders.specs.CircularOrder.{WellFormed};
 ghost use Rattle.tokens.specs.Tokens.{Wrote};
 ghost use Rattle.calls.specs.Calls.{conflict-refusal, conflicts-of};
 ghost use Rattle.calls.specs.Refusals.{report};
-ghost use Rattle.book.specs.Lists.{verdict};
+ghost use Rattle.book.specs.Lists.{refusal-in};
 ghost use Rattle.calls.specs.Promises.{ConflictPromise};
 use book::Checked;
 use calls::Answer;
@@ -53,7 +53,7 @@ pub fn find(n: usize, book: &[u64], count: usize, list: &[u16], out: &mut [u16])
 // Checks 1 to 6 down the table, for a conflict list of this many places.
 fn check(n: usize, book: &[u64], count: usize, list: &[u16], places: usize) -> Checked
     ensures { λ r. ⌜ ((conflicts : List ℕ) → length conflicts ≡ places
-        → verdict r ≡ conflict-refusal n (now (book .entry)) count (now (list .entry)) conflicts) ⌝ }
+        → refusal-in r ≡ conflict-refusal n (now (book .entry)) count (now (list .entry)) conflicts) ⌝ }
 {
     if n == 0 {
         return Checked::Bad(Refusal::RingSize);

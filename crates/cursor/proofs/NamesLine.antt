@@ -11,7 +11,7 @@ use borrow.Author.Tests.{ne-eqb, lt-ltb, le-ltb}
 use Rattle.orders.specs.Lists.{elem}
 use Rattle.syntax.specs.RingFile.{alphabet, line}
 use Rattle.syntax.specs.Words.{spaced}
-use Rattle.syntax.specs.Scanner.{is-new, room, naming, due, Sort, letter, space, end, other, sort, when, on-name, step, Naming}
+use Rattle.syntax.specs.Scanner.{is-new, room, naming, due, Sort, letter, space, end, other, sort, when, on-name, file-step, Naming}
 use Rattle.cursor.specs.Cursors.{CursorStands, Stepped}
 use Rattle.cursor.specs.declared.Cursor.{Cursor}
 use Rattle.syntax.proofs.Reached.{spaced-snoc, line-parts}
@@ -66,38 +66,38 @@ unfolding alphabet
 sort-is-end b e = ap sort e
 
 module _ (c : Cursor) (ns : List (List ℕ)) (w : List ℕ) (b : ℕ) where
-  by-sort : (k : Sort) → sort b ≡ k → Stepped c (on-name k ns w b) → Stepped c (step (naming ns w) b)
+  by-sort : (k : Sort) → sort b ≡ k → Stepped c (on-name k ns w b) → Stepped c (file-step (naming ns w) b)
   by-sort k e h = subst (λ s. Stepped c (on-name s ns w b)) (sym e) h
 
-  pub name-goes : elem alphabet b ≡ true → true ≡ room ns (w ++ (b ∷ [])) → CursorStands c (naming ns (w ++ (b ∷ []))) → Stepped c (step (naming ns w) b)
+  pub name-goes : elem alphabet b ≡ true → true ≡ room ns (w ++ (b ∷ [])) → CursorStands c (naming ns (w ++ (b ∷ []))) → Stepped c (file-step (naming ns w) b)
   name-goes h r q = by-sort letter (sort-is-letter b h) (subst (λ t. Stepped c (when t (naming ns (w ++ (b ∷ []))))) r q)
 
-  pub name-full : elem alphabet b ≡ true → false ≡ room ns (w ++ (b ∷ [])) → c .phase ≡ 3 → Stepped c (step (naming ns w) b)
+  pub name-full : elem alphabet b ≡ true → false ≡ room ns (w ++ (b ∷ [])) → c .phase ≡ 3 → Stepped c (file-step (naming ns w) b)
   name-full h r q = by-sort letter (sort-is-letter b h) (subst (λ t. Stepped c (when t (naming ns (w ++ (b ∷ []))))) r q)
 
-  pub space-goes : b ≡ 32 → true ≡ is-new ns w → length ns < 255 → CursorStands c (naming (ns ++ (w ∷ [])) []) → Stepped c (step (naming ns w) b)
+  pub space-goes : b ≡ 32 → true ≡ is-new ns w → length ns < 255 → CursorStands c (naming (ns ++ (w ∷ [])) []) → Stepped c (file-step (naming ns w) b)
   space-goes e r f q =
       by-sort space (sort-is-space b e) (subst (λ t. Stepped c (when t (naming (ns ++ (w ∷ [])) []))) (sym (ap (λ t. t && ltb (length ns) 255) (sym r) ∙ lt-ltb (length ns) 255 f)) q)
 
-  pub space-old : b ≡ 32 → false ≡ is-new ns w → c .phase ≡ 3 → Stepped c (step (naming ns w) b)
+  pub space-old : b ≡ 32 → false ≡ is-new ns w → c .phase ≡ 3 → Stepped c (file-step (naming ns w) b)
   space-old e r q =
       by-sort space (sort-is-space b e) (subst (λ t. Stepped c (when t (naming (ns ++ (w ∷ [])) []))) (ap (λ t. t && ltb (length ns) 255) r) q)
 
-  pub space-many : b ≡ 32 → 255 ≤ length ns → c .phase ≡ 3 → Stepped c (step (naming ns w) b)
+  pub space-many : b ≡ 32 → 255 ≤ length ns → c .phase ≡ 3 → Stepped c (file-step (naming ns w) b)
   space-many e f q = by-sort space (sort-is-space b e) (go (is-new ns w))
     where
       go : (t : Bool) → Stepped c (when (t && ltb (length ns) 255) (naming (ns ++ (w ∷ [])) []))
       go true = subst (λ t. Stepped c (when t (naming (ns ++ (w ∷ [])) []))) (sym (le-ltb (length ns) 255 f)) q
       go false = q
 
-  pub end-goes : b ≡ 10 → true ≡ is-new ns w → CursorStands c (due (ns ++ (w ∷ [])) [] []) → Stepped c (step (naming ns w) b)
+  pub end-goes : b ≡ 10 → true ≡ is-new ns w → CursorStands c (due (ns ++ (w ∷ [])) [] []) → Stepped c (file-step (naming ns w) b)
   end-goes e r q = by-sort end (sort-is-end b e) (subst (λ t. Stepped c (when t (due (ns ++ (w ∷ [])) [] []))) r q)
 
-  pub end-old : b ≡ 10 → false ≡ is-new ns w → c .phase ≡ 3 → Stepped c (step (naming ns w) b)
+  pub end-old : b ≡ 10 → false ≡ is-new ns w → c .phase ≡ 3 → Stepped c (file-step (naming ns w) b)
   end-old e r q = by-sort end (sort-is-end b e) (subst (λ t. Stepped c (when t (due (ns ++ (w ∷ [])) [] []))) r q)
 
-  pub name-odd : elem alphabet b ≡ false → (b ≡ 32 → ⊥) → (b ≡ 10 → ⊥) → c .phase ≡ 3 → Stepped c (step (naming ns w) b)
+  pub name-odd : elem alphabet b ≡ false → (b ≡ 32 → ⊥) → (b ≡ 10 → ⊥) → c .phase ≡ 3 → Stepped c (file-step (naming ns w) b)
   name-odd h k l q = by-sort other (sort-is-other b h k l) q
 
-  pub end-many : Naming ns w → (n : ℕ) → n ≡ length ns → 256 ≤ n → Stepped c (step (naming ns w) b)
+  pub end-many : Naming ns w → (n : ℕ) → n ≡ length ns → 256 ≤ n → Stepped c (file-step (naming ns w) b)
   end-many k n e h = absurd (omega (arith, k .few))

@@ -6,7 +6,7 @@ use Prim.Native.Nat.{ℕ, _≤_}
 use lib.ListN.{length, take, getD}
 use Rattle.syntax.specs.RingFile.{line}
 use Rattle.syntax.specs.Words.{spaced}
-use Rattle.syntax.specs.Scanner.{FileState, naming, due, got, step, text, Ok}
+use Rattle.syntax.specs.Scanner.{FileState, naming, due, got, file-step, text, Ok}
 use Rattle.cursor.specs.declared.Cursor.{Cursor}
 
 -- The cursor stands for the state; for the outcome of a step, where phase 3 is a refusal.
@@ -21,7 +21,7 @@ Stepped c (some s) = CursorStands c s
 
 -- From the cursor c, byte number i of x leads to the cursor r.
 abbrev pub Advances : List ℕ → ℕ → Cursor → Cursor → Type 0
-Advances x i c r = (s : FileState) → Ok s → take i x ≡ text s → CursorStands c s → Stepped r (step s (getD x i 0))
+Advances x i c r = (s : FileState) → Ok s → take i x ≡ text s → CursorStands c s → Stepped r (file-step s (getD x i 0))
 
 -- The cursor's numbers after i bytes.
 abbrev pub CursorWithin : Cursor → ℕ → Type 0

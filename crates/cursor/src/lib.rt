@@ -5,7 +5,7 @@ ghost use Prim.Native.Nat.{ℕ, _+_, _≤_, _<_};
 ghost use lib.ListN.{length, take, getD};
 ghost use Rattle.syntax.specs.RingFile.{Value};
 ghost use Rattle.syntax.specs.Words.{spaced};
-ghost use Rattle.syntax.specs.Scanner.{naming, due, got, step, Naming};
+ghost use Rattle.syntax.specs.Scanner.{naming, due, got, file-step, Naming};
 ghost use Rattle.cursor.specs.Cursors.{CursorStands, Stepped, Advances, CursorWithin};
 
 // Where the scanner stands. phase: 0 in the names line, 1 a value is due, 2 after a value, 3 refused. names: whole names.
@@ -36,7 +36,7 @@ fn on_name(file: &[u8], at: usize, names: usize, start: usize) -> Cursor
     requires { ⌜ (at < length (now file)) × (start ≤ at) × (names ≤ 256) ⌝ }
     ensures { λ r. ⌜ CursorWithin r (at + 1) ⌝ }
     ensures { λ r. ⌜ ((ns : List (List ℕ)) (w : List ℕ) → Naming ns w → take at (now (file .entry)) ≡ spaced ns ++ w
-        → names ≡ length ns → start ≡ length (spaced ns) → Stepped r (step (naming ns w) (getD (now (file .entry)) at 0))) ⌝ }
+        → names ≡ length ns → start ≡ length (spaced ns) → Stepped r (file-step (naming ns w) (getD (now (file .entry)) at 0))) ⌝ }
 {
     let b = file[at];
     let next = at + 1;
@@ -72,7 +72,7 @@ fn on_value(b: u8, at: usize, c: Cursor) -> Cursor
     requires { ⌜ CursorWithin c at ⌝ }
     ensures { λ r. ⌜ CursorWithin r (at + 1) ⌝ }
     ensures { λ r. ⌜ ((ns : List (List ℕ)) (vss : List (List Value)) (vs : List Value) → CursorStands c (due ns vss vs)
-        → Stepped r (step (due ns vss vs) b)) ⌝ }
+        → Stepped r (file-step (due ns vss vs) b)) ⌝ }
 {
     let mut next = c;
     next.phase = 2;
@@ -89,7 +89,7 @@ fn on_got(b: u8, at: usize, c: Cursor) -> Cursor
     requires { ⌜ (CursorWithin c at) × (at < 65536) ⌝ }
     ensures { λ r. ⌜ CursorWithin r (at + 1) ⌝ }
     ensures { λ r. ⌜ ((ns : List (List ℕ)) (vss : List (List Value)) (vs : List Value) (v : Value) → CursorStands c (got ns vss vs v)
-        → Stepped r (step (got ns vss vs v) b)) ⌝ }
+        → Stepped r (file-step (got ns vss vs v) b)) ⌝ }
 {
     let more = c.got + 1;
     let names = c.names;

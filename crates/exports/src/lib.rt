@@ -146,8 +146,8 @@ pub extern "C" fn tokuwhape_name(file: &[u8], k: usize, start: &mut usize) -> us
     coded_file::name(file, k, start)
 }
 
-// Writes the group of value line l, from 0, in a file with so many names and a names line of head bytes, to the start of the list: its leaves,
-// rising. Returns how many. Nothing is written where there is no such line, or the list has fewer places than there are names.
+// Writes the group of value line l, from 0, in a file with so many names, at most 256, and a names line of head bytes, to the start of the list: its
+// leaves, rising. Returns how many. Nothing is written where there is no such line, or the list has fewer places than there are names.
 #[no_mangle]
 pub extern "C" fn tokuwhape_group(
     file: &[u8],

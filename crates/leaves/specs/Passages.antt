@@ -59,5 +59,5 @@ OpenedRead x at want many before used old new r =
     Passed x at (λ f. 40 ∷ text f) (λ cs. open-due cs (unused 0 before)) (λ cs l. after (0 ∷ cs) l) want many want 2 used old new r × (r .ok ≡ true → Closed x r)
 
 -- The kind that a letter names.
-abbrev pub kind-of : ℕ → Kind
-kind-of b = cond (eqb b 80) P C
+abbrev pub kind-of-letter : ℕ → Kind
+kind-of-letter b = cond (eqb b 80) P C

@@ -6,7 +6,7 @@ ghost use lib.ListN.{length, getD};
 ghost use Rattle.tokens.specs.Tokens.{E, node-token};
 ghost use Rattle.scanner.specs.Scan.{letter?};
 ghost use Rattle.scanner.specs.Unused.{unused};
-ghost use Rattle.leaves.specs.Passages.{Marks, ItemRead, kind-of};
+ghost use Rattle.leaves.specs.Passages.{Marks, ItemRead, kind-of-letter};
 
 // How far the text was read: up to the byte `at`, with `left` leaves unused and `count` tokens written; or, where not `ok`, the byte of the refusal.
 pub struct Reached {
@@ -82,7 +82,7 @@ pub fn leaf(text: &[u8], at: usize, many: usize, used: &mut [u8], out: &mut [u16
 // The token of a node whose items have m tokens; b is its letter.
 pub fn header(b: u8, m: usize) -> u16
     requires { ⌜ m ≤ 512 ⌝ }
-    ensures { λ r. ⌜ r ≡ node-token E (kind-of b) m ⌝ }
+    ensures { λ r. ⌜ r ≡ node-token E (kind-of-letter b) m ⌝ }
 {
     if b == 80 {
         return (32 * m + 8) as u16;

@@ -1,2 +1,2 @@
--- What a call leaves of the records that it was lent.
+-- What a call promises of the records that it was lent.
 pub mod Records

@@ -21,7 +21,7 @@ use Rattle.scanner.specs.Unused.{unused}
 use Rattle.scanner.proofs.Language.{more-text}
 use Rattle.scanner.proofs.Moves.{at-end, due-node, due-few, open-byte, open-bad, after-space, after-few, after-other, after-short, close-inner}
 use Rattle.leaves.specs.declared.Reached.{Reached}
-use Rattle.leaves.specs.Passages.{Marks, Passage, Closed, ItemRead, ItemsRead, OpenedRead, kind-of}
+use Rattle.leaves.specs.Passages.{Marks, Passage, Closed, ItemRead, ItemsRead, OpenedRead, kind-of-letter}
 use Rattle.numerals.proofs.Numerals.{drop-step}
 use Rattle.leaves.proofs.Leaves.{refused-at}
 
@@ -50,7 +50,7 @@ append-some (leaf b f) g h = omega arith
 append-some (node k i f) g h = omega arith
 
 -- A letter names a kind.
-pub letter-kind : (b : ℕ) → letter? b ≡ true → letter (kind-of b) ≡ b
+pub letter-kind : (b : ℕ) → letter? b ≡ true → letter (kind-of-letter b) ≡ b
 letter-kind b e = go (eqb b 80) refl (eqb b 67) refl e
   where
     go : (p : Bool) → eqb b 80 ≡ p → (q : Bool) → eqb b 67 ≡ q → p || q ≡ true → letter (cond p P C) ≡ b
@@ -87,16 +87,16 @@ module _ (x : List ℕ) (at c want many : ℕ) (used : List ℕ) (m : Marks many
         goes = λ e. absurd (true≢false (sym e ∙ f));
       }
 
-      pub item-node : {used' old part : List ℕ} {t : ℕ} (r : Reached) → r .ok ≡ true → 0 < length old → t ≡ node-token E (kind-of (getD x at 0)) (r .count)
+      pub item-node : {used' old part : List ℕ} {t : ℕ} (r : Reached) → r .ok ≡ true → 0 < length old → t ≡ node-token E (kind-of-letter (getD x at 0)) (r .count)
           → OpenedRead x (at + 1) inner many used used' (take (length old - 1) (drop 1 old)) part r
           → ItemRead x at c want many used used' old (set (putMid 1 (length old - 1) old part) 0 t)
           (record { ok = true; at = r .at + 1; left = r .left; count = 1 + r .count })
       item-node {used'} r f s t o = let p = o .0 .goes f in let q = o .1 f in record {
         stops = λ e. absurd (true≢false e);
         goes = λ e. record {
-          forest = node (kind-of (getD x at 0)) (p .forest) nil;
+          forest = node (kind-of-letter (getD x at 0)) (p .forest) nil;
           some-item = omega arith;
-          wrote = node-wrote (kind-of (getD x at 0)) (p .forest) s t (p .wrote);
+          wrote = node-wrote (kind-of-letter (getD x at 0)) (p .forest) s t (p .wrote);
           bytes = drop-step x at h ∙ ap₂ _∷_ (sym (letter-kind (getD x at 0) y))
               (p .bytes ∙ ap (λ l. 40 ∷ (text (p .forest) ++ l)) (drop-step x (r .at) (q .there) ∙ ap (λ b. b ∷ drop (r .at + 1) x) (q .bracket))
               ∙ ap (λ l. 40 ∷ l) (sym (append-assoc (text (p .forest)) (41 ∷ []) (drop (r .at + 1) x))));

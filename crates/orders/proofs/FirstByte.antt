@@ -1,5 +1,5 @@
 -- An accepted text is refused at no byte, and any other at one byte only, since what begins alike up to a byte does so up to each one before.
-use mathlib.Core.Path.{_≡_, sym, _∙_, ap, subst}
+use mathlib.Core.Path.{_≡_, sym, subst}
 use mathlib.Core.List.{List, _++_, append-assoc}
 use Prim.Native.Nat.{ℕ, suc, _≤_, _<_}
 use native.Mathlib.Omega.{arith}
@@ -12,10 +12,12 @@ module _ (A : List ℕ → Type 0) where
   not-refused {x} {p} a (at-byte h b g) = g (drop (suc p) x, subst A (sym (take-append-drop (suc p) x)) a)
   not-refused a (at-end e b g) = g a
 
+  pub begun-part : (x y : List ℕ) → Begun A (x ++ y) → Begun A x
+  begun-part x y b = (y ++ b .0, subst A (append-assoc x y (b .0)) (b .1))
+
   begun-less : (x : List ℕ) (p q : ℕ) → p ≤ q → Begun A (take q x) → Begun A (take p x)
   begun-less x p q h b =
-      let e : take q x ≡ take p x ++ drop p (take q x) = sym (take-append-drop p (take q x)) ∙ rw (take-take p q x h) in
-      (drop p (take q x) ++ b .0, subst A (ap (λ (l : List ℕ). l ++ b .0) e ∙ append-assoc (take p x) (drop p (take q x)) (b .0)) (b .1))
+      subst (Begun A) (take-take p q x h) (begun-part (take p (take q x)) (drop p (take q x)) (subst (Begun A) (sym (take-append-drop p (take q x))) b))
 
   -- Up to p some accepted text begins alike, and up to the next byte, where there is one, none does.
   stops : {x : List ℕ} {p : ℕ} → RefusedAt A x p → (p ≤ length x) × Begun A (take p x) × (p < length x → Begun A (take (suc p) x) → ⊥)

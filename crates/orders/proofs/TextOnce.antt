@@ -1,6 +1,6 @@
 -- A text has one outcome (`reads-once`): of trees in form, bytes of a wrong shape and bytes of a broken rule, `Reads` says at most one of a text.
--- So what the reader finds is determined by the text and n. A text has one tree (`TextTree.text-injective`); a tree in form breaks no rule; a text
--- of the shape is not refused for its shape, and any other text at one byte only, since what begins alike up to a byte does so up to each one before.
+-- So what the reader finds is determined by the text and n. A text has one tree (`TextTree.text-injective`); a tree in form breaks no rule; the
+-- byte of a wrong shape is one (`FirstByte`), and so is that of a broken rule.
 use mathlib.Core.Path.{_≡_, refl, sym, _∙_, ap, subst}
 use mathlib.Core.Logic.{_⊎_, inl, inr}
 use mathlib.Core.List.{List}

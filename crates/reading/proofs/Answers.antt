@@ -9,7 +9,7 @@ use Rattle.orders.specs.Tree.{C}
 use Rattle.orders.specs.TreeText.{tree-text, tree, refused, Reads, accepted, no-shape}
 use Rattle.orders.specs.Join.{fresh}
 use Rattle.orders.proofs.Fresh.{fresh-form}
-use Rattle.scanner.specs.Scan.{lit, start, run-at}
+use Rattle.scanner.specs.Scan.{lit, text-start, run-at}
 use Rattle.scanner.specs.Rule.{broken-at}
 use Rattle.scanner.proofs.Exact.{refused-shape, accepted-shape, start-word, short-tree}
 use Rattle.scanner.proofs.Rule.{broken-least}
@@ -23,7 +23,7 @@ module _ (n : ℕ) (h : 1 ≤ n) (g : n ≤ 2) (x : List ℕ) (r : Reached) wher
   abbrev word : List ℕ
   word = 49 ∷ 32 ∷ 50 ∷ []
 
-  begins : run-at x 0 (start n) ≡ run-at x 0 (lit (take (2 * n - 1 - 0) word))
+  begins : run-at x 0 (text-start n) ≡ run-at x 0 (lit (take (2 * n - 1 - 0) word))
   begins = let z : 2 * n - 1 - 0 ≡ 2 * n - 1 = omega arith in rw z (ap (run-at x 0) (start-word n h g))
 
   pub short-refused : WordRead x (take (2 * n - 1 - 0) word) r → r .ok ≡ false → Reads n x (refused (r .at))

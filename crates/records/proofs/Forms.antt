@@ -13,7 +13,7 @@ use Rattle.calls.specs.NodeTable.{rows, table-of}
 use Rattle.calls.proofs.NodeTables.{Narrow, form-narrow, form-few, rows-length}
 use Rattle.tokens.specs.Tokens.{tree, plain, encode, Wrote}
 use Rattle.tokens.proofs.Sequences.{tree-plain, encode-injective}
-use Rattle.rows.specs.Rows.{starts, Rowed, Formed}
+use Rattle.rows.specs.Rows.{begins-with, Rowed, Formed}
 use Rattle.records.proofs.Comparing.{starts-padded, zero-part}
 
 plain-injective : (t u : Forest) → encode (plain t) ≡ encode (plain u) → t ≡ u
@@ -55,21 +55,21 @@ wrote-table t {old} {new} {k} {m} e w =
 -- The table compared: its rows, then zeros.
 rows-compared : {l : List ℕ} (f : Formed l) (t : Forest) → l ≡ encode (plain t) → (table : List ℕ)
     → same (take 65792 table) (table-of t)
-    ≡ (starts (rows 0 (tree (plain t))) table && starts (replicate (65792 - 257 * nodes (tree (plain t))) 0) (drop (257 * nodes (tree (plain t))) table))
+    ≡ (begins-with (rows 0 (tree (plain t))) table && begins-with (replicate (65792 - 257 * nodes (tree (plain t))) 0) (drop (257 * nodes (tree (plain t))) table))
 unfolding table-of
 rows-compared f t e table =
     let long = formed-rows f t e in
     let h : length (rows 0 t) ≤ 65792 = omega (arith, formed-few f t e) in
     starts-padded 65792 (rows 0 t) table h
-    ∙ ap (λ (m : ℕ). starts (rows 0 t) table && starts (replicate (65792 - m) 0) (drop m table)) long
-    ∙ ap (λ (u : Forest). starts (rows 0 u) table && starts (replicate (65792 - 257 * nodes u) 0) (drop (257 * nodes u) table)) (sym (tree-plain t))
+    ∙ ap (λ (m : ℕ). begins-with (rows 0 t) table && begins-with (replicate (65792 - m) 0) (drop m table)) long
+    ∙ ap (λ (u : Forest). begins-with (rows 0 u) table && begins-with (replicate (65792 - 257 * nodes u) 0) (drop (257 * nodes u) table)) (sym (tree-plain t))
 
 pub table-not : {l : List ℕ} (f : Formed l) (t : Forest) → l ≡ encode (plain t) → (table : List ℕ)
-    → starts (rows 0 (tree (plain t))) table ≡ false → same (take 65792 table) (table-of t) ≡ false
+    → begins-with (rows 0 (tree (plain t))) table ≡ false → same (take 65792 table) (table-of t) ≡ false
 table-not f t e table h = rows-compared f t e table ∙ rw h
 
 pub table-zeros : {l : List ℕ} (f : Formed l) (t : Forest) → l ≡ encode (plain t) → (table : List ℕ) {m : ℕ} → 65792 ≤ length table
-    → m ≡ nodes (tree (plain t)) → starts (rows 0 (tree (plain t))) table ≡ true
+    → m ≡ nodes (tree (plain t)) → begins-with (rows 0 (tree (plain t))) table ≡ true
     → same (take 65792 table) (table-of t)
     ≡ same (take (65792 - 257 * m) (drop (257 * m) table)) (replicate (length (take (65792 - 257 * m) (drop (257 * m) table))) 0)
 table-zeros f t e table {m} room n h =

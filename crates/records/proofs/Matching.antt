@@ -12,14 +12,14 @@ use Rattle.calls.proofs.NodeTables.{Narrow}
 use Rattle.tokens.specs.Tokens.{Judged, tree, encode}
 use Rattle.tokens.specs.Views.{shape-of}
 use Rattle.tokens.proofs.Steps.{opened}
-use Rattle.rows.specs.Rows.{starts}
+use Rattle.rows.specs.Rows.{begins-with}
 use Rattle.rows.proofs.Rows.{rows-leaf, Onward, onward-start, onward-leaf, onward-node, here-row, here-long, rows-first}
 use Rattle.records.proofs.Comparing.{starts-not, starts-then}
 
 -- The table begins with the rows of j just when, after those of the records before next, it goes on with those of h.
 pub record Matching (r : ℕ) (table : List ℕ) (next : ℕ) (j h : Judged) : Type 0 where
   pub onward : Onward r next j h
-  pub answer : Narrow (tree j) → starts (rows r (tree j)) table ≡ starts (rows next (tree h)) (drop (257 * (next - r)) table)
+  pub answer : Narrow (tree j) → begins-with (rows r (tree j)) table ≡ begins-with (rows next (tree h)) (drop (257 * (next - r)) table)
 
 pub matching-start : (r : ℕ) (table : List ℕ) (j : Judged) → Matching r table r j j
 matching-start r table j =
@@ -33,7 +33,7 @@ matching-leaf {next = next} {h = h} s g = record { onward = onward-leaf s (g .on
 abbrev Compared : ℕ → List ℕ → ℕ → ℕ → Judged → Bool → Type 0
 Compared r table next s h b = b ≡ same (take (257 * (next - r) + 257 - 257 * (next - r)) (drop (257 * (next - r)) table)) (here-row s next h)
 
-compared : (r : ℕ) (table : List ℕ) (next s : ℕ) (h : Judged) (b : Bool) → Narrow (tree h) → Compared r table next s h b → b ≡ starts (here-row s next h) (drop (257 * (next - r)) table)
+compared : (r : ℕ) (table : List ℕ) (next s : ℕ) (h : Judged) (b : Bool) → Narrow (tree h) → Compared r table next s h b → b ≡ begins-with (here-row s next h) (drop (257 * (next - r)) table)
 compared r table next s h b n e =
     let m : 257 * (next - r) + 257 - 257 * (next - r) ≡ length (here-row s next h) = omega (arith, here-long s next h n) in
     e ∙ rw m
@@ -45,14 +45,14 @@ matching-node {r} {next} {table} {j} {h} s {b} l ne e k c y g = record {
   answer = λ n.
       let d : 257 * (next - r) + length (here-row s next h) ≡ 257 * (next + 1 - r) = omega (arith, here-long s next h (g .onward .narrow n)) in
       g .answer n
-      ∙ ap (λ (x : List ℕ). starts x (drop (257 * (next - r)) table)) (rows-first next s h ne e k)
+      ∙ ap (λ (x : List ℕ). begins-with x (drop (257 * (next - r)) table)) (rows-first next s h ne e k)
       ∙ starts-then (here-row s next h) (rows (next + 1) (tree (opened h))) (drop (257 * (next - r)) table) (sym (compared r table next s h b (g .onward .narrow n) c) ∙ y)
-      ∙ ap (starts (rows (next + 1) (tree (opened h)))) (drop-drop (length (here-row s next h)) (257 * (next - r)) table ∙ ap (λ (x : ℕ). drop x table) d);
+      ∙ ap (begins-with (rows (next + 1) (tree (opened h)))) (drop-drop (length (here-row s next h)) (257 * (next - r)) table ∙ ap (λ (x : ℕ). drop x table) d);
 }
 
 pub matching-not : {r next : ℕ} {table : List ℕ} {j h : Judged} (s : ℕ) {b : Bool} → 0 < length (encode h) → s ≡ shape-of h → (s ≡ 1 → ⊥)
-    → Compared r table next s h b → b ≡ false → Matching r table next j h → Narrow (tree j) → starts (rows r (tree j)) table ≡ false
+    → Compared r table next s h b → b ≡ false → Matching r table next j h → Narrow (tree j) → begins-with (rows r (tree j)) table ≡ false
 matching-not {r} {next} {table} {j} {h} s {b} ne e k c y g n =
     g .answer n
-    ∙ ap (λ (x : List ℕ). starts x (drop (257 * (next - r)) table)) (rows-first next s h ne e k)
+    ∙ ap (λ (x : List ℕ). begins-with x (drop (257 * (next - r)) table)) (rows-first next s h ne e k)
     ∙ starts-not (here-row s next h) (rows (next + 1) (tree (opened h))) (drop (257 * (next - r)) table) (sym (compared r table next s h b (g .onward .narrow n) c) ∙ y)

@@ -8,7 +8,7 @@ ghost use Rattle.orders.specs.Tree.{Forest};
 ghost use Rattle.calls.specs.Tables.{over};
 ghost use Rattle.calls.specs.NodeTable.{entries, rows, table-of};
 ghost use Rattle.tokens.specs.Tokens.{Judged, tree, plain, encode, Wrote};
-ghost use Rattle.rows.specs.Rows.{row, starts, Placed, Rowed, Formed};
+ghost use Rattle.rows.specs.Rows.{row, begins-with, Placed, Rowed, Formed};
 ghost use Rattle.walks.specs.Walks.{Loads};
 use walks::Walked;
 
@@ -74,7 +74,7 @@ fn row_matches(kind: u16, inner: &[u16], r: usize, part: &[u16]) -> bool
 // Whether the table begins with the rows of the nodes in the items, the first of them in record r.
 fn rows_match(toks: &[u16], r: usize, table: &[u16]) -> bool
     requires { ⌜ Rowed (now toks) r (length (now table)) ⌝ }
-    ensures { λ b. ⌜ ((j : Judged) → now (toks .entry) ≡ encode j → b ≡ starts (rows r (tree j)) (now (table .entry))) ⌝ }
+    ensures { λ b. ⌜ ((j : Judged) → now (toks .entry) ≡ encode j → b ≡ begins-with (rows r (tree j)) (now (table .entry))) ⌝ }
 {
     let mut next = r;
     let mut i = 0;

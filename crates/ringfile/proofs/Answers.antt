@@ -4,20 +4,16 @@ use mathlib.Core.Logic.{_⊎_, inl, inr}
 use mathlib.Core.List.{List, [], _∷_}
 use Prim.Native.Nat.{ℕ, _≤_, _<_}
 use native.Mathlib.Omega.{arith}
-use lib.ListN.{length, length-append}
+use lib.ListN.{length}
 use Rattle.orders.proofs.FirstByte.{not-refused, refused-once}
 use Rattle.syntax.proofs.Exact.{parts-once}
-use Rattle.ringfile.specs.RingFile.{Accepted, further, line, FileRefused, FileHolds, Says, ring, too-long, malformed}
+use Rattle.ringfile.proofs.Values.{line-some}
+use Rattle.ringfile.specs.RingFile.{Accepted, line, FileRefused, FileHolds, Says, ring, too-long, malformed}
 
 pub ring-holds : {x : List ℕ} {n h l : ℕ} → Says x (0 ∷ n ∷ h ∷ l ∷ []) → FileHolds x n h l
 ring-holds (ring h) = h
 
 -- A refusal: an accepted file has a names line.
-line-some : (ns : List (List ℕ)) → 1 ≤ length (line ns)
-line-some [] = omega arith
-line-some (w ∷ []) = omega (arith, length-append w (further []))
-line-some (w ∷ (v ∷ ws)) = omega (arith, length-append w (further (v ∷ ws)))
-
 pub refused-at : {x : List ℕ} {r p : ℕ} → Says x (r ∷ p ∷ 0 ∷ 0 ∷ []) → ((65536 < length x) × (p ≡ 65536)) ⊎ ((length x ≤ 65536) × FileRefused x p)
 refused-at (ring f) = absurd (omega (arith, f .head, line-some (f .ns)))
 refused-at (too-long h) = inl (h, refl)

@@ -58,14 +58,15 @@ module _ (m : ℕ) (some : 1 ≤ m) where
       ap (λ j. take (2 * m) (drop j (line (map value-word vs) ++ value-lines vss))) e
       ∙ ap (λ y. take (2 * m) y) (drop-append-add (line (map value-word vs)) (value-lines vss) (l * (2 * m))) ∙ one-line vss l (k .1) (omega arith)
 
--- No more lines than bytes.
-line-some : (vs : List Value) → 1 ≤ length (line (map value-word vs))
+-- A line has a byte, so there are no more lines than bytes.
+pub line-some : (ws : List (List ℕ)) → 1 ≤ length (line ws)
 line-some [] = omega arith
-line-some (v ∷ vs) = omega arith
+line-some (w ∷ []) = omega (arith, length-append w (further []))
+line-some (w ∷ (v ∷ ws)) = omega (arith, length-append w (further (v ∷ ws)))
 
 pub lines-long : (vss : List (List Value)) → length vss ≤ length (value-lines vss)
 lines-long [] = omega arith
-lines-long (vs ∷ vss) = omega (arith, length-append (line (map value-word vs)) (value-lines vss), lines-long vss, line-some vs)
+lines-long (vs ∷ vss) = omega (arith, length-append (line (map value-word vs)) (value-lines vss), lines-long vss, line-some (map value-word vs))
 
 -- Every line has a value for each name.
 pub line-length : (ns : List (List ℕ)) (vss : List (List Value)) (l : ℕ) → Rules ns vss → l < length vss → length (getD vss l []) ≡ length ns
@@ -73,34 +74,34 @@ line-length ns vss l r = all-at (λ vs. length vs ≡ length ns) [] vss l (r .va
 
 -- Any bytes and any numbers: where the line stands, and where there is none.
 module _ (x : List ℕ) (n h l : ℕ) where
-  abbrev pub Inside : Type 0
-  Inside = (n ≤ 256) × (h + suc l * (2 * n) ≤ length x)
+  abbrev pub WholeLine : Type 0
+  WholeLine = (n ≤ 256) × (h + suc l * (2 * n) ≤ length x)
 
-  pub line-is : Inside → line-in x n h l ≡ take (2 * n) (drop (h + l * (2 * n)) x)
+  pub line-is : WholeLine → line-in x n h l ≡ take (2 * n) (drop (h + l * (2 * n)) x)
   unfolding line-in
   line-is s = rw (le-leb n 256 (s .0), le-leb (h + suc l * (2 * n)) (length x) (s .1))
 
-  pub line-none : (Inside → ⊥) → line-in x n h l ≡ []
+  pub line-none : (WholeLine → ⊥) → line-in x n h l ≡ []
   unfolding line-in
   line-none s = rw (false-if (leb n 256 && leb (h + suc l * (2 * n)) (length x)) (λ e. let b = and-both (leb n 256) (leb (h + suc l * (2 * n)) (length x)) e in s (leb-true n 256 (b .0), leb-true (h + suc l * (2 * n)) (length x) (b .1))))
 
-  pub line-or-none : (Inside × (length (line-in x n h l) ≡ 2 * n)) ⊎ (line-in x n h l ≡ [])
+  pub line-or-none : (WholeLine × (length (line-in x n h l) ≡ 2 * n)) ⊎ (line-in x n h l ≡ [])
   line-or-none = go (leb n 256) (leb (h + suc l * (2 * n)) (length x)) refl refl
     where
-      go : (c d : Bool) → leb n 256 ≡ c → leb (h + suc l * (2 * n)) (length x) ≡ d → (Inside × (length (line-in x n h l) ≡ 2 * n)) ⊎ (line-in x n h l ≡ [])
+      go : (c d : Bool) → leb n 256 ≡ c → leb (h + suc l * (2 * n)) (length x) ≡ d → (WholeLine × (length (line-in x n h l) ≡ 2 * n)) ⊎ (line-in x n h l ≡ [])
       go true true p q =
-          let s : Inside = (leb-true n 256 p, leb-true (h + suc l * (2 * n)) (length x) q) in
+          let s : WholeLine = (leb-true n 256 p, leb-true (h + suc l * (2 * n)) (length x) q) in
           inl (s, ap length (line-is s) ∙ omega (arith, s .1, length-take (2 * n) (drop (h + l * (2 * n)) x), length-drop (h + l * (2 * n)) x))
       go true false p q = inr (line-none (λ s. omega (arith, s .1, leb-false (h + suc l * (2 * n)) (length x) q)))
       go false d p q = inr (line-none (λ s. omega (arith, s .0, leb-false n 256 p)))
 
   -- As the code finds it, by dividing.
-  pub line-past : 1 ≤ n → h ≤ length x → (length x - h) / (2 * n) ≤ l → Inside → ⊥
+  pub line-past : 1 ≤ n → h ≤ length x → (length x - h) / (2 * n) ≤ l → WholeLine → ⊥
   line-past s a q i =
       let d : suc l ≤ (length x - h) / (2 * n) = le-div-iff-mul-le {k = 2 * n} {x = suc l} {y = length x - h} (omega arith) .1 (omega (arith, i .1)) in
       omega arith
 
-  pub line-there : 1 ≤ n → n ≤ 256 → h ≤ length x → l < (length x - h) / (2 * n) → Inside
+  pub line-there : 1 ≤ n → n ≤ 256 → h ≤ length x → l < (length x - h) / (2 * n) → WholeLine
   line-there s m a q =
       let d : suc l * (2 * n) ≤ length x - h = le-div-iff-mul-le {k = 2 * n} {x = suc l} {y = length x - h} (omega arith) .0 q in
       (m, omega arith)
@@ -126,19 +127,19 @@ module _ (x : List ℕ) (n h l : ℕ) where
       go [] = refl
       go (b ∷ bs) = go bs
 
+pub none-of-length : (w : List ℕ) → length w ≡ 0 → w ≡ []
+none-of-length [] q = refl
+none-of-length (b ∷ w) q = absurd (omega arith)
+
 -- The same of the bytes v that were found.
 module _ (x : List ℕ) (n h l : ℕ) (v : List ℕ) (e : v ≡ line-in x n h l) where
   pub no-byte : length v ≡ 0 → line-in x n h l ≡ []
-  no-byte z = sym e ∙ go v z
-    where
-      go : (w : List ℕ) → length w ≡ 0 → w ≡ []
-      go [] q = refl
-      go (b ∷ w) q = absurd (omega arith)
+  no-byte z = sym e ∙ none-of-length v z
 
   pub all-bytes : (length v ≡ 0 → ⊥) → (n ≤ 256) × (length v ≡ 2 * n)
   all-bytes z = go (line-or-none x n h l)
     where
-      go : (Inside x n h l × (length (line-in x n h l) ≡ 2 * n)) ⊎ (line-in x n h l ≡ []) → (n ≤ 256) × (length v ≡ 2 * n)
+      go : (WholeLine x n h l × (length (line-in x n h l) ≡ 2 * n)) ⊎ (line-in x n h l ≡ []) → (n ≤ 256) × (length v ≡ 2 * n)
       go (inl s) = (s .0 .0, ap length e ∙ s .1)
       go (inr s) = absurd (z (ap length (e ∙ s)))
 

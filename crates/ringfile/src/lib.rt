@@ -70,8 +70,8 @@ pub fn name_at(file: &[u8], k: usize) -> Part
     Part { start, length }
 }
 
-// Name number k, from 0, as the part of the file that `name_at` tells: its bytes, and that it starts so many bytes on. No byte where there is no
-// such name.
+// Name number k, from 0, as the part of the file that `name_at` tells: its bytes, and the place at which they stand. No byte where there is no such
+// name.
 pub fn name_of(file: &[u8], k: usize) -> &[u8]
     ensures { λ r. ⌜ now r ≡ name-in (now (file .entry)) k ⌝ }
     ensures { λ r. ⌜ r .ptr ≡ (file .entry .ptr .0, name-start (now (file .entry)) k + file .entry .ptr .1) ⌝ }
@@ -82,7 +82,8 @@ pub fn name_of(file: &[u8], k: usize) -> &[u8]
     &file[start..end]
 }
 
-// The bytes of value line l, from 0, in a file with so many names and a names line of head bytes. No byte where there is no such line.
+// The bytes of value line l, from 0, in a file with so many names, at most 256, and a names line of head bytes. No byte where there is no such
+// line.
 fn line_of(file: &[u8], names: usize, head: usize, l: usize) -> &[u8]
     ensures { λ r. ⌜ now r ≡ line-in (now (file .entry)) names head l ⌝ }
 {
@@ -104,8 +105,8 @@ fn line_of(file: &[u8], names: usize, head: usize, l: usize) -> &[u8]
     &file[start..end]
 }
 
-// Whether value number i of value line l, both from 0, is `1`, in a file with so many names and a names line of head bytes. False where there
-// is no such value.
+// Whether value number i of value line l, both from 0, is `1`, in a file with so many names, at most 256, and a names line of head bytes. False
+// where there is no such value. (The first test keeps 2 * i from overflowing.)
 pub fn value_of(file: &[u8], names: usize, head: usize, l: usize, i: usize) -> bool
     ensures { λ r. ⌜ r ≡ value-in (now (file .entry)) names head l i ⌝ }
 {
@@ -119,8 +120,8 @@ pub fn value_of(file: &[u8], names: usize, head: usize, l: usize, i: usize) -> b
     values[2 * i] == 49
 }
 
-// Writes the group of value line l, from 0, in a file with so many names and a names line of head bytes, to the start of the list: its leaves,
-// rising. Returns how many. Nothing is written where there is no such line, or the list has fewer places than there are names.
+// Writes the group of value line l, from 0, in a file with so many names, at most 256, and a names line of head bytes, to the start of the list: its
+// leaves, rising. Returns how many. Nothing is written where there is no such line, or the list has fewer places than there are names.
 pub fn group_of(file: &[u8], names: usize, head: usize, l: usize, list: &mut [u16]) -> usize
     ensures { λ r. ⌜ Wrote (group-for (length (now (list .entry))) (now (file .entry)) names head l) (now (list .entry)) (now (list .exit)) r ⌝ }
     ensures { λ r. ⌜ r ≤ length (now (list .entry)) ⌝ }

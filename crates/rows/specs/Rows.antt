@@ -15,8 +15,8 @@ abbrev pub row : ℕ → List ℕ → List ℕ
 row k es = k ∷ length es ∷ padded 255 es
 
 -- The list begins with xs.
-abbrev pub starts : List ℕ → List ℕ → Bool
-starts xs l = same (take (length xs) l) xs
+abbrev pub begins-with : List ℕ → List ℕ → Bool
+begins-with xs l = same (take (length xs) l) xs
 
 -- Items whose places go into `room` numbers, their nodes in the records from r on.
 pub record Placed (toks : List ℕ) (r room : ℕ) : Type 0 where

@@ -17,7 +17,7 @@ use Rattle.orders.proofs.Members.{NonEmpty}
 use Rattle.orders.proofs.Laws.{Forked}
 use Rattle.orders.proofs.Digits.{Digit, digits-all, digits-nonempty}
 use Rattle.orders.proofs.Tests.{cond-cases, and-both, or-either, or-neither}
-use Rattle.scanner.specs.Scan.{TextState, lit, pre, open-due, due, num, after, need, closes, begun, seek, letter?, sep?, step, step-after, step-leaf}
+use Rattle.scanner.specs.Scan.{TextState, lit, pre, open-due, due, num, after, need, closes, begun, seek, letter?, sep?, text-step, step-after, step-leaf}
 use Rattle.scanner.proofs.Words.{begun-of, Seek, miss, hit, seek-view}
 use Rattle.scanner.proofs.Language.{bytes, frontiers, Fits, Tail, Due, Num, Open, Lang, Viable, due-need, open-need, more-text}
 
@@ -229,8 +229,8 @@ leaf-due {c} {cs} {l} {x} b d = go (d .then .fs) (d .then .fits) (d .then .each)
 num-begun : {ds cs l x : List ℕ} → Num ds cs l x → begun ds l ≡ true
 num-begun {ds} n = begun-of ds (n .tail) (n .name) (n .pick)
 
-due-deriv : (c : ℕ) (cs l : List ℕ) (b : ℕ) → Viable (due c cs l) → Deriv (due c cs l) b (step (due c cs l) b)
-unfolding step
+due-deriv : (c : ℕ) (cs l : List ℕ) (b : ℕ) → Viable (due c cs l) → Deriv (due c cs l) b (text-step (due c cs l) b)
+unfolding text-step
 due-deriv c cs l b v =
     cond-cases (letter? b) _ _ (Deriv (due c cs l) b)
     (λ y. let k = letter-true b y in
@@ -281,8 +281,8 @@ leaf-deriv ds c cs l b v s (some j) (hit m e p f) =
     (λ x t. record { m = m; tail = []; k = j; y = b ∷ x; name = e ∙ sym (append-nil ds); pick = p; is = refl; then = t })
     (after-deriv (c ∷ cs) j b (omega (arith, pick-length p)))
 
-num-deriv : (ds : List ℕ) (c : ℕ) (cs l : List ℕ) (b : ℕ) → Viable (num ds c cs l) → Deriv (num ds c cs l) b (step (num ds c cs l) b)
-unfolding step
+num-deriv : (ds : List ℕ) (c : ℕ) (cs l : List ℕ) (b : ℕ) → Viable (num ds c cs l) → Deriv (num ds c cs l) b (text-step (num ds c cs l) b)
+unfolding text-step
 num-deriv ds c cs l b v =
     cond-cases (sep? b) _ _ (Deriv (num ds c cs l) b)
     (λ y. leaf-deriv ds c cs l b (v .0) (sep-true b y) (seek ds l) (seek-view ds l))
@@ -290,8 +290,8 @@ num-deriv ds c cs l b v =
     (λ h. goes (v .0, h) (λ x m. num-digit b (sep-false b n) m) (λ x m. digit-num b m))
     (λ h. stop (λ x m. let a = num-begun (num-digit b (sep-false b n) m) in let z : _≡_ {A = ℕ} 0 1 = cc in omega arith)))
 
-open-deriv : (cs l : List ℕ) (b : ℕ) → Viable (open-due cs l) → Deriv (open-due cs l) b (step (open-due cs l) b)
-unfolding step
+open-deriv : (cs l : List ℕ) (b : ℕ) → Viable (open-due cs l) → Deriv (open-due cs l) b (text-step (open-due cs l) b)
+unfolding text-step
 open-deriv cs l b v =
     cond-cases (eqb b 40) _ _ (Deriv (open-due cs l) b)
     (λ y. goes (omega arith)
@@ -299,8 +299,8 @@ open-deriv cs l b v =
     (λ x d. record { y = x; is = ap (λ w. w ∷ x) (eqb-true b 40 y); then = d }))
     (λ n. stop (λ x o. eqb-false b 40 n (head-eq-of-cons-eq (o .is))))
 
-pre-deriv : (ws l : List ℕ) (b : ℕ) → Viable (pre ws l) → Deriv (pre ws l) b (step (pre ws l) b)
-unfolding step
+pre-deriv : (ws l : List ℕ) (b : ℕ) → Viable (pre ws l) → Deriv (pre ws l) b (text-step (pre ws l) b)
+unfolding text-step
 pre-deriv [] l b v =
     cond-cases (letter? b) _ _ (Deriv (pre [] l) b)
     (λ y. let k = letter-true b y in goes (omega arith)
@@ -314,16 +314,16 @@ pre-deriv (w ∷ ws) l b v =
     (λ x o. record { k = o .k; y = o .y; is = ap₂ _∷_ e (o .is); then = o .then }))
     (λ n. stop (λ x o. eqb-false b w n (head-eq-of-cons-eq (o .is))))
 
-lit-deriv : (ws : List ℕ) (b : ℕ) → Deriv (lit ws) b (step (lit ws) b)
-unfolding step
+lit-deriv : (ws : List ℕ) (b : ℕ) → Deriv (lit ws) b (text-step (lit ws) b)
+unfolding text-step
 lit-deriv [] b = stop (λ x e. let z : _≡_ {A = ℕ} 0 1 = cc in omega arith)
 lit-deriv (w ∷ ws) b =
     cond-cases (eqb b w) _ _ (Deriv (lit (w ∷ ws)) b)
     (λ y. let h = eqb-true b w y in goes tt (λ x e. tail-eq-of-cons-eq e) (λ x e. ap₂ _∷_ h e))
     (λ n. stop (λ x e. eqb-false b w n (head-eq-of-cons-eq e)))
 
-pub deriv : (s : TextState) → Viable s → (b : ℕ) → Deriv s b (step s b)
-unfolding step
+pub deriv : (s : TextState) → Viable s → (b : ℕ) → Deriv s b (text-step s b)
+unfolding text-step
 deriv (lit ws) v b = lit-deriv ws b
 deriv (pre ws l) v b = pre-deriv ws l b v
 deriv (open-due cs l) v b = open-deriv cs l b v

@@ -19,7 +19,7 @@ use Rattle.orders.proofs.Laws.{Forked}
 use Rattle.orders.proofs.Forms.{nodes-bound}
 use Rattle.orders.proofs.Tests.{cond-cases}
 use Rattle.orders.proofs.Members.{nil-not}
-use Rattle.scanner.specs.Scan.{TextState, lit, pre, open-due, due, num, after, final, step, run, run-at, start, scan, TextAnswer, accepted, refused}
+use Rattle.scanner.specs.Scan.{TextState, lit, pre, open-due, due, num, after, final, text-step, run, run-at, text-start, scan, TextAnswer, accepted, refused}
 use Rattle.scanner.proofs.Language.{bytes, frontiers, Fits, Tail, Due, Lang, Viable}
 use Rattle.scanner.proofs.Completion.{finish}
 use Rattle.scanner.proofs.Derivative.{Deriv, stop, goes, deriv}
@@ -86,7 +86,7 @@ after-step s v b x p rec (some t) (goes w f g) = further s t b x p f g (run x (s
 run-right : (x : List ℕ) (p : ℕ) (s : TextState) → Viable s → Right s x p (run x p s)
 unfolding run
 run-right [] p s v = at-the-end s v p
-run-right (b ∷ x) p s v = after-step s v b x p (λ t w. run-right x (suc p) t w) (step s b) (deriv s v b)
+run-right (b ∷ x) p s v = after-step s v b x p (λ t w. run-right x (suc p) t w) (text-step s b) (deriv s v b)
 
 -- The start: what hangs at leaf 1 is nothing (n = 1), leaf 2 (n = 2), or a node.
 pub others-length : (n : ℕ) → length (others n) ≡ n - 1
@@ -141,21 +141,21 @@ two-text f s = go f (s .single) (s .forked) (s .all-leaves)
     go (leaf b nil) o g p = ap (λ x. leaf x nil) (head-eq-of-cons-eq (short-perm p (omega arith)))
     go (node k i nil) o g p = absurd (omega (arith, perm-length p, nodes-bound (node k i nil) g, g .0 .0))
 
-start-to : (n : ℕ) (x : List ℕ) → Lang (start n) x → ShapeText n x
+start-to : (n : ℕ) (x : List ℕ) → Lang (text-start n) x → ShapeText n x
 unfolding tree-text digits digits-in
 start-to zero x h = record { tree = nil; shaped = record { single = tt; forked = tt; all-leaves = done }; bytes = h }
 start-to (suc zero) x h = record { tree = nil; shaped = record { single = tt; forked = tt; all-leaves = done }; bytes = h }
 start-to (suc (suc zero)) x h = record { tree = leaf 2 nil; shaped = record { single = tt; forked = tt; all-leaves = perm-refl (2 ∷ []) }; bytes = h }
 start-to (suc (suc (suc k))) x h = to-text (suc (suc (suc k))) x h
 
-start-of : (n : ℕ) (x : List ℕ) → ShapeText n x → Lang (start n) x
+start-of : (n : ℕ) (x : List ℕ) → ShapeText n x → Lang (text-start n) x
 unfolding tree-text digits digits-in
 start-of zero x t = t .bytes ∙ ap tree-text (one-text 0 (omega arith) (t .tree) (t .shaped))
 start-of (suc zero) x t = t .bytes ∙ ap tree-text (one-text 1 (omega arith) (t .tree) (t .shaped))
 start-of (suc (suc zero)) x t = t .bytes ∙ ap tree-text (two-text (t .tree) (t .shaped))
 start-of (suc (suc (suc k))) x t = of-text (suc (suc (suc k))) (omega arith) x t
 
-start-viable : (n : ℕ) → Viable (start n)
+start-viable : (n : ℕ) → Viable (text-start n)
 start-viable zero = tt
 start-viable (suc zero) = tt
 start-viable (suc (suc zero)) = tt
@@ -168,18 +168,18 @@ pub data Exact (n : ℕ) (x : List ℕ) : TextAnswer → Type 0 where
 
 pub scan-exact : (n : ℕ) (x : List ℕ) → Exact n x (scan n x)
 unfolding scan
-scan-exact n x = go (run x 0 (start n)) (run-right x 0 (start n) (start-viable n))
+scan-exact n x = go (run x 0 (text-start n)) (run-right x 0 (text-start n) (start-viable n))
   where
-    fails : (q : ℕ) → Fails (start n) x q → ShapeRefused n x q
+    fails : (q : ℕ) → Fails (text-start n) x q → ShapeRefused n x q
     fails q (mid l none-begins y some-begins) = at-byte l (y, start-to n _ some-begins) (λ t. none-begins (t .0) (start-of n _ (t .1)))
     fails q (end l none-is c y h) = at-end l (c ∷ y, start-to n _ h) (λ t. none-is (start-of n x t))
 
-    go : (a : TextAnswer) → Right (start n) x 0 a → Exact n x a
+    go : (a : TextAnswer) → Right (text-start n) x 0 a → Exact n x a
     go accepted (ok h) = is-text (start-to n x h)
     go (refused _) (bad r q e f) = at r (subst (ShapeRefused n x) (sym (e ∙ omega arith)) (fails q f))
 
 -- The answer from the text's start on.
-pub refused-shape : (n : ℕ) (x : List ℕ) (p : ℕ) → run-at x 0 (start n) ≡ refused p → ShapeRefused n x p
+pub refused-shape : (n : ℕ) (x : List ℕ) (p : ℕ) → run-at x 0 (text-start n) ≡ refused p → ShapeRefused n x p
 unfolding run-at scan
 refused-shape n x p = go (scan n x) (scan-exact n x)
   where
@@ -187,7 +187,7 @@ refused-shape n x p = go (scan n x) (scan-exact n x)
     go accepted (is-text t) e = absurd (let z : _≡_ {A = ℕ} 0 1 = cc in omega arith)
     go (refused _) (at q r) e = let z : q ≡ p = cc in subst (ShapeRefused n x) z r
 
-pub accepted-shape : (n : ℕ) (x : List ℕ) → run-at x 0 (start n) ≡ accepted → ShapeText n x
+pub accepted-shape : (n : ℕ) (x : List ℕ) → run-at x 0 (text-start n) ≡ accepted → ShapeText n x
 unfolding run-at scan
 accepted-shape n x = go (scan n x) (scan-exact n x)
   where
@@ -195,14 +195,14 @@ accepted-shape n x = go (scan n x) (scan-exact n x)
     go accepted (is-text t) e = t
     go (refused _) (at q r) e = absurd (let z : _≡_ {A = ℕ} 0 1 = cc in omega arith)
 
-pub start-pre : (n : ℕ) → 3 ≤ n → start n ≡ pre (49 ∷ 32 ∷ []) (others n)
+pub start-pre : (n : ℕ) → 3 ≤ n → text-start n ≡ pre (49 ∷ 32 ∷ []) (others n)
 start-pre zero h = absurd (omega arith)
 start-pre (suc zero) h = absurd (omega arith)
 start-pre (suc (suc zero)) h = absurd (omega arith)
 start-pre (suc (suc (suc k))) h = refl
 
 -- For n = 1 and n = 2 there is one text.
-pub start-word : (n : ℕ) → 1 ≤ n → n ≤ 2 → start n ≡ lit (take (2 * n - 1) (49 ∷ 32 ∷ 50 ∷ []))
+pub start-word : (n : ℕ) → 1 ≤ n → n ≤ 2 → text-start n ≡ lit (take (2 * n - 1) (49 ∷ 32 ∷ 50 ∷ []))
 start-word zero h g = absurd (omega arith)
 start-word (suc zero) h g = refl
 start-word (suc (suc zero)) h g = refl

@@ -66,21 +66,21 @@ abbrev pub step-leaf : Option (List ℕ) → ℕ → List ℕ → ℕ → Option
 step-leaf none c cs b = none
 step-leaf (some l) c cs b = step-after (c ∷ cs) l b
 
-unfoldable pub step : TextState → ℕ → Option TextState
-step (lit []) b = none
-step (lit (w ∷ ws)) b = cond (eqb b w) (some (lit ws)) none
-step (pre [] l) b = cond (letter? b) (some (open-due [] l)) none
-step (pre (w ∷ ws) l) b = cond (eqb b w) (some (pre ws l)) none
-step (open-due cs l) b = cond (eqb b 40) (some (due 2 cs l)) none
-step (due c cs l) b =
+unfoldable pub text-step : TextState → ℕ → Option TextState
+text-step (lit []) b = none
+text-step (lit (w ∷ ws)) b = cond (eqb b w) (some (lit ws)) none
+text-step (pre [] l) b = cond (letter? b) (some (open-due [] l)) none
+text-step (pre (w ∷ ws) l) b = cond (eqb b w) (some (pre ws l)) none
+text-step (open-due cs l) b = cond (eqb b 40) (some (due 2 cs l)) none
+text-step (due c cs l) b =
     cond (letter? b)
     (cond (leb (2 + need ((c - 1) ∷ cs)) (length l)) (some (open-due ((c - 1) ∷ cs) l)) none)
     (cond (begun (b ∷ []) l) (some (num (b ∷ []) (c - 1) cs l)) none)
-step (num ds c cs l) b =
+text-step (num ds c cs l) b =
     cond (sep? b)
     (step-leaf (seek ds l) c cs b)
     (cond (begun (ds ++ (b ∷ [])) l) (some (num (ds ++ (b ∷ [])) c cs l)) none)
-step (after cs l) b = step-after cs l b
+text-step (after cs l) b = step-after cs l b
 
 abbrev pub final : TextState → Bool
 final (lit []) = true
@@ -99,16 +99,16 @@ pub data TextAnswer : Type 0 where
 -- From state s at byte p.
 unfoldable pub run : List ℕ → ℕ → TextState → TextAnswer
 run [] p s = cond (final s) accepted (refused p)
-run (b ∷ x) p s = elim (step s b) [ none ↦ refused p | some t ↦ run x (suc p) t ]
+run (b ∷ x) p s = elim (text-step s b) [ none ↦ refused p | some t ↦ run x (suc p) t ]
 
-abbrev pub start : ℕ → TextState
-start zero = lit (49 ∷ [])
-start (suc zero) = lit (49 ∷ [])
-start (suc (suc zero)) = lit (49 ∷ 32 ∷ 50 ∷ [])
-start (suc (suc (suc k))) = pre (49 ∷ 32 ∷ []) (others (suc (suc (suc k))))
+abbrev pub text-start : ℕ → TextState
+text-start zero = lit (49 ∷ [])
+text-start (suc zero) = lit (49 ∷ [])
+text-start (suc (suc zero)) = lit (49 ∷ 32 ∷ 50 ∷ [])
+text-start (suc (suc (suc k))) = pre (49 ∷ 32 ∷ []) (others (suc (suc (suc k))))
 
 unfoldable pub scan : ℕ → List ℕ → TextAnswer
-scan n x = run x 0 (start n)
+scan n x = run x 0 (text-start n)
 
 -- From state s at byte p of x.
 unfoldable pub run-at : List ℕ → ℕ → TextState → TextAnswer

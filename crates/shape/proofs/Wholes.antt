@@ -12,12 +12,12 @@ use Rattle.orders.specs.Tree.{nil, node}
 use Rattle.orders.specs.TreeText.{text, tree-text}
 use Rattle.orders.proofs.TextTree.{text-injective}
 use Rattle.tokens.specs.Tokens.{E, node-token}
-use Rattle.scanner.specs.Scan.{start, lit, pre, open-due, after, letter?, run-at, refused}
+use Rattle.scanner.specs.Scan.{text-start, lit, pre, open-due, after, letter?, run-at, refused}
 use Rattle.scanner.specs.Unused.{unused}
 use Rattle.scanner.proofs.Moves.{at-end, all-read, word-read, word-byte, word-bad, word-over, pre-byte, pre-bad, pre-letter, pre-none, close-root, close-left, after-root}
 use Rattle.scanner.proofs.Exact.{others-length, refused-shape, accepted-shape, start-pre}
 use Rattle.leaves.specs.declared.Reached.{Reached}
-use Rattle.leaves.specs.Passages.{Marks, OpenedRead, kind-of}
+use Rattle.leaves.specs.Passages.{Marks, OpenedRead, kind-of-letter}
 use Rattle.shape.specs.Texts.{WordRead, TextBegins, Opening, WholeRead, ShapeRead}
 use Rattle.numerals.proofs.Numerals.{drop-step}
 use Rattle.nodes.proofs.Nodes.{letter-kind, node-wrote}
@@ -109,18 +109,18 @@ module _ (x : List ℕ) (b : TextBegins x) where
         pub whole-more : {new : List ℕ} → r .at + 1 < length x → WholeRead x (unused 0 used) old new (record { ok = false; at = r .at + 1; left = 0; count = 0 })
         whole-more n = record { stops = λ e. closed ∙ after-root x (r .at + 1) n (unused 0 used'); goes = λ e. absurd (true≢false (sym e)) }
 
-        pub whole-read : {t : ℕ} → length x ≤ r .at + 1 → 0 < length old → many ≤ 255 → t ≡ node-token E (kind-of (getD x 2 0)) (r .count)
+        pub whole-read : {t : ℕ} → length x ≤ r .at + 1 → 0 < length old → many ≤ 255 → t ≡ node-token E (kind-of-letter (getD x 2 0)) (r .count)
             → WholeRead x (unused 0 used) old (set (putMid 1 (length old - 1) old part) 0 t) (record { ok = true; at = r .at + 1; left = 0; count = 1 + r .count })
         unfolding tree-text
         whole-read n s m t = let p = o .0 .goes f in record {
           stops = λ e. absurd (true≢false e);
           goes = λ e. record {
-            spelled = node (kind-of (getD x 2 0)) (p .forest) nil;
+            spelled = node (kind-of-letter (getD x 2 0)) (p .forest) nil;
             bytes = first-bytes
                 ∙ ap₂ (λ k l. 49 ∷ 32 ∷ k ∷ l) (sym (letter-kind (getD x 2 0) (b .kind)))
                 (p .bytes ∙ ap (λ l. 40 ∷ (text (p .forest) ++ l))
                 (drop-step x (r .at) (o .1 f .there) ∙ ap₂ _∷_ (o .1 f .bracket) (drop-of-length-le x n)));
-            wrote = node-wrote (kind-of (getD x 2 0)) (p .forest) s t (p .wrote);
+            wrote = node-wrote (kind-of-letter (getD x 2 0)) (p .forest) s t (p .wrote);
             all-used = closed ∙ all-read x (r .at + 1) (unused 0 used') n;
             few = omega (arith, p .few);
           };
@@ -175,5 +175,5 @@ shape-read n h x l old new r e w = record {
       record { shown = v .spelled; shaped = rw (sym same) (s .shaped); bytes = v .bytes; wrote = v .wrote; few = v .few };
 }
   where
-    begin : run-at x 0 (start n) ≡ run-at x 0 (pre (49 ∷ 32 ∷ []) l)
+    begin : run-at x 0 (text-start n) ≡ run-at x 0 (pre (49 ∷ 32 ∷ []) l)
     begin = ap (run-at x 0) (start-pre n h ∙ ap (pre (49 ∷ 32 ∷ [])) (sym e))

@@ -9,7 +9,7 @@ use Rattle.orders.specs.Lists.{All, Distinct, In}
 use Rattle.orders.proofs.ListLaws.{all-right}
 use Rattle.orders.proofs.Members.{apart}
 use Rattle.syntax.specs.RingFile.{NameByte, Name, Value, value-word, line, value-lines, file-bytes, Rules}
-use Rattle.syntax.specs.Scanner.{naming, due, start}
+use Rattle.syntax.specs.Scanner.{naming, due, file-start}
 use Rattle.syntax.proofs.NewNames.{new-room}
 use Rattle.syntax.proofs.Steps.{name-byte, name-space, name-end, a-value, value-space, value-end, Run, done, then, run-append}
 
@@ -58,7 +58,7 @@ lines-run ns a ((v ∷ vs) ∷ vss) h k =
     run-append (values-run ns a [] v vs (omega (arith, k .0)))
     (subst (λ l. Run (due ns (a ++ ((v ∷ vs) ∷ [])) []) (value-lines vss) (due ns l [])) (append-assoc a ((v ∷ vs) ∷ []) vss) (lines-run ns (a ++ ((v ∷ vs) ∷ [])) vss h (k .1)))
 
-pub file-run : (ns : List (List ℕ)) (vss : List (List Value)) → Rules ns vss → Run start (file-bytes ns vss) (due ns vss [])
+pub file-run : (ns : List (List ℕ)) (vss : List (List Value)) → Rules ns vss → Run file-start (file-bytes ns vss) (due ns vss [])
 file-run [] vss r = absurd (omega (arith, r .names .some-name))
 file-run (w ∷ ws) vss r =
     run-append (names-run [] w ws (r .names .each) (r .names .different) (omega (arith, r .names .few-names))) (lines-run (w ∷ ws) [] vss (omega arith) (r .values))

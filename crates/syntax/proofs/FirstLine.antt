@@ -24,31 +24,31 @@ some-word (b ∷ x) = go (eqb b 32) (eqb b 10) (words-in x)
     go false false (w ∷ ws) = omega arith
 
 -- The bytes x begin with the word w, and it ends there; word number k stands in x.
-pub record Named (x w : List ℕ) : Type 0 where
+pub record WordHere (x w : List ℕ) : Type 0 where
   pub size : word-end x ≡ length w
   pub is : take (length w) x ≡ w
 
-pub record Found (x : List ℕ) (ws : List (List ℕ)) (k : ℕ) : Type 0 where
-  pub named : Named (drop (place-of ws k) x) (getD ws k [])
+pub record WordStands (x : List ℕ) (ws : List (List ℕ)) (k : ℕ) : Type 0 where
+  pub named : WordHere (drop (place-of ws k) x) (getD ws k [])
   pub inside : place-of ws k + length (getD ws k []) ≤ length x
 
-pub at-word : (x : List ℕ) (k : ℕ) → k < length (words-in x) → Found x (words-in x) k
+pub at-word : (x : List ℕ) (k : ℕ) → k < length (words-in x) → WordStands x (words-in x) k
 at-word [] zero l = record { named = record { size = refl; is = refl }; inside = omega arith }
 at-word [] (suc k) l = absurd (omega arith)
 at-word (b ∷ x) k l = go (eqb b 32) (eqb b 10) refl refl (words-in x) (some-word x) (at-word x) k l
   where
     first : (w : List ℕ) → word-end (b ∷ x) ≡ length w → take (length w) (b ∷ x) ≡ w → (ws : List (List ℕ)) → length w ≤ suc (length x)
-        → Found (b ∷ x) (w ∷ ws) 0
+        → WordStands (b ∷ x) (w ∷ ws) 0
     first w e t ws m = record { named = record { size = e; is = t }; inside = omega arith }
 
-    next : (ws us : List (List ℕ)) (i j : ℕ) → place-of us i ≡ suc (place-of ws j) → getD us i [] ≡ getD ws j [] → Found x ws j → Found (b ∷ x) us i
+    next : (ws us : List (List ℕ)) (i j : ℕ) → place-of us i ≡ suc (place-of ws j) → getD us i [] ≡ getD ws j [] → WordStands x ws j → WordStands (b ∷ x) us i
     next ws us i j e f s = record {
-      named = subst (λ p. Named (drop p (b ∷ x)) (getD us i [])) (sym e) (subst (Named (drop (place-of ws j) x)) (sym f) (s .named));
+      named = subst (λ p. WordHere (drop p (b ∷ x)) (getD us i [])) (sym e) (subst (WordHere (drop (place-of ws j) x)) (sym f) (s .named));
       inside = omega (arith, e, ap length f, s .inside);
     }
 
-    go : (c d : Bool) → eqb b 32 ≡ c → eqb b 10 ≡ d → (ws : List (List ℕ)) → 1 ≤ length ws → ((j : ℕ) → j < length ws → Found x ws j) → (i : ℕ)
-        → i < length (cond c ([] ∷ ws) (cond d ([] ∷ []) (in-front b ws))) → Found (b ∷ x) (cond c ([] ∷ ws) (cond d ([] ∷ []) (in-front b ws))) i
+    go : (c d : Bool) → eqb b 32 ≡ c → eqb b 10 ≡ d → (ws : List (List ℕ)) → 1 ≤ length ws → ((j : ℕ) → j < length ws → WordStands x ws j) → (i : ℕ)
+        → i < length (cond c ([] ∷ ws) (cond d ([] ∷ []) (in-front b ws))) → WordStands (b ∷ x) (cond c ([] ∷ ws) (cond d ([] ∷ []) (in-front b ws))) i
     go true d p q ws s h zero m = first [] (rw p) refl ws (omega arith)
     go true d p q ws s h (suc i) m = next ws ([] ∷ ws) (suc i) i (omega arith) refl (h i (omega arith))
     go false true p q ws s h zero m = first [] (rw (p, q)) refl [] (omega arith)

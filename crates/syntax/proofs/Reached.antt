@@ -8,8 +8,9 @@ use Rattle.orders.specs.Lists.{All, Distinct, In}
 use Rattle.orders.proofs.ListLaws.{all-append}
 use Rattle.syntax.specs.RingFile.{NameByte, Name, Value, off, value-word, further, line, value-lines, file-bytes, Accepted}
 use Rattle.orders.specs.FirstByte.{Begun}
+use Rattle.orders.proofs.FirstByte.{begun-part}
 use Rattle.syntax.specs.Words.{spaced}
-use Rattle.syntax.specs.Scanner.{FileState, naming, due, got, start, text, Naming, Due, Ok}
+use Rattle.syntax.specs.Scanner.{FileState, naming, due, got, file-start, text, Naming, Due, Ok}
 use Rattle.syntax.proofs.Lists.{distinct-snoc}
 use Rattle.syntax.proofs.NewNames.{room-new, short}
 use Rattle.syntax.proofs.Steps.{Step, name-byte, name-space, name-end, a-value, value-space, value-end, Run, done, then}
@@ -62,7 +63,7 @@ text-step (value-end {ns = ns} {vss = vss} {vs = vs} {v = v} {b = b} e h) =
     ∙ sym (append-assoc (file-bytes ns vss) (spaced (map value-word vs) ++ value-word v) (10 ∷ []))
     ∙ ap (λ c. (file-bytes ns vss ++ (spaced (map value-word vs) ++ value-word v)) ++ (c ∷ [])) (sym e)
 
-pub ok-start : Ok start
+pub ok-start : Ok file-start
 ok-start = record { few = omega arith; each = tt; different = tt; bytes = tt; open-end = short [] [] tt (omega arith) (omega arith) }
 
 -- The begun name is whole.
@@ -138,10 +139,6 @@ filled ns vss vs v k = (
     full : length (vs ++ (v ∷ us)) ≡ length ns
     full = omega (arith, length-append vs (v ∷ us), length-replicate (length ns - (length vs + 1)) off, k .left)
 
--- A file that begins with more begins with less.
-pub fewer-begun : (x y : List ℕ) → Begun Accepted (x ++ y) → Begun Accepted x
-fewer-begun x y b = (y ++ b .0, subst Accepted (append-assoc x y (b .0)) (b .1))
-
 -- A state with a begun name: the name is made whole, and the line ends.
 named : (ns : List (List ℕ)) (w : List ℕ) → Naming ns w → Begun Accepted (spaced ns ++ w)
 named ns w k = (
@@ -172,6 +169,6 @@ named ns w k = (
 pub ok-begun : (s : FileState) → Ok s → Begun Accepted (text s)
 ok-begun (naming ns w) k = named ns w k
 ok-begun (due ns vss vs) k =
-    fewer-begun (file-bytes ns vss ++ spaced (map value-word vs)) (value-word off)
+    begun-part Accepted (file-bytes ns vss ++ spaced (map value-word vs)) (value-word off)
     (subst (Begun Accepted) (sym (append-assoc (file-bytes ns vss) (spaced (map value-word vs)) (value-word off))) (filled ns vss vs off k))
 ok-begun (got ns vss vs v) k = filled ns vss vs v k

@@ -12,7 +12,7 @@ use Rattle.orders.specs.Lists.{In, elem}
 use Rattle.orders.proofs.Members.{elem-in, in-elem}
 use Rattle.orders.proofs.Tests.{and-both}
 use Rattle.syntax.specs.RingFile.{alphabet, NameByte, Value, off, on, hyphen, value-byte}
-use Rattle.syntax.specs.Scanner.{room, is-new, FileState, naming, due, got, Sort, letter, space, end, other, sort, value, when, on-name, on-value, on-got, step}
+use Rattle.syntax.specs.Scanner.{room, is-new, FileState, naming, due, got, Sort, letter, space, end, other, sort, value, when, on-name, on-value, on-got, file-step}
 use Rattle.syntax.proofs.Words.{new-true, true-new}
 
 pub data Step : FileState → ℕ → FileState → Type 0 where
@@ -77,7 +77,7 @@ when-some false s t e = let z : _≡_ {A = ℕ} 0 1 = cc in absurd (omega arith)
 never : {A : Type 0} (t : FileState) → none ≡ some t → A
 never t e = let z : _≡_ {A = ℕ} 0 1 = cc in absurd (omega arith)
 
-pub step-relates : (s : FileState) (b : ℕ) (t : FileState) → step s b ≡ some t → Step s b t
+pub step-relates : (s : FileState) (b : ℕ) (t : FileState) → file-step s b ≡ some t → Step s b t
 step-relates (naming ns w) b t e = go (sort b) (sorted b) e
   where
     go : (k : Sort) → Sorted b k → on-name k ns w b ≡ some t → Step (naming ns w) b t
@@ -112,7 +112,7 @@ step-relates (got ns vss vs v) b t e = go (sort b) (sorted b) e
 when-true : (c : Bool) (s : FileState) → c ≡ true → when c s ≡ some s
 when-true c s e = ap (λ d. when d s) e
 
-pub relation-steps : {s : FileState} {b : ℕ} {t : FileState} → Step s b t → step s b ≡ some t
+pub relation-steps : {s : FileState} {b : ℕ} {t : FileState} → Step s b t → file-step s b ≡ some t
 relation-steps (name-byte {ns = ns} {w = w} {b = b} h r) =
     ap (λ k. on-name k ns w b) (sort-letter b h) ∙ when-true (room ns (w ++ (b ∷ []))) (naming ns (w ++ (b ∷ []))) r
 relation-steps (name-space {ns = ns} {w = w} {b = b} e h n f) =

@@ -34,8 +34,8 @@ pub data FileState : Type 0 where
   -- The same with the value just read; a space or the line's end is due.
   got : List (List ℕ) → List (List Value) → List Value → Value → FileState
 
-abbrev pub start : FileState
-start = naming [] []
+abbrev pub file-start : FileState
+file-start = naming [] []
 
 -- What a byte is outside the values.
 pub data Sort : Type 0 where
@@ -68,10 +68,10 @@ on-got end ns vss vs v = when (eqb (suc (length vs)) (length ns)) (due ns (vss +
 on-got other ns vss vs v = none
 
 -- One byte more. none: no accepted file goes on so.
-abbrev pub step : FileState → ℕ → Option FileState
-step (naming ns w) b = on-name (sort b) ns w b
-step (due ns vss vs) b = on-value (value b) ns vss vs
-step (got ns vss vs v) b = on-got (sort b) ns vss vs v
+abbrev pub file-step : FileState → ℕ → Option FileState
+file-step (naming ns w) b = on-name (sort b) ns w b
+file-step (due ns vss vs) b = on-value (value b) ns vss vs
+file-step (got ns vss vs v) b = on-got (sort b) ns vss vs v
 
 -- The bytes that lead to a state.
 abbrev pub text : FileState → List ℕ

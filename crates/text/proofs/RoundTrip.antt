@@ -16,7 +16,7 @@ use Rattle.calls.specs.declared.Refusal.the-variants.{TreeText}
 use Rattle.calls.specs.Tables.{over, padded}
 use Rattle.calls.specs.Book.{emptied}
 use Rattle.calls.specs.NodeTable.{table-of, Holds, tree-in}
-use Rattle.calls.specs.Refusals.{Reply, reply, reported, first-refusal, short}
+use Rattle.calls.specs.Refusals.{Reply, reply, reported, short}
 use Rattle.calls.specs.Calls.{Ring, ring, Filled, filled-as, filled, of-tree, table-checks, open-refusal, write-refusal, write-call, ReadCall, unread, read, read-outcome}
 use Rattle.calls.specs.Demands.{LentTree}
 use Rattle.calls.proofs.NodeTables.{tree-in-holds, table-length, over-holds}

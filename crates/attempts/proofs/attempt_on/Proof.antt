@@ -4,7 +4,7 @@ use denote.Ref.{now}
 use Rattle.orders.specs.Join.{join}
 use Rattle.marks.specs.Marks.{marked}
 use Rattle.calls.specs.Refusals.{first-refusal, list-checks}
-use Rattle.book.specs.Lists.{verdict}
+use Rattle.book.specs.Lists.{refusal-in}
 use Rattle.update.specs.Update.{Answers}
 use Rattle.update.proofs.Updates.{published-within}
 use Rattle.attempts.proofs.Laws.{list-refused, full-refused, none-joined, one-joined}
@@ -24,13 +24,13 @@ enum-known-refusal : tie.Need-enum-known-refusal
 enum-known-refusal c = search needs
 
 returns : tie.Need-returns
-returns c = λ t e. list-refused t (c .before .before .before .before .before .before .before .args .n) (c .before .before .before .before .before .before .before .args .count) (now (c .before .before .before .before .before .before .before .args .list)) (c .before .refusal .given .0 .0) (sym (c .before .before .before .check-list .ensures) ∙ ap verdict (c .before .refusal .given .1))
+returns c = λ t e. list-refused t (c .before .before .before .before .before .before .before .args .n) (c .before .before .before .before .before .before .before .args .count) (now (c .before .before .before .before .before .before .before .args .list)) (c .before .refusal .given .0 .0) (sym (c .before .before .before .check-list .ensures) ∙ ap refusal-in (c .before .refusal .given .1))
 
 enum-told : tie.Need-enum-told
 enum-told c = search needs
 
 fine : (c : tie.After-enum-told) → first-refusal (list-checks (c .before .before .before .before .before .before .args .n) (now (c .before .before .before .before .before .before .args .list))) ≡ none
-fine c = sym (c .before .before .check-list .ensures) ∙ ap verdict (c .enum-told .given .1)
+fine c = sym (c .before .before .check-list .ensures) ∙ ap refusal-in (c .enum-told .given .1)
 
 returns-2 : tie.Need-returns-2
 returns-2 c = λ t e. full-refused t (c .before .before .before .before .before .before .before .args .n) (c .before .before .before .before .before .before .before .args .count) (now (c .before .before .before .before .before .before .before .args .list)) (fine (c .before)) (c .if1 .taken)

@@ -3,7 +3,7 @@ use mathlib.Core.Option.{none}
 use denote.Ref.{now}
 use Rattle.calls.specs.Refusals.{first-refusal}
 use Rattle.calls.specs.Calls.{table-checks}
-use Rattle.book.specs.Lists.{verdict}
+use Rattle.book.specs.Lists.{refusal-in}
 use Rattle.walks.specs.Walks.{Loads}
 use Rattle.checks.proofs.Laws.{tables-lent, tables-refused, no-tree, tree-lent}
 use borrow.Author.Needs.{needs}
@@ -21,13 +21,13 @@ enum-known-refusal : tie.Need-enum-known-refusal
 enum-known-refusal c = search needs
 
 returns : tie.Need-returns
-returns c = tables-refused (c .before .before .before .before .before .before .args .n) (c .before .before .before .before .before .before .args .have) (now (c .before .before .before .before .before .before .args .nodes)) (c .before .before .before .before .before .before .args .other) (c .before .refusal .given .0 .0) (sym (c .before .before .before .check-tables .ensures) ∙ ap verdict (c .before .refusal .given .1))
+returns c = tables-refused (c .before .before .before .before .before .before .args .n) (c .before .before .before .before .before .before .args .have) (now (c .before .before .before .before .before .before .args .nodes)) (c .before .before .before .before .before .before .args .other) (c .before .refusal .given .0 .0) (sym (c .before .before .before .check-tables .ensures) ∙ ap refusal-in (c .before .refusal .given .1))
 
 enum-told : tie.Need-enum-told
 enum-told c = search needs
 
 pass : (c : tie.After-enum-told) → first-refusal (table-checks (c .before .before .before .before .before .args .n) (c .before .before .before .before .before .args .have) (now (c .before .before .before .before .before .args .nodes)) (c .before .before .before .before .before .args .other)) ≡ none
-pass c = sym (c .before .before .check-tables .ensures) ∙ ap verdict (c .enum-told .given .1)
+pass c = sym (c .before .before .check-tables .ensures) ∙ ap refusal-in (c .enum-told .given .1)
 
 load-requires : tie.Need-load-requires
 load-requires c κs = let l = tables-lent (c .before .before .before .before .before .before .args .n) (c .before .before .before .before .before .before .args .have) (now (c .before .before .before .before .before .before .args .nodes)) (c .before .before .before .before .before .before .args .other) (pass (c .before)) in (l .few-leaves, l .all-rows, c .before .before .before .before .before .before .pre)

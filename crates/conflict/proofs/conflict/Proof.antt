@@ -3,7 +3,7 @@ use mathlib.Core.Option.{none}
 use native.Mathlib.Omega.{arith}
 use denote.Ref.{now}
 use Rattle.calls.specs.Calls.{conflict-refusal}
-use Rattle.book.specs.Lists.{verdict}
+use Rattle.book.specs.Lists.{refusal-in}
 use Rattle.book.proofs.Laws.{few-groups}
 use Rattle.calls.specs.Demands.{LentBook}
 use Rattle.conflict.proofs.Call.{passes-lent, call-refused, call-found, call-meets}
@@ -35,7 +35,7 @@ slice-aggregate-find c = search needs
 
 -- The checks found nothing.
 passed : (c : tie.After-enum-told) → conflict-refusal (c .before .before .before .before .before .before .args .n) (now (c .before .before .before .before .before .before .args .book)) (c .before .before .before .before .before .before .args .count) (now (c .before .before .before .before .before .before .args .list)) (now (c .before .before .before .before .before .before .args .conflicts)) ≡ none
-passed c = sym (c .before .before .check .ensures (now (c .before .before .before .before .before .before .args .conflicts)) refl) ∙ ap verdict (c .enum-told .given .1)
+passed c = sym (c .before .before .check .ensures (now (c .before .before .before .before .before .before .args .conflicts)) refl) ∙ ap refusal-in (c .enum-told .given .1)
 
 lent : (c : tie.After-enum-told) → LentBook (c .before .before .before .before .before .before .args .n) (now (c .before .before .before .before .before .before .args .book)) (c .before .before .before .before .before .before .args .count) (now (c .before .before .before .before .before .before .args .list)) (now (c .before .before .before .before .before .before .args .conflicts))
 lent c = passes-lent (c .before .before .before .before .before .before .args .n) (now (c .before .before .before .before .before .before .args .book)) (c .before .before .before .before .before .before .args .count) (now (c .before .before .before .before .before .before .args .list)) (now (c .before .before .before .before .before .before .args .conflicts)) (passed c)

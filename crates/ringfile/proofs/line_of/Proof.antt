@@ -2,7 +2,7 @@ use mathlib.Core.Path.{sym, _∙_}
 use Prim.Native.Nat.{_+_, _*_}
 use native.Mathlib.Omega.{arith}
 use Rattle.orders.proofs.ListLaws.{part-is}
-use Rattle.ringfile.proofs.Values.{Inside, line-is, line-none, line-zero, line-past, line-there}
+use Rattle.ringfile.proofs.Values.{WholeLine, line-is, line-none, line-zero, line-past, line-there}
 use borrow.Author.Needs.{needs}
 use Rattle.ringfile.proofs.line_of.Statement.{statement}
 use Rattle.ringfile.proofs.line_of.Tie as tie
@@ -20,7 +20,7 @@ returns-4 : tie.Need-returns-4
 returns-4 c = sym (line-none (c .before .before .before .before .before .args .file .now) (c .before .before .before .before .before .args .names) (c .before .before .before .before .before .args .head) (c .before .before .before .before .before .args .l) (line-past (c .before .before .before .before .before .args .file .now) (c .before .before .before .before .before .args .names) (c .before .before .before .before .before .args .head) (c .before .before .before .before .before .args .l) (omega (arith, c .before .before .before .before .if1 .left)) (omega (arith, c .before .before .if3 .left)) (c .before .if4 .taken)))
 
 -- The whole line stands in the file.
-inside : (c : tie.Else4) → Inside (c .before .before .before .before .args .file .now) (c .before .before .before .before .args .names) (c .before .before .before .before .args .head) (c .before .before .before .before .args .l)
+inside : (c : tie.Else4) → WholeLine (c .before .before .before .before .args .file .now) (c .before .before .before .before .args .names) (c .before .before .before .before .args .head) (c .before .before .before .before .args .l)
 inside c = line-there (c .before .before .before .before .args .file .now) (c .before .before .before .before .args .names) (c .before .before .before .before .args .head) (c .before .before .before .before .args .l) (omega (arith, c .before .before .before .if1 .left)) (omega (arith, c .before .before .if2 .left)) (omega (arith, c .before .if3 .left)) (omega (arith, c .if4 .left))
 
 mul-start : tie.Need-mul-start
