@@ -263,17 +263,17 @@ fn longest_conflict(n: usize) -> Row {
     ("conflict, longest list", times)
 }
 
-/// The text of n leaves with one node in another, n - 2 deep: P-nodes and C-nodes in turn.
+/// The text of n leaves with one C-node in another, n - 2 deep, each before its leaf.
 fn deepest(n: usize) -> Vec<u8> {
-    let opened: String = (2..n).map(|leaf| format!("{}({leaf} ", ["P", "C"][leaf % 2])).collect();
-    format!("1 {opened}{n}{}", ")".repeat(n - 2)).into_bytes()
+    let closed: String = (3..=n).map(|leaf| format!(" {leaf})")).collect();
+    format!("1 {}2{closed}", "C(".repeat(n - 2)).into_bytes()
 }
 
 /// The calls on the deepest tree of n leaves: a trial of the innermost pair, and one of the pair with all nodes between.
 fn deep_rows(n: usize) -> Vec<Row> {
     let text = deepest(n);
     let deep = || changed(n, |ring| ring.read(&text));
-    let (inner, ends) = ([n as u16 - 1, n as u16], [2, n as u16]);
+    let (inner, ends) = ([2, 3], [2, n as u16]);
     vec![
         ("trial, deepest tree, inner pair", short(deep(), |ring| ring.trial(black_box(&inner)))),
         ("trial, deepest tree, outer pair", short(deep(), |ring| ring.trial(black_box(&ends)))),
