@@ -145,20 +145,28 @@ fn runs(n: usize) -> Vec<Vec<u16>> {
     groups
 }
 
-/// A book of 96 groups and a group that cannot join it: pairs {1, 2}, {2, 3}, .. of which each is needed, as many as there can be, after whole
-/// rings; and the pair of the chain's ends.
-fn chain(n: usize) -> (Vec<Vec<u16>>, Vec<u16>) {
-    let pairs = (n - 2).min(GROUPS) as u16;
+/// A book of 96 groups and a group that cannot join it. The leaves from 1 on, one left over, stand in blocks of these sizes in turn, 97 blocks at
+/// the most. The book has whole rings, and then every two neighbouring blocks, of which each is needed; the new group is the first block and the last.
+fn chain(n: usize, sizes: &[usize]) -> (Vec<Vec<u16>>, Vec<u16>) {
+    let mut blocks: Vec<Vec<u16>> = Vec::new();
+    let mut next = 1;
+    for &size in sizes.iter().cycle().take(GROUPS + 1) {
+        if next + size > n {
+            break;
+        }
+        blocks.push((next..next + size).map(|leaf| leaf as u16).collect());
+        next += size;
+    }
     let whole: Vec<u16> = (1..=n as u16).collect();
-    let mut book = vec![whole; GROUPS - pairs as usize];
-    book.extend((1..=pairs).map(|leaf| vec![leaf, leaf + 1]));
-    (book, vec![1, pairs + 1])
+    let mut book = vec![whole; GROUPS + 1 - blocks.len()];
+    book.extend(blocks.windows(2).map(|pair| pair.concat()));
+    (book, [blocks[0].as_slice(), &blocks[blocks.len() - 1]].concat())
 }
 
-/// A ring file with the names B1, B2, .. and these groups.
-fn ring_file(n: usize, groups: &[Vec<u16>]) -> Vec<u8> {
-    let line = |values: Vec<String>| values.join(" ") + "\n";
-    let mut file = line((1..=n).map(|leaf| format!("B{leaf}")).collect());
+/// A ring file with these names and groups.
+fn ring_file(names: &[String], groups: &[Vec<u16>]) -> Vec<u8> {
+    let (n, line) = (names.len(), |values: Vec<String>| values.join(" ") + "\n");
+    let mut file = line(names.to_vec());
     for group in groups {
         let marks = marks(group);
         file += &line((0..n).map(|mark| (marks[mark / 64] >> (mark % 64) & 1).to_string()).collect());
@@ -255,12 +263,17 @@ fn ring_rows(n: usize) -> Vec<Row> {
     ]
 }
 
-/// The conflict call that names the most groups.
-fn longest_conflict(n: usize) -> Row {
-    let (pairs, ends) = chain(n);
-    let booked = changed(n, |ring| pairs.iter().for_each(|group| ring.book(group)));
-    let times = repeated(LONGEST, 1, booked, |ring| assert_eq!(ring.conflict(black_box(&ends)), GROUPS.min(n - 2)));
-    ("conflict, longest list", times)
+/// A conflict call that names every group of a chain of blocks.
+fn chain_conflict(n: usize, sizes: &[usize]) -> [f64; 2] {
+    let (book, ends) = chain(n, sizes);
+    let named = book.iter().filter(|group| group.len() < n).count();
+    let booked = changed(n, |ring| book.iter().for_each(|group| ring.book(group)));
+    repeated(LONGEST, 1, booked, |ring| assert_eq!(ring.conflict(black_box(&ends)), named))
+}
+
+/// The conflict calls that name the most groups.
+fn conflict_rows(n: usize) -> Vec<Row> {
+    vec![("conflict, longest list", chain_conflict(n, &[1])), ("conflict, list of blocks", chain_conflict(n, &[2, 3]))]
 }
 
 /// The text of n leaves with one C-node in another, n - 2 deep, each before its leaf.
@@ -285,9 +298,12 @@ fn deep_rows(n: usize) -> Vec<Row> {
 
 /// The calls on a ring file with n names.
 fn file_rows(n: usize) -> Vec<Row> {
-    let file = ring_file(n, &runs(n)[..GROUPS]);
+    let groups = &runs(n)[..GROUPS];
+    let file = ring_file(&(1..=n).map(|leaf| format!("B{leaf}")).collect::<Vec<_>>(), groups);
+    let long = ring_file(&(1..=n).map(|leaf| format!("{leaf:08}")).collect::<Vec<_>>(), groups);
     let head = opened(n)[0].scan(&file);
     vec![
+        ("scan, names of 8 bytes", short(opened(n), |ring| assert_eq!(ring.scan(black_box(&long)), 9 * n))),
         ("scan", short(opened(n), |ring| assert_eq!(ring.scan(black_box(&file)), head))),
         ("name", short(opened(n), |ring| ring.name(black_box(&file)))),
         ("group", short(opened(n), |ring| ring.group(black_box(&file), head))),
@@ -295,7 +311,7 @@ fn file_rows(n: usize) -> Vec<Row> {
 }
 
 fn main() {
-    let tables = SIZES.map(|n| [ring_rows(n), vec![longest_conflict(n)], deep_rows(n), file_rows(n)].concat());
+    let tables = SIZES.map(|n| [ring_rows(n), conflict_rows(n), deep_rows(n), file_rows(n)].concat());
     println!("| call | n | proved, ns | plain, ns | ratio |\n|---|---|---|---|---|");
     for call in 0..tables[0].len() {
         for (n, table) in SIZES.iter().zip(&tables) {
