@@ -7,7 +7,7 @@ use Prim.Native.Nat.{ℕ, zero, suc, _+_, _-_, _≤_, _<_}
 use native.Mathlib.Omega.{arith}
 use borrow.Author.Tests.{ne-eqb, le-ltb, eqb-false, ltb-false}
 use lib.Dec.{eqb, ltb}
-use lib.ListN.{length, take, drop, replicate, length-append, length-replicate}
+use lib.ListN.{length, take, drop, replicate}
 use lib.Seq.{take-append-seam}
 use Rattle.orders.specs.Lists.{elem, numbers-from}
 use Rattle.orders.specs.CircularOrder.{Restriction, WellFormed}
@@ -19,6 +19,7 @@ use Rattle.calls.specs.Tables.{over, padded}
 use Rattle.calls.specs.Book.{groups, book-in-form?}
 use Rattle.calls.specs.Refusals.{Reply, reply, reported, refuse, first-refusal, bad-size, list-checks}
 use Rattle.calls.specs.Calls.{Filled, filled-as, conflict-refusal, conflicts-of, conflict-call}
+use Rattle.calls.proofs.NodeTables.{padded-length}
 use Rattle.calls.proofs.Demands.{passes-iff}
 use Rattle.book.specs.declared.Checked.{Checked}
 use Rattle.book.specs.declared.Checked.the-variants.{Bad}
@@ -85,9 +86,6 @@ list-few n book count list =
     let d = conflict-demand-3 n (groups book count) (elem list) in
     omega (arith, numbers-few 1 (suc (length (groups book count))) (conflict-list n (groups book count) (elem list)) (d .numbers) (omega arith), groups-length book count)
 
-padded-length : (xs : List ℕ) → length xs ≤ 96 → length (padded 96 xs) ≡ 96
-padded-length xs h = omega (arith, length-append xs (replicate (96 - length xs) 0), length-replicate {A = ℕ} (96 - length xs) 0)
-
 pub conflict-meets : (n : ℕ) (book : List ℕ) (count : ℕ) (list table : List ℕ) → LentBook n book count list table
     → Named n book count list (conflict-call n book count list table .answer) (conflict-call n book count list table .table)
 unfolding conflict-call conflicts-of
@@ -98,7 +96,7 @@ conflict-meets n book count list table h =
     (record {
       numbers = xs;
       answered = refl;
-      places = subst (λ k. take k (padded 96 xs ++ drop (length (padded 96 xs)) table) ≡ padded 96 xs) (padded-length xs few)
+      places = subst (λ k. take k (padded 96 xs ++ drop (length (padded 96 xs)) table) ≡ padded 96 xs) (padded-length 96 xs few)
           (take-append-seam (padded 96 xs) (drop (length (padded 96 xs)) table));
       demand = conflict-demand-3 n (groups book count) (elem list);
     })

@@ -9,30 +9,29 @@ use lib.Dec.{eqb}
 use lib.Bits.{bitOr}
 use lib.ListN.{length, take, drop, getD, replicate, length-replicate, length-drop, drop-of-length-le}
 use lib.Seq.{drop-cons, drop-length, length-take-le}
-use Rattle.orders.specs.Lists.{same}
+use Rattle.orders.specs.Lists.{same, begins-with}
 use Rattle.calls.specs.Tables.{padded}
 use Rattle.calls.proofs.NodeTables.{padded-length}
 use Rattle.tokens.specs.Tokens.{Wrote}
 use Rattle.tokens.proofs.Bits.{or-none}
-use Rattle.rows.specs.Rows.{begins-with}
 
 -- A list begins with xs and then ys.
-pub starts-append : (xs ys l : List ℕ) → begins-with (xs ++ ys) l ≡ (begins-with xs l && begins-with ys (drop (length xs) l))
-starts-append [] ys l = refl
-starts-append (x ∷ xs) ys [] = refl
-starts-append (x ∷ xs) ys (y ∷ l) = rw (starts-append xs ys l) (sym (and-assoc (eqb y x) (begins-with xs l) (begins-with ys (drop (length xs) l))))
+pub begins-with-append : (xs ys l : List ℕ) → begins-with (xs ++ ys) l ≡ (begins-with xs l && begins-with ys (drop (length xs) l))
+begins-with-append [] ys l = refl
+begins-with-append (x ∷ xs) ys [] = refl
+begins-with-append (x ∷ xs) ys (y ∷ l) = rw (begins-with-append xs ys l) (sym (and-assoc (eqb y x) (begins-with xs l) (begins-with ys (drop (length xs) l))))
 
-pub starts-not : (xs ys l : List ℕ) → begins-with xs l ≡ false → begins-with (xs ++ ys) l ≡ false
-starts-not xs ys l e = starts-append xs ys l ∙ rw e
+pub begins-with-not : (xs ys l : List ℕ) → begins-with xs l ≡ false → begins-with (xs ++ ys) l ≡ false
+begins-with-not xs ys l e = begins-with-append xs ys l ∙ rw e
 
-pub starts-then : (xs ys l : List ℕ) → begins-with xs l ≡ true → begins-with (xs ++ ys) l ≡ begins-with ys (drop (length xs) l)
-starts-then xs ys l e = starts-append xs ys l ∙ rw e
+pub begins-with-then : (xs ys l : List ℕ) → begins-with xs l ≡ true → begins-with (xs ++ ys) l ≡ begins-with ys (drop (length xs) l)
+begins-with-then xs ys l e = begins-with-append xs ys l ∙ rw e
 
 -- A list of m numbers that begins with xs, and is zero after it.
 pub starts-padded : (m : ℕ) (xs l : List ℕ) → length xs ≤ m
     → same (take m l) (padded m xs) ≡ (begins-with xs l && begins-with (replicate (m - length xs) 0) (drop (length xs) l))
 starts-padded m xs l h =
-    ap (λ (k : ℕ). same (take k l) (padded m xs)) (sym (padded-length m xs h)) ∙ starts-append xs (replicate (m - length xs) 0) l
+    ap (λ (k : ℕ). same (take k l) (padded m xs)) (sym (padded-length m xs h)) ∙ begins-with-append xs (replicate (m - length xs) 0) l
 
 pub zero-part : (m a : ℕ) (l : List ℕ) → a ≤ m → m ≤ length l
     → same (take (m - a) (drop a l)) (replicate (length (take (m - a) (drop a l))) 0) ≡ begins-with (replicate (m - a) 0) (drop a l)

@@ -5,7 +5,7 @@ use mathlib.Core.List.{List, _++_}
 use Prim.Native.Nat.{ℕ, _-_, _*_, _≤_}
 use native.Mathlib.Omega.{arith}
 use lib.ListN.{length, take, drop, replicate}
-use Rattle.orders.specs.Lists.{same}
+use Rattle.orders.specs.Lists.{same, begins-with}
 use Rattle.orders.specs.Tree.{Forest}
 use Rattle.orders.specs.Form.{nodes, InForm}
 use Rattle.calls.specs.Tables.{over}
@@ -13,7 +13,7 @@ use Rattle.calls.specs.NodeTable.{rows, table-of}
 use Rattle.calls.proofs.NodeTables.{Narrow, form-narrow, form-few, rows-length}
 use Rattle.tokens.specs.Tokens.{tree, plain, encode, Wrote}
 use Rattle.tokens.proofs.Sequences.{tree-plain, encode-injective}
-use Rattle.rows.specs.Rows.{begins-with, Rowed, Formed}
+use Rattle.rows.specs.Rows.{Rowed, Formed}
 use Rattle.records.proofs.Comparing.{starts-padded, zero-part}
 
 plain-injective : (t u : Forest) → encode (plain t) ≡ encode (plain u) → t ≡ u

@@ -6,15 +6,14 @@ use Prim.Native.Nat.{ℕ, _+_, _-_, _*_, _≤_, _<_}
 use native.Mathlib.Omega.{arith}
 use lib.ListN.{length, take, drop}
 use lib.Seq.{drop-drop}
-use Rattle.orders.specs.Lists.{same}
+use Rattle.orders.specs.Lists.{same, begins-with}
 use Rattle.calls.specs.NodeTable.{rows}
 use Rattle.calls.proofs.NodeTables.{Narrow}
 use Rattle.tokens.specs.Tokens.{Judged, tree, encode}
 use Rattle.tokens.specs.Views.{shape-of}
 use Rattle.tokens.proofs.Steps.{opened}
-use Rattle.rows.specs.Rows.{begins-with}
 use Rattle.rows.proofs.Rows.{rows-leaf, Onward, onward-start, onward-leaf, onward-node, here-row, here-long, rows-first}
-use Rattle.records.proofs.Comparing.{starts-not, starts-then}
+use Rattle.records.proofs.Comparing.{begins-with-not, begins-with-then}
 
 -- The table begins with the rows of j just when, after those of the records before next, it goes on with those of h.
 pub record Matching (r : ℕ) (table : List ℕ) (next : ℕ) (j h : Judged) : Type 0 where
@@ -46,7 +45,7 @@ matching-node {r} {next} {table} {j} {h} s {b} l ne e k c y g = record {
       let d : 257 * (next - r) + length (here-row s next h) ≡ 257 * (next + 1 - r) = omega (arith, here-long s next h (g .onward .narrow n)) in
       g .answer n
       ∙ ap (λ (x : List ℕ). begins-with x (drop (257 * (next - r)) table)) (rows-first next s h ne e k)
-      ∙ starts-then (here-row s next h) (rows (next + 1) (tree (opened h))) (drop (257 * (next - r)) table) (sym (compared r table next s h b (g .onward .narrow n) c) ∙ y)
+      ∙ begins-with-then (here-row s next h) (rows (next + 1) (tree (opened h))) (drop (257 * (next - r)) table) (sym (compared r table next s h b (g .onward .narrow n) c) ∙ y)
       ∙ ap (begins-with (rows (next + 1) (tree (opened h)))) (drop-drop (length (here-row s next h)) (257 * (next - r)) table ∙ ap (λ (x : ℕ). drop x table) d);
 }
 
@@ -55,4 +54,4 @@ pub matching-not : {r next : ℕ} {table : List ℕ} {j h : Judged} (s : ℕ) {b
 matching-not {r} {next} {table} {j} {h} s {b} ne e k c y g n =
     g .answer n
     ∙ ap (λ (x : List ℕ). begins-with x (drop (257 * (next - r)) table)) (rows-first next s h ne e k)
-    ∙ starts-not (here-row s next h) (rows (next + 1) (tree (opened h))) (drop (257 * (next - r)) table) (sym (compared r table next s h b (g .onward .narrow n) c) ∙ y)
+    ∙ begins-with-not (here-row s next h) (rows (next + 1) (tree (opened h))) (drop (257 * (next - r)) table) (sym (compared r table next s h b (g .onward .narrow n) c) ∙ y)

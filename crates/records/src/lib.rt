@@ -3,12 +3,12 @@
 ghost use mathlib.Core.Path.{_≡_};
 ghost use Prim.Native.Nat.{_<_, _≤_};
 ghost use lib.ListN.{length, take, replicate};
-ghost use Rattle.orders.specs.Lists.{same};
+ghost use Rattle.orders.specs.Lists.{same, begins-with};
 ghost use Rattle.orders.specs.Tree.{Forest};
 ghost use Rattle.calls.specs.Tables.{over};
 ghost use Rattle.calls.specs.NodeTable.{entries, rows, table-of};
 ghost use Rattle.tokens.specs.Tokens.{Judged, tree, plain, encode, Wrote};
-ghost use Rattle.rows.specs.Rows.{row, begins-with, Placed, Rowed, Formed};
+ghost use Rattle.rows.specs.Rows.{row, Placed, Rowed, Formed};
 ghost use Rattle.walks.specs.Walks.{Loads};
 use walks::Walked;
 

@@ -1,10 +1,8 @@
 -- Tokens and the rows of the node table, side by side.
 use mathlib.Core.Path.{_≡_}
-use mathlib.Core.Bool.{Bool}
 use mathlib.Core.List.{List, _∷_}
 use Prim.Native.Nat.{ℕ, _+_, _*_, _≤_}
-use lib.ListN.{length, take}
-use Rattle.orders.specs.Lists.{same}
+use lib.ListN.{length}
 use Rattle.orders.specs.Tree.{Forest, items}
 use Rattle.orders.specs.Form.{Every, nodes, InForm}
 use Rattle.calls.specs.Tables.{padded}
@@ -13,10 +11,6 @@ use Rattle.tokens.specs.Tokens.{Judged, tree, plain, encode}
 -- The row of a node: the number of its kind, how many items it has, their places, and zeros.
 abbrev pub row : ℕ → List ℕ → List ℕ
 row k es = k ∷ length es ∷ padded 255 es
-
--- The list begins with xs.
-abbrev pub begins-with : List ℕ → List ℕ → Bool
-begins-with xs l = same (take (length xs) l) xs
 
 -- Items whose places go into `room` numbers, their nodes in the records from r on.
 pub record Placed (toks : List ℕ) (r room : ℕ) : Type 0 where

@@ -4,7 +4,7 @@ use mathlib.Core.Bool.{Bool, cond}
 use mathlib.Core.List.{List, [], _∷_, _++_}
 use Prim.Native.Nat.{ℕ, _+_}
 use lib.Dec.{eqb, ltb}
-use lib.ListN.{length, take}
+use lib.ListN.{length}
 use Rattle.orders.specs.Lists.{All, some-of, same}
 use Rattle.syntax.specs.RingFile.{place-of, words-in}
 
@@ -22,12 +22,9 @@ abbrev pub spaced : List (List ℕ) → List ℕ
 spaced [] = []
 spaced (w ∷ ws) = w ++ (32 ∷ spaced ws)
 
--- The tests whether w is one of the words, and whether v begins with t.
+-- The test whether w is one of the words.
 abbrev pub is-among : List (List ℕ) → List ℕ → Bool
 is-among ns w = some-of (same w) ns
-
-abbrev pub begins : List ℕ → List ℕ → Bool
-begins t v = same (take (length t) v) t
 
 -- Where word number k, from 0, of the first line starts; past the last byte where there is no such word.
 unfoldable pub place-in : List ℕ → ℕ → ℕ

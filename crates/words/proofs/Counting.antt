@@ -9,12 +9,11 @@ use lib.Dec.{eqb, ltb}
 use lib.ListN.{length, length-append, length-map, take, drop, take-append-drop}
 use lib.Seq.{take-append-seam, take-all}
 use borrow.Author.Tests.{eqb-true, eqb-false, lt-ltb, le-ltb}
-use Rattle.orders.specs.Lists.{All, Distinct, In, same, those-of}
+use Rattle.orders.specs.Lists.{All, Distinct, In, same, those-of, begins-with}
 use Rattle.orders.proofs.ListLaws.{all-right}
 use Rattle.orders.proofs.Members.{all-in, in-all}
 use Rattle.orders.proofs.Numbers.{in-those, those-in, those-distinct}
 use Rattle.syntax.specs.RingFile.{alphabet, NameByte, Name}
-use Rattle.syntax.specs.Words.{begins}
 use Rattle.syntax.specs.Scanner.{spare, longer}
 use Rattle.syntax.proofs.Lists.{in-map, map-in, distinct-map, pigeonhole}
 use Rattle.syntax.proofs.Words.{spare-true, no-spare, same-true, same-self, distinct-alphabet, length-alphabet}
@@ -77,20 +76,20 @@ module _ (t : List ℕ) where
       go false false = refl
 
 pub spare-count : (ns : List (List ℕ)) (t : List ℕ) → All Name ns → Distinct ns → 7 ≤ length t
-    → spare ns (longer t) ≡ ltb (length (those-of (begins t) ns)) (cond (eqb (length t) 7) 63 (cond (eqb (length t) 8) 1 0))
-spare-count ns t k d h = go (spare ns (longer t)) refl ∙ ap (λ m. ltb (length (those-of (begins t) ns)) m) (size-longer t)
+    → spare ns (longer t) ≡ ltb (length (those-of (begins-with t) ns)) (cond (eqb (length t) 7) 63 (cond (eqb (length t) 8) 1 0))
+spare-count ns t k d h = go (spare ns (longer t)) refl ∙ ap (λ m. ltb (length (those-of (begins-with t) ns)) m) (size-longer t)
   where
-    go : (c : Bool) → spare ns (longer t) ≡ c → c ≡ ltb (length (those-of (begins t) ns)) (length (longer t))
+    go : (c : Bool) → spare ns (longer t) ≡ c → c ≡ ltb (length (those-of (begins-with t) ns)) (length (longer t))
     go true e =
         let s = spare-true ns (longer t) e in
-        let p = pigeonhole (s .one ∷ those-of (begins t) ns) (longer t)
-        (in-all (λ y. s .one ≢ y) (those-of (begins t) ns) (λ y i q. s .new (subst (λ z. In z ns) (sym q) (in-those (begins t) ns y i .1))), those-distinct (begins t) ns d)
+        let p = pigeonhole (s .one ∷ those-of (begins-with t) ns) (longer t)
+        (in-all (λ y. s .one ≢ y) (those-of (begins-with t) ns) (λ y i q. s .new (subst (λ z. In z ns) (sym q) (in-those (begins-with t) ns y i .1))), those-distinct (begins-with t) ns d)
         (sub (s .one) (s .candidate)) in
-        sym (lt-ltb (length (those-of (begins t) ns)) (length (longer t)) (omega (arith, p)))
+        sym (lt-ltb (length (those-of (begins-with t) ns)) (length (longer t)) (omega (arith, p)))
       where
-        sub : (o : List ℕ) → In o (longer t) → (x : List ℕ) → In x (o ∷ those-of (begins t) ns) → In x (longer t)
+        sub : (o : List ℕ) → In o (longer t) → (x : List ℕ) → In x (o ∷ those-of (begins-with t) ns) → In x (longer t)
         sub o j x (inl q) = subst (λ z. In z (longer t)) (sym q) j
-        sub o j x (inr i) = let r = in-those (begins t) ns x i in in-longer t x h (all-in Name x ns k (r .1)) (same-true (take (length t) x) t (r .0))
+        sub o j x (inr i) = let r = in-those (begins-with t) ns x i in in-longer t x h (all-in Name x ns k (r .1)) (same-true (take (length t) x) t (r .0))
     go false e =
-        let p = pigeonhole (longer t) (those-of (begins t) ns) (differ-longer t) (λ x i. those-in (begins t) ns x (ap (λ z. same z t) (begin-so t x i) ∙ same-self t) (no-spare ns (longer t) e x i)) in
-        sym (le-ltb (length (those-of (begins t) ns)) (length (longer t)) (omega (arith, p)))
+        let p = pigeonhole (longer t) (those-of (begins-with t) ns) (differ-longer t) (λ x i. those-in (begins-with t) ns x (ap (λ z. same z t) (begin-so t x i) ∙ same-self t) (no-spare ns (longer t) e x i)) in
+        sym (le-ltb (length (those-of (begins-with t) ns)) (length (longer t)) (omega (arith, p)))

@@ -10,8 +10,8 @@ use lib.Dec.{eqb, ltb}
 use lib.ListN.{length, take, drop, getD, drop-of-length-le}
 use lib.Seq.{drop-cons, drop-length}
 use borrow.Author.Tests.{eq-eqb, ne-eqb, lt-ltb, le-ltb}
-use Rattle.orders.specs.Lists.{All, same, those-of}
-use Rattle.syntax.specs.Words.{Word, spaced, is-among, begins}
+use Rattle.orders.specs.Lists.{All, same, those-of, begins-with}
+use Rattle.syntax.specs.Words.{Word, spaced, is-among}
 
 module _ (past : ℕ → ℕ) (w : List ℕ) where
   -- How many bytes of a word are those of w, after the byte b: one more than w has where it differs. past: what follows where w is at its end.
@@ -134,13 +134,13 @@ one-more c r = cond c (1 + r) r
 abbrev pub tally : List ℕ → ℕ → List ℕ → ℕ
 tally t j x = over at-least t one-more 0 j x
 
-pub tally-words : (t : List ℕ) (x : List ℕ) (ns : List (List ℕ)) → All Word ns → x ≡ spaced ns → tally t 0 x ≡ length (those-of (begins t) ns)
-tally-words t x ns h e = ap (λ l. tally t 0 l) e ∙ over-words at-least t one-more 0 (begins t) (λ v. is-begun t v 0 (length t) (omega arith)) ns h ∙ go ns
+pub tally-words : (t : List ℕ) (x : List ℕ) (ns : List (List ℕ)) → All Word ns → x ≡ spaced ns → tally t 0 x ≡ length (those-of (begins-with t) ns)
+tally-words t x ns h e = ap (λ l. tally t 0 l) e ∙ over-words at-least t one-more 0 (begins-with t) (λ v. is-begun t v 0 (length t) (omega arith)) ns h ∙ go ns
   where
     more : (c : Bool) (v : List ℕ) (ms : List (List ℕ)) → cond c (1 + length ms) (length ms) ≡ length (cond c (v ∷ ms) ms)
     more true v ms = omega arith
     more false v ms = refl
 
-    go : (ms : List (List ℕ)) → told at-least t one-more 0 (begins t) ms ≡ length (those-of (begins t) ms)
+    go : (ms : List (List ℕ)) → told at-least t one-more 0 (begins-with t) ms ≡ length (those-of (begins-with t) ms)
     go [] = refl
-    go (v ∷ ms) = rw (go ms) (more (begins t v) v (those-of (begins t) ms))
+    go (v ∷ ms) = rw (go ms) (more (begins-with t v) v (those-of (begins-with t) ms))

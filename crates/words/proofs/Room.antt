@@ -7,10 +7,10 @@ use native.Mathlib.Omega.{arith}
 use lib.Dec.{eqb, ltb}
 use lib.ListN.{length}
 use borrow.Author.Tests.{eq-eqb, ne-eqb, lt-ltb, le-ltb}
-use Rattle.orders.specs.Lists.{All, Distinct, those-of}
+use Rattle.orders.specs.Lists.{All, Distinct, those-of, begins-with}
 use Rattle.orders.proofs.Members.{all-in, in-all}
 use Rattle.syntax.specs.RingFile.{NameByte, Name}
-use Rattle.syntax.specs.Words.{Word, is-among, begins}
+use Rattle.syntax.specs.Words.{Word, is-among}
 use Rattle.syntax.specs.Scanner.{is-new, room, spare, longer}
 use Rattle.syntax.proofs.Words.{no-space}
 use Rattle.words.proofs.Counting.{spare-count}
@@ -26,7 +26,7 @@ limit m = cond (eqb m 7) 63 (cond (eqb m 8) 1 0)
 pub room-short : (ns : List (List ℕ)) (t : List ℕ) → length t < 7 → true ≡ room ns t
 room-short ns t h = sym (ap (λ c. cond c true (spare ns (longer t))) (lt-ltb (length t) 7 h))
 
-module _ (ns : List (List ℕ)) (t : List ℕ) (k : All Name ns) (d : Distinct ns) (n : ℕ) (e : n ≡ length (those-of (begins t) ns)) where
+module _ (ns : List (List ℕ)) (t : List ℕ) (k : All Name ns) (d : Distinct ns) (n : ℕ) (e : n ≡ length (those-of (begins-with t) ns)) where
   room-count : 7 ≤ length t → (m : ℕ) → limit (length t) ≡ m → room ns t ≡ ltb n m
   room-count h m q = ap (λ c. cond c true (spare ns (longer t))) (le-ltb (length t) 7 h) ∙ spare-count ns t k d h ∙ ap₂ ltb (sym e) q
 

@@ -3,9 +3,9 @@ ghost use mathlib.Core.Path.{_≡_};
 ghost use mathlib.Core.List.{List};
 ghost use Prim.Native.Nat.{ℕ, _≤_};
 ghost use lib.ListN.{length};
-ghost use Rattle.orders.specs.Lists.{All, Distinct, elem, those-of};
+ghost use Rattle.orders.specs.Lists.{All, Distinct, elem, those-of, begins-with};
 ghost use Rattle.syntax.specs.RingFile.{alphabet, Name};
-ghost use Rattle.syntax.specs.Words.{word-end, Word, spaced, is-among, begins, place-in};
+ghost use Rattle.syntax.specs.Words.{word-end, Word, spaced, is-among, place-in};
 ghost use Rattle.syntax.specs.Scanner.{room, is-new};
 
 // Whether b may stand in a name.
@@ -52,7 +52,7 @@ pub fn is_among(x: &[u8], w: &[u8]) -> bool
 
 // How many of the words of x, a space after each, begin with t. j: as in is_among, but m where more bytes follow t.
 pub fn begin_with(x: &[u8], t: &[u8]) -> usize
-    ensures { λ r. ⌜ ((ns : List (List ℕ)) → All Word ns → now (x .entry) ≡ spaced ns → r ≡ length (those-of (begins (now (t .entry))) ns)) ⌝ }
+    ensures { λ r. ⌜ ((ns : List (List ℕ)) → All Word ns → now (x .entry) ≡ spaced ns → r ≡ length (those-of (begins-with (now (t .entry))) ns)) ⌝ }
     ensures { λ r. ⌜ r ≤ length (now (x .entry)) ⌝ }
 {
     let m = t.len();
