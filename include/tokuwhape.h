@@ -1,4 +1,4 @@
-/* The planner of a bag ring: the calls of the proved archive target/staticlib/libexports.a, which `rt staticlib exports` makes.
+/* The planner of a bag ring: the calls of the proved archive target/staticlib/libc_calls.a, which `rt staticlib c_calls` makes.
  *
  * A ring is its number of bins n, a table of node records, a book of mark words and the count of groups in the book. The caller owns the
  * tables and lends them to each call, each as a pointer and its count of elements; a node table is counted in 16-bit numbers, 257 to a

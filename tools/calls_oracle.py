@@ -1,4 +1,4 @@
-"""The tables of crates/vectors_calls, and its calls on them as the oracle answers them: lines of the script, and what is printed for each."""
+"""The tables of crates/test_calls, and its calls on them as the oracle answers them: lines of the script, and what is printed for each."""
 import collections
 import os
 import sys

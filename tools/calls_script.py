@@ -1,10 +1,10 @@
 #!/usr/bin/env python3
-"""Writes crates/vectors_calls/data/script.txt, a script of calls, and crates/vectors_calls/stdout, what the program must print for it.
+"""Writes crates/test_calls/data/script.txt, a script of calls, and crates/test_calls/stdout, what the program must print for it.
 
     tools/calls_script.py [ORACLE]      ORACLE: the folder of oracle.py (../shared/oracle beside the repository)
 
-Every answer, and what every table holds afterwards, is the oracle's. crates/vector_commands/src/lib.rt and
-crates/vectors_calls/src/main.rt say what a command is.
+Every answer, and what every table holds afterwards, is the oracle's. crates/test_commands/src/lib.rt and
+crates/test_calls/src/main.rt say what a command is.
 """
 import itertools
 import os
@@ -365,7 +365,7 @@ def main():
         part(s)
     for part in (random_damage, other_books, random_rings):
         part(s, r)
-    folder = os.path.join(HERE, "crates", "vectors_calls")
+    folder = os.path.join(HERE, "crates", "test_calls")
     os.makedirs(os.path.join(folder, "data"), exist_ok=True)
     with open(os.path.join(folder, "data", "script.txt"), "w") as f:
         f.write("\n".join(s.lines) + "\n")

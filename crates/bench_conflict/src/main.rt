@@ -1,6 +1,6 @@
 // One conflict call on each of two books of 96 groups for 256 leaves. Prints how many groups are in conflict, and their numbers.
 ghost use Prim.Native.Nat.{_≤_};
-use calls::Answer;
+use spec_calls::Answer;
 
 // Writes the groups {1, 2}, {2, 3}, .. {96, 97} to the book.
 fn chain(book: &mut [u64]) {
@@ -10,7 +10,7 @@ fn chain(book: &mut [u64]) {
     let mut k: usize = 0;
     while k < 96 {
         let pair = [(k + 1) as u16, (k + 2) as u16];
-        book::put(book, k, &pair);
+        table_book::put(book, k, &pair);
         k += 1;
     }
 }
@@ -21,7 +21,7 @@ fn mark_run(words: &mut [u64], start: usize, many: usize)
 {
     let mut i = 0;
     while i < many {
-        marks::set(words, ((start + i) % 256 + 1) as u16);
+        mark_words::set(words, ((start + i) % 256 + 1) as u16);
         i += 1;
     }
 }
@@ -55,7 +55,7 @@ fn print(numbers: &[u16]) {
 
 fn call(book: &[u64], list: &[u16]) {
     let mut conflicts = [0u16; 96];
-    let answer = conflict::conflict(256, book, 96, list, &mut conflicts);
+    let answer = call_conflict::conflict(256, book, 96, list, &mut conflicts);
     let Answer::Done(k) = answer else {
         io::write_all(1, b"refused\n");
         return;
@@ -70,7 +70,7 @@ fn main() {
     let mut book = [0u64; 384];
     chain(&mut book);
     call(&book, &[1, 97]);
-    book::clear(&mut book);
+    table_book::clear(&mut book);
     runs(&mut book);
     call(&book, &[1, 86, 171]);
 }

@@ -2,7 +2,7 @@
 // them can be kept. Prints how many were, and the tokens of the last tree.
 ghost use Prim.Native.Nat.{_≤_, _<_};
 ghost use lib.ListN.{length};
-use update::Updated;
+use tree_update::Updated;
 
 // The next number of a xorshift generator.
 fn next(x: u32) -> u32 {
@@ -84,7 +84,7 @@ fn mark_run(order: &[u16], start: usize, many: usize, words: &mut [u64])
     }
     let mut i = 0;
     while i < many {
-        marks::set(words, at(order, (start + i) % n));
+        mark_words::set(words, at(order, (start + i) % n));
         i += 1;
     }
 }
@@ -94,11 +94,11 @@ fn step(toks: &mut [u16], k: usize, words: &[u64; 4], n: usize) -> usize {
     if k > toks.len() {
         return 0;
     }
-    if !form::is_tree(&toks[0..k], n) {
+    if !tree_form::is_tree(&toks[0..k], n) {
         return 0;
     }
     let mut out = [0u16; 512];
-    let got = update::join(&toks[0..k], words, n, &mut out);
+    let got = tree_update::join(&toks[0..k], words, n, &mut out);
     let Updated::Tokens(m) = got else {
         return 0;
     };
@@ -108,7 +108,7 @@ fn step(toks: &mut [u16], k: usize, words: &[u64; 4], n: usize) -> usize {
     if m > toks.len() {
         return 0;
     }
-    tokens::copy(&out[0..m], toks)
+    tree_tokens::copy(&out[0..m], toks)
 }
 
 // Draws a group, and joins it.
@@ -158,14 +158,14 @@ fn report(n: usize, kept: usize, many: usize) {
 fn large() {
     let mut order = [0u16; 256];
     let mut toks = [0u16; 512];
-    let k = tokens::fresh(256, &mut toks);
+    let k = tree_tokens::fresh(256, &mut toks);
     book(&mut order, 2463534242, 256, &mut toks, k);
 }
 
 fn small() {
     let mut order = [0u16; 64];
     let mut toks = [0u16; 512];
-    let k = tokens::fresh(64, &mut toks);
+    let k = tree_tokens::fresh(64, &mut toks);
     book(&mut order, 2463534242, 64, &mut toks, k);
 }
 

@@ -13,5 +13,5 @@ fn buffer() -> [u8; 65537]
 fn main() {
     let mut bytes = buffer();
     let n = io::read_full(STDIN_FILENO, &mut bytes);
-    printout::print(&bytes[..n]);
+    list_print::print(&bytes[..n]);
 }

@@ -10,11 +10,11 @@ use lib.ListN.{length, getD}
 use lib.Arith.{lt-one}
 use lib.Pow.{shr-lt}
 use lib.Count.{ones, ones-step, ones-ones}
-use Rattle.orders.specs.Lists.{numbers-from}
-use Rattle.marks.specs.Marks.{bit, marked, leaves-of}
-use Rattle.orders.proofs.Numbers.{numbers-append, count, count-cons, count-append}
-use Rattle.marks.proofs.Word.{digit-times, bit-zero, bit-half}
-use Rattle.marks.proofs.Words.{Words, marked-at}
+use Rattle.spec_orders.specs.Lists.{numbers-from}
+use Rattle.mark_words.specs.Marks.{bit, marked, leaves-of}
+use Rattle.spec_orders.proofs.Numbers.{numbers-append, count, count-cons, count-append}
+use Rattle.mark_words.proofs.Word.{digit-times, bit-zero, bit-half}
+use Rattle.mark_words.proofs.Words.{Words, marked-at}
 
 -- The marks of one word, and of all of them.
 count-word : (k w a : ℕ) (p : ℕ → Bool) → w < 2 ^ k → ((j : ℕ) → j < k → p (a + j) ≡ bit w j) → ones w ≡ count p (numbers-from a k)

@@ -12,14 +12,14 @@ use lib.ListN.{length, getD}
 use lib.Pow.{pow-pos, pow-mono, ones-lt}
 use lib.Bits.{bitAnd, bitXor, and-lt, xor-lt}
 use borrow.Author.Tests.{lt-ltb, le-ltb, le-leb, lt-leb}
-use Rattle.orders.specs.Lists.{In, all-of, same}
-use Rattle.marks.specs.Marks.{bit, marked, word-of, leaves-of, outside}
-use Rattle.orders.proofs.Members.{all-passed}
-use Rattle.orders.proofs.Tests.{both, false-if}
-use Rattle.orders.proofs.FormTests.{same-decides}
-use Rattle.marks.proofs.Word.{word-is, word-ext, no-marks, bit-and, bit-xor, bit-ones, bit-past}
-use Rattle.marks.proofs.Words.{Words, marked-at}
-use Rattle.marks.proofs.Leaves.{marked-leaf, by-mark}
+use Rattle.spec_orders.specs.Lists.{In, all-of, same}
+use Rattle.mark_words.specs.Marks.{bit, marked, word-of, leaves-of, outside}
+use Rattle.spec_orders.proofs.Members.{all-passed}
+use Rattle.spec_orders.proofs.Tests.{both, false-if}
+use Rattle.spec_orders.proofs.FormTests.{same-decides}
+use Rattle.mark_words.proofs.Word.{word-is, word-ext, no-marks, bit-and, bit-xor, bit-ones, bit-past}
+use Rattle.mark_words.proofs.Words.{Words, marked-at}
+use Rattle.mark_words.proofs.Leaves.{marked-leaf, by-mark}
 
 -- ---- the leaves from 1 to n
 

@@ -5,8 +5,8 @@ ghost use lib.Count.{ones};
 ghost use lib.Dec.{leb};
 ghost use lib.ListN.{length};
 ghost use mathlib.Core.List.{[], _∷_};
-ghost use Rattle.orders.specs.Lists.{same, all-of};
-ghost use Rattle.marks.specs.Marks.{marked, words-of, leaves-of, outside};
+ghost use Rattle.spec_orders.specs.Lists.{same, all-of};
+ghost use Rattle.mark_words.specs.Marks.{marked, words-of, leaves-of, outside};
 
 // The word whose k lowest marks are set: all 64 where k is more.
 fn low_marks(k: usize) -> u64

@@ -7,7 +7,7 @@ use Rattle.bench_conflict.proofs.chain.Statement.{statement}
 use Rattle.bench_conflict.proofs.chain.Tie as tie
 use Rattle.bench_conflict.proofs.chain.Reads as reads
 use Rattle.bench_conflict.proofs.chain.Lts as lts
-use Rattle.book.proofs.put.Reads as put-reads
+use Rattle.table_book.proofs.put.Reads as put-reads
 
 abbrev Inv-loop : tie.InvT-loop
 Inv-loop book₀ k₀ book k = (k ≤ 96) × (length book ≡ length book₀) × (384 ≤ length book₀)

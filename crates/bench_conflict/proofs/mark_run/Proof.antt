@@ -7,7 +7,7 @@ use Rattle.bench_conflict.proofs.mark_run.Statement.{statement}
 use Rattle.bench_conflict.proofs.mark_run.Tie as tie
 use Rattle.bench_conflict.proofs.mark_run.Reads as reads
 use Rattle.bench_conflict.proofs.mark_run.Lts as lts
-use Rattle.marks.proofs.set.Reads as set-reads
+use Rattle.mark_words.proofs.set.Reads as set-reads
 
 abbrev Inv-loop : tie.InvT-loop
 Inv-loop words₀ start many i₀ words i = (i ≤ many) × (many ≤ 256) × (start ≤ 256) × (length words ≡ length words₀)

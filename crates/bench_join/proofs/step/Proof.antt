@@ -1,7 +1,7 @@
 use native.Mathlib.Omega.{arith}
 use borrow.Author.Tests.{not-false}
-use Rattle.parts.specs.Writers.{flat}
-use Rattle.update.proofs.Updates.{form-within}
+use Rattle.tree_pieces.specs.Writers.{flat}
+use Rattle.tree_update.proofs.Updates.{form-within}
 use borrow.Author.Needs.{needs}
 use Rattle.bench_join.proofs.step.Statement.{statement}
 use Rattle.bench_join.proofs.step.Tie as tie

@@ -3,8 +3,8 @@ use Prim.Native.Nat.{ℕ, _^_, min, _-_, _*_}
 use native.Mathlib.Omega.{arith}
 use mathlib.Core.Path.{_≡_, ap, _∙_}
 use lib.ListN.{length}
-use Rattle.marks.specs.Marks.{marked, outside}
-use Rattle.marks.proofs.Words.{Written, written-none, written-read, written-one, written-all}
+use Rattle.mark_words.specs.Marks.{marked, outside}
+use Rattle.mark_words.proofs.Words.{Written, written-none, written-read, written-one, written-all}
 use Rattle.mark_sets.proofs.Steps.{outside-word}
 use Rattle.mark_sets.proofs.complement.Statement.{statement}
 use Rattle.mark_sets.proofs.complement.Tie as tie

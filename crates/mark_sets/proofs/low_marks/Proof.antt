@@ -3,7 +3,7 @@ use mathlib.Core.Path.{_≡_, ap}
 use Prim.Native.Nat.{ℕ, _^_, _-_, min}
 use native.Mathlib.Omega.{arith}
 use lib.Pow.{pow-pos}
-use Rattle.marks.proofs.Word.{one-shifted}
+use Rattle.mark_words.proofs.Word.{one-shifted}
 use borrow.Author.Needs.{needs}
 use Rattle.mark_sets.proofs.low_marks.Statement.{statement}
 use Rattle.mark_sets.proofs.low_marks.Tie as tie

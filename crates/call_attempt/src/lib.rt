@@ -1,0 +1,59 @@
+// The attempt that joining a group and its trial share: checks 1 to 8 on a ring's lent tables, and the tree with the group joined to it.
+ghost use mathlib.Core.Path.{_≡_};
+ghost use Prim.Native.Nat.{_≤_};
+ghost use lib.ListN.{length};
+ghost use Rattle.spec_orders.specs.Tree.{Forest};
+ghost use Rattle.tree_pieces.specs.Writers.{flat};
+ghost use Rattle.tree_update.specs.Update.{Published};
+ghost use Rattle.call_attempt.specs.Attempts.{AttemptsOn, Attempts};
+use call_checks::Lent;
+use spec_calls::Refusal;
+use table_book::Checked;
+use tree_update::Updated;
+
+// What an attempt to join a group comes to: the tree with it, in this many tokens; or why it is refused.
+pub enum Tried {
+    Joined(usize),
+    Refused(Refusal),
+}
+
+// Checks 4 to 8 on a tree and the count of a book in form. Writes the tree with the group joined to it to the start of out.
+fn attempt_on(toks: &[u16], n: usize, count: usize, list: &[u16], out: &mut [u16]) -> Tried
+    requires { ⌜ (Published n (now toks)) × (512 ≤ length (now out)) ⌝ }
+    ensures { λ r. ⌜ ((t : Forest) → now (toks .entry) ≡ flat t
+        → AttemptsOn t n count (now (list .entry)) (now (out .entry)) (now (out .exit)) r) ⌝ }
+{
+    if let Checked::Bad(refusal) = table_book::check_list(list, n) {
+        return Tried::Refused(refusal);
+    }
+    if count == 96 {
+        return Tried::Refused(Refusal::BookFull);
+    }
+    let mut group = [0u64; 4];
+    mark_words::mark_list(list, &mut group);
+    let Updated::Tokens(m) = tree_update::join(toks, &group, n, out) else {
+        return Tried::Refused(Refusal::Impossible);
+    };
+    Tried::Joined(m)
+}
+
+// Checks 1 to 8. Writes the ring's tree with the group joined to it to the start of out.
+pub fn attempt(
+    n: usize,
+    nodes: &[u16],
+    have: usize,
+    book: &[u64],
+    count: usize,
+    list: &[u16],
+    out: &mut [u16],
+) -> Tried
+    requires { ⌜ 512 ≤ length (now out) ⌝ }
+    ensures { λ r. ⌜ Attempts n have (now (nodes .entry)) (now (book .entry)) count (now (list .entry)) (now (out .entry)) (now (out .exit)) r ⌝ }
+{
+    let mut toks = [0u16; 512];
+    let found = call_checks::lent_ring(n, nodes, have, book, count, &mut toks);
+    match found {
+        Lent::Refused(refusal) => Tried::Refused(refusal),
+        Lent::Tree(k) => attempt_on(&toks[0..k], n, count, list, out),
+    }
+}

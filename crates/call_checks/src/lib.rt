@@ -1,0 +1,75 @@
+// The checks that calls on a lent ring share: 1, 2 and 3 on its node table and its book. They load the tree.
+ghost use mathlib.Core.Path.{_≡_};
+ghost use Prim.Native.Nat.{_≤_};
+ghost use lib.ListN.{length};
+ghost use Rattle.spec_calls.specs.Refusals.{first-refusal};
+ghost use Rattle.spec_calls.specs.Calls.{table-checks};
+ghost use Rattle.table_book.specs.Lists.{refusal-in};
+ghost use Rattle.call_checks.specs.Lent.{LendsTree, LendsRing};
+use spec_calls::Refusal;
+use table_book::Checked;
+use table_walk::Walked;
+
+// The lent tree, in this many tokens; or why the call is refused.
+pub enum Lent {
+    Tree(usize),
+    Refused(Refusal),
+}
+
+// Checks 1 and 2 on a node table of `have` records; `other` says that another lent table is too short.
+pub fn check_tables(n: usize, nodes: &[u16], have: usize, other: bool) -> Checked
+    ensures { λ r. ⌜ refusal-in r ≡ first-refusal (table-checks n have (now (nodes .entry)) other) ⌝ }
+{
+    if n == 0 {
+        return Checked::Bad(Refusal::RingSize);
+    }
+    if n > 256 {
+        return Checked::Bad(Refusal::RingSize);
+    }
+    if have < 256 {
+        return Checked::Bad(Refusal::ShortTable);
+    }
+    if nodes.len() < 65792 {
+        return Checked::Bad(Refusal::ShortTable);
+    }
+    if other {
+        return Checked::Bad(Refusal::ShortTable);
+    }
+    Checked::Fine
+}
+
+// Checks 1, 2 and 3 on a node table of `have` records; `other` says that another lent table is too short. Writes the tree to the start of toks.
+pub fn lent_tree(n: usize, nodes: &[u16], have: usize, other: bool, toks: &mut [u16]) -> Lent
+    requires { ⌜ 512 ≤ length (now toks) ⌝ }
+    ensures { λ r. ⌜ LendsTree n have (now (nodes .entry)) other (now (toks .entry)) (now (toks .exit)) r ⌝ }
+{
+    if let Checked::Bad(refusal) = check_tables(n, nodes, have, other) {
+        return Lent::Refused(refusal);
+    }
+    let Walked::Found(k) = table_store::load(nodes, n, toks) else {
+        return Lent::Refused(Refusal::NotInForm);
+    };
+    Lent::Tree(k)
+}
+
+// Checks 1, 2 and 3 on a node table of `have` records and a book of `count` groups. Writes the tree to the start of toks.
+pub fn lent_ring(
+    n: usize,
+    nodes: &[u16],
+    have: usize,
+    book: &[u64],
+    count: usize,
+    toks: &mut [u16],
+) -> Lent
+    requires { ⌜ 512 ≤ length (now toks) ⌝ }
+    ensures { λ r. ⌜ LendsRing n have (now (nodes .entry)) (now (book .entry)) count (now (toks .entry)) (now (toks .exit)) r ⌝ }
+{
+    let found = lent_tree(n, nodes, have, book.len() < 384, toks);
+    let Lent::Tree(k) = found else {
+        return found;
+    };
+    if !table_book::in_form(book, n, count) {
+        return Lent::Refused(Refusal::NotInForm);
+    }
+    Lent::Tree(k)
+}

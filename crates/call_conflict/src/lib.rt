@@ -1,0 +1,89 @@
+// The conflict call: which groups of the book are impossible together with a new one, none of them needlessly.
+ghost use mathlib.Core.Path.{_≡_};
+ghost use mathlib.Core.List.{List};
+ghost use Prim.Native.Nat.{ℕ, _≤_};
+ghost use lib.ListN.{length};
+ghost use Rattle.spec_orders.specs.Lists.{numbers-from};
+ghost use Rattle.spec_orders.specs.CircularOrder.{WellFormed};
+ghost use Rattle.tree_tokens.specs.Tokens.{Wrote};
+ghost use Rattle.spec_calls.specs.Calls.{conflict-refusal, conflicts-of};
+ghost use Rattle.spec_calls.specs.Refusals.{report};
+ghost use Rattle.table_book.specs.Lists.{refusal-in};
+ghost use Rattle.spec_calls.specs.Promises.{ConflictPromise};
+use spec_calls::Answer;
+use spec_calls::Refusal;
+use table_book::Checked;
+use tree_update::Updated;
+
+// Writes the numbers 1 to count, and says how many.
+fn rising(count: usize, out: &mut [u16]) -> usize
+    requires { ⌜ (count ≤ 96) × (count ≤ length (now out)) ⌝ }
+    ensures { λ r. ⌜ Wrote (numbers-from 1 count) (now (out .entry)) (now (out .exit)) r ⌝ }
+{
+    let mut i = 0;
+    while i < count {
+        out[i] = (i + 1) as u16;
+        i += 1;
+    }
+    i
+}
+
+// Writes the numbers of the groups in conflict with the list's group, rising, and says how many.
+pub fn find(n: usize, book: &[u64], count: usize, list: &[u16], out: &mut [u16]) -> usize
+    requires { ⌜ (n ≤ 256) × (384 ≤ length (now book)) × (count ≤ 96) × (count ≤ length (now out)) × (WellFormed n (now list)) ⌝ }
+    ensures { λ r. ⌜ Wrote (conflicts-of n (now (book .entry)) count (now (list .entry))) (now (out .entry)) (now (out .exit)) r ⌝ }
+{
+    let mut group = [0u64; 4];
+    mark_words::mark_list(list, &mut group);
+    let mut words = [group[0], group[1], group[2], group[3]];
+    conflict_leaves::choose(&mut words, book, n);
+    let mut start = [0u16; 512];
+    let m = conflict_leaves::start_tree(&words, n, &mut start);
+    let mut toks = [0u16; 512];
+    let got = tree_update::join(&start[0..m], &group, n, &mut toks);
+    // One group by itself always joins.
+    let Updated::Tokens(k) = got else {
+        return 0;
+    };
+    let mut numbers = [0u16; 96];
+    let many = rising(count, &mut numbers);
+    conflict_rule::leave_out(&toks[0..k], book, n, &numbers[0..many], out)
+}
+
+// Checks 1 to 6 down the table, for a conflict list of this many places.
+fn check(n: usize, book: &[u64], count: usize, list: &[u16], places: usize) -> Checked
+    ensures { λ r. ⌜ ((conflicts : List ℕ) → length conflicts ≡ places
+        → refusal-in r ≡ conflict-refusal n (now (book .entry)) count (now (list .entry)) conflicts) ⌝ }
+{
+    if n == 0 {
+        return Checked::Bad(Refusal::RingSize);
+    }
+    if n > 256 {
+        return Checked::Bad(Refusal::RingSize);
+    }
+    if book.len() < 384 {
+        return Checked::Bad(Refusal::ShortTable);
+    }
+    if places < 96 {
+        return Checked::Bad(Refusal::ShortTable);
+    }
+    if !table_book::in_form(book, n, count) {
+        return Checked::Bad(Refusal::NotInForm);
+    }
+    table_book::check_list(list, n)
+}
+
+// Writes the numbers of the groups in conflict with the list's group, rising, and zeros up to 96 places. Answers how many numbers there are, or
+// why the call is refused.
+pub fn conflict(n: usize, book: &[u64], count: usize, list: &[u16], conflicts: &mut [u16]) -> Answer
+    ensures { λ r. ⌜ ConflictPromise n (now (book .entry)) count (now (list .entry)) (now (conflicts .entry)) (now (conflicts .exit)) (report r) ⌝ }
+{
+    let checked = check(n, book, count, list, conflicts.len());
+    if let Checked::Bad(why) = checked {
+        return Answer::Refused(why);
+    }
+    let mut numbers = [0u16; 96];
+    let k = find(n, book, count, list, &mut numbers);
+    tree_tokens::copy(&numbers, conflicts);
+    Answer::Done(k)
+}

@@ -1,0 +1,79 @@
+-- The checks of the aim's call, down the table.
+use mathlib.Core.Path.{_≡_, refl, sym}
+use mathlib.Core.Logic.{_≢_}
+use mathlib.Core.Bool.{Bool, true, false, cond, not, _||_}
+use mathlib.Core.Option.{some}
+use mathlib.Core.List.{List, [], _∷_}
+use Prim.Native.Nat.{ℕ, _-_, _≤_, _<_}
+use native.Mathlib.Omega.{arith}
+use borrow.Author.Tests.{eq-eqb, ne-eqb, lt-ltb, le-ltb}
+use lib.Dec.{eqb, ltb}
+use lib.ListN.{length, take, drop}
+use Rattle.spec_orders.specs.Tree.{Forest}
+use Rattle.spec_orders.specs.Form.{standard}
+use Rattle.spec_orders.specs.Conflict.{consecutive?}
+use Rattle.spec_orders.specs.Aim.{aim-of}
+use Rattle.spec_orders.proofs.TextTree.{form-length}
+use Rattle.spec_calls.specs.declared.Refusal.{Refusal}
+use Rattle.spec_calls.specs.declared.Refusal.the-variants.{NoSuchGroup, NotConsecutive}
+use Rattle.spec_calls.specs.declared.Answer.the-variants.{Done, Refused}
+use Rattle.spec_calls.specs.Refusals.{reported, report, refuse, first-refusal}
+use Rattle.spec_calls.specs.Calls.{ring-checks, group-numbered, answered, aim-refusal, aim-call}
+use Rattle.spec_calls.proofs.NodeTables.{tree-in-holds}
+use Rattle.tree_tokens.specs.Tokens.{tree, plain}
+use Rattle.tree_tokens.proofs.Sequences.{tree-plain}
+use Rattle.tree_tokens.proofs.Writes.{read-part}
+use Rattle.call_checks.specs.Lent.{RingLent}
+use Rattle.call_checks.proofs.Laws.{first-refusal-some, first-refusal-none}
+use Rattle.call_order.specs.Starts.{aim-in}
+use Rattle.call_order.specs.Rings.{Lends, aim-of-group}
+
+module _ (book : List ℕ) (count k : ℕ) (t : Forest) where
+  pub number-zero : k ≡ 0 → aim-of-group book count k t ≡ Refused NoSuchGroup
+  unfolding aim-of-group
+  number-zero e = rw (eq-eqb k 0 e)
+
+  pub number-past : k ≢ 0 → count < k → aim-of-group book count k t ≡ Refused NoSuchGroup
+  unfolding aim-of-group
+  number-past e l = rw (ne-eqb k 0 e, lt-ltb count k l)
+
+  pub number-there : k ≢ 0 → k ≤ count → aim-of-group book count k t ≡ aim-in (group-numbered book k) (standard t)
+  unfolding aim-of-group
+  number-there e l = rw (ne-eqb k 0 e, le-ltb count k l)
+
+-- The standard order fits.
+pub order-room : {toks book : List ℕ} {count : ℕ} (h : Lends toks book count) → length (standard (tree (plain (h .shown)))) ≤ 256
+order-room h =
+    let e = tree-plain (h .shown) in
+    rw e (omega (arith, form-length (h .size) (h .shown) (h .in-form), h .some-leaf, h .few-leaves))
+
+-- The checks after the ring's, as the code makes them.
+last-checks : (a b : Bool) (v : ℕ)
+    → answered (first-refusal (refuse a NoSuchGroup ∷ refuse (not b) NotConsecutive ∷ [])) v ≡ report (cond a (Refused NoSuchGroup) (cond b (Done v) (Refused NotConsecutive)))
+last-checks true b v = refl
+last-checks false true v = refl
+last-checks false false v = refl
+
+module _ (n have : ℕ) (nodes book : List ℕ) (count k : ℕ) where
+  pub aim-refused : (r : Refusal) → first-refusal (ring-checks n have nodes book count) ≡ some r → reported r ≡ aim-call n have nodes book count k
+  unfolding aim-call aim-refusal
+  aim-refused r e = rw (first-refusal-some (ring-checks n have nodes book count) _ r e)
+
+  module _ {old toks : List ℕ} {m : ℕ} (h : RingLent n have nodes book count old toks m) where
+    pub lent-lends : Lends (take (m - 0) (drop 0 toks)) book count
+    lent-lends = record {
+      size = n;
+      shown = h .tree;
+      is = read-part (h .wrote);
+      in-form = h .lent .tree .in-form;
+      some-leaf = h .lent .some-leaf;
+      few-leaves = h .lent .few-leaves;
+      all-words = h .all-words;
+      groups = h .groups;
+    }
+
+    pub aim-there : report (aim-of-group book count k (h .tree)) ≡ aim-call n have nodes book count k
+    unfolding aim-call aim-refusal aim-of-group aim-in
+    aim-there =
+        rw (first-refusal-none (ring-checks n have nodes book count) _ (h .passes), tree-in-holds n nodes (h .tree) (h .lent .few-leaves) .1 (h .lent .tree))
+        (sym (last-checks (eqb k 0 || ltb count k) (consecutive? (group-numbered book k) (standard (h .tree))) (aim-of (group-numbered book k) (standard (h .tree)))))

@@ -1,0 +1,81 @@
+-- The order read leaf by leaf, and its last leaf.
+use mathlib.Core.Path.{_≡_, refl, ap, _∙_}
+use mathlib.Core.Bool.{Bool, true, false, not, _&&_}
+use mathlib.Core.List.{List, [], _∷_}
+use Prim.Native.Nat.{ℕ, suc, _+_, _-_, _/_, _%_, _<_}
+use native.Mathlib.Omega.{arith}
+use native.Mathlib.Numerals.{add-one}
+use lib.Dec.{leb}
+use lib.ListN.{length, getD}
+use Rattle.spec_orders.specs.CircularOrder.{Restriction}
+use Rattle.spec_orders.specs.Conflict.{consecutive?}
+use Rattle.spec_orders.specs.Aim.{count-in, last-of, start-after, run-start, aim-of}
+use Rattle.spec_orders.proofs.ListLaws.{tail, tail-is}
+use Rattle.spec_calls.specs.declared.Refusal.the-variants.{NotConsecutive}
+use Rattle.spec_calls.specs.declared.Answer.the-variants.{Done, Refused}
+use Rattle.call_order.specs.Starts.{enters, starts, aim-in}
+use Rattle.call_order.proofs.Circle.{consecutive-starts}
+
+module _ (G : Restriction) (b : ℕ) where
+  pub starts-none : (l : List ℕ) → length l ≡ 0 → starts G b l ≡ 0
+  starts-none [] h = refl
+  starts-none (x ∷ xs) h = absurd (omega arith)
+
+  pub starts-here : (l : List ℕ) → 0 < length l → enters G b (getD l 0 0) ≡ true → starts G b l ≡ 1 + starts G (getD l 0 0) (tail l)
+  starts-here [] h e = absurd (omega arith)
+  starts-here (x ∷ xs) h e = rw (e, tail-is x xs) (omega arith)
+
+  pub starts-later : (l : List ℕ) → 0 < length l → enters G b (getD l 0 0) ≡ false → starts G b l ≡ starts G (getD l 0 0) (tail l)
+  starts-later [] h e = absurd (omega arith)
+  starts-later (x ∷ xs) h e = rw (e, tail-is x xs)
+
+  pub first-none : (p : ℕ) (l : List ℕ) → length l ≡ 0 → start-after G b p l ≡ 0
+  first-none p [] h = refl
+  first-none p (x ∷ xs) h = absurd (omega arith)
+
+  pub first-here : (p : ℕ) (l : List ℕ) → 0 < length l → enters G b (getD l 0 0) ≡ true → start-after G b p l ≡ p
+  first-here p [] h e = absurd (omega arith)
+  first-here p (x ∷ xs) h e = rw e
+
+  pub first-later : (p : ℕ) (l : List ℕ) → 0 < length l → enters G b (getD l 0 0) ≡ false → start-after G b p l ≡ start-after G (getD l 0 0) (p + 1) (tail l)
+  first-later p [] h e = absurd (omega arith)
+  first-later p (x ∷ xs) h e = rw (e, tail-is x xs, add-one)
+
+last-at : (x : ℕ) (xs : List ℕ) → getD (x ∷ xs) (length xs) 0 ≡ last-of x xs
+last-at x [] = refl
+last-at x (y ∷ ys) = last-at y ys
+
+last-index : (x : ℕ) (xs : List ℕ) → getD (x ∷ xs) (length (x ∷ xs) - 1) 0 ≡ last-of x xs
+last-index x xs =
+    let e : suc (length xs) - 1 ≡ length xs = omega arith in
+    ap (λ (n : ℕ). getD (x ∷ xs) n 0) e ∙ last-at x xs
+
+pub last-is : (l : List ℕ) → 0 < length l → getD l (length l - 1) 0 ≡ last-of 0 l
+last-is [] h = absurd (omega arith)
+last-is (x ∷ xs) h = last-index x xs
+
+pub consecutive-is : (G : Restriction) (l : List ℕ) → 0 < length l → leb (starts G (getD l (length l - 1) 0) l) 1 ≡ consecutive? G l
+consecutive-is G [] h = absurd (omega arith)
+consecutive-is G (x ∷ xs) h = ap (λ (b : ℕ). leb (starts G b (x ∷ xs)) 1) (last-index x xs) ∙ consecutive-starts G x xs
+
+pub after-inside : (a b : Bool) → b ≡ true → (a && not b) ≡ false
+after-inside true b e = rw e
+after-inside false b e = refl
+
+pub after-outside : (a b : Bool) → b ≡ false → (a && not b) ≡ a
+after-outside true b e = rw e
+after-outside false b e = refl
+
+-- The aim, from where the run starts and its size.
+pub aim-is : (G : Restriction) (l : List ℕ) (start size : ℕ) → 0 < length l → start ≡ start-after G (getD l (length l - 1) 0) 0 l → size ≡ count-in G l
+    → getD l ((start + (size - 1) / 2) % length l) 0 ≡ aim-of G l
+unfolding aim-of run-start
+aim-is G l start size h s m = rw (s, m, last-is l h)
+
+pub aim-in-yes : (G : Restriction) (l : List ℕ) → consecutive? G l ≡ true → aim-in G l ≡ Done (aim-of G l)
+unfolding aim-in
+aim-in-yes G l e = rw e
+
+pub aim-in-no : (G : Restriction) (l : List ℕ) → consecutive? G l ≡ false → aim-in G l ≡ Refused NotConsecutive
+unfolding aim-in
+aim-in-no G l e = rw e

@@ -1,0 +1,101 @@
+-- The size of a book's group: the count of its marks is the count of its leaves in the standard order.
+use mathlib.Core.Path.{_≡_, refl, sym, ap, _∙_}
+use mathlib.Core.Logic.{Iff·rfl}
+use mathlib.Core.Bool.{Bool, true, false, cond, not, true≢false}
+use mathlib.Core.List.{List, [], _∷_}
+use Prim.Native.Nat.{ℕ, zero, suc, _+_, _-_, _*_, _≤_, _<_}
+use native.Mathlib.Omega.{arith}
+use borrow.Author.Tests.{leb-true}
+use lib.Dec.{leb}
+use lib.ListN.{length, drop, getD, length-take, length-drop}
+use Rattle.spec_orders.specs.Lists.{Pick, here, there, Rearranged, done, next, numbers-from, all-of, same}
+use Rattle.spec_orders.specs.CircularOrder.{Restriction}
+use Rattle.spec_orders.specs.Tree.{Forest}
+use Rattle.spec_orders.specs.Form.{InForm, standard}
+use Rattle.spec_orders.specs.Aim.{count-in}
+use Rattle.spec_orders.proofs.Rearranged.{perm-skip}
+use Rattle.spec_orders.proofs.Members.{all-passed}
+use Rattle.spec_orders.proofs.Numbers.{count, count-cons, count-append, numbers-append, numbers-in}
+use Rattle.spec_orders.proofs.TextTree.{form-length}
+use Rattle.spec_orders.proofs.Tests.{both, false-if}
+use Rattle.mark_words.specs.Marks.{marked, leaves-of}
+use Rattle.mark_words.proofs.Leaves.{marked-leaf}
+use Rattle.spec_calls.specs.Book.{group-words, group-in-form?, book-in-form?}
+use Rattle.table_book.proofs.Laws.{few-groups}
+use Rattle.call_order.specs.Starts.{GroupWithin}
+
+module _ (G : Restriction) where
+  pub count-in-is : (l : List ℕ) → count-in G l ≡ count G l
+  count-in-is [] = refl
+  count-in-is (x ∷ xs) = go (G x) (count-in-is xs) ∙ sym (count-cons G x xs)
+    where
+      go : (b : Bool) → count-in G xs ≡ count G xs → cond b (suc (count-in G xs)) (count-in G xs) ≡ cond b 1 0 + count G xs
+      go true e = omega arith
+      go false e = omega arith
+
+  pick-count : {x : ℕ} {l k : List ℕ} → Pick x l k → count G l ≡ cond (G x) 1 0 + count G k
+  pick-count (here {x = x} {l = l}) = count-cons G x l
+  pick-count (there {x = x} {y = y} {l = l} {m = m} p) = omega (arith, count-cons G y l, count-cons G y m, pick-count p)
+
+  pub perm-count : {l m : List ℕ} → Rearranged l m → count G l ≡ count G m
+  perm-count done = refl
+  perm-count (next {x = x} {m = m} p q) = omega (arith, pick-count p, count-cons G x m, perm-count q)
+
+  count-past : (a k : ℕ) → ((x : ℕ) → a ≤ x → G x ≡ false) → count G (numbers-from a k) ≡ 0
+  count-past a zero h = refl
+  count-past a (suc k) h =
+      let first : _≡_ {A = ℕ} (cond (G a) 1 0) 0 = rw (h a (omega arith)) in
+      omega (arith, count-cons G a (numbers-from (suc a) k), count-past (suc a) k (λ x l. h x (omega arith)))
+
+-- The standard order has the leaves 1 to n.
+pub all-standard : (n : ℕ) (t : Forest) → InForm n t → 1 ≤ n → Rearranged (numbers-from 1 n) (standard t)
+all-standard zero t f h = absurd (omega arith)
+all-standard (suc n) t f h = perm-skip 1 (f .all-leaves)
+
+past-n : (ws : List ℕ) (n : ℕ) → all-of (λ b. leb b n) (leaves-of ws) ≡ true → (x : ℕ) → suc n ≤ x → marked ws x ≡ false
+past-n ws n e x l =
+    false-if (marked ws x) (λ m. absurd (omega (arith, leb-true x n (all-passed (λ b. leb b n) (leaves-of ws) .0 e x (marked-leaf ws x m)))))
+
+size-in : (n : ℕ) (t : Forest) (ws : List ℕ) → InForm n t → 1 ≤ n → n ≤ 64 * length ws → all-of (λ b. leb b n) (leaves-of ws) ≡ true
+    → count-in (marked ws) (standard t) ≡ length (leaves-of ws)
+unfolding leaves-of
+size-in n t ws f h l e =
+    let G = marked ws in
+    let k = 64 * length ws - n in
+    let s : 64 * length ws ≡ n + k = omega arith in
+    let r : count G (numbers-from 1 (64 * length ws)) ≡ count G (numbers-from 1 n) + count G (numbers-from (1 + n) k) =
+    ap (λ j. count G (numbers-from 1 j)) s ∙ ap (count G) (numbers-append 1 n k) ∙ count-append G (numbers-from 1 n) (numbers-from (1 + n) k) in
+    omega (arith, count-in-is G (standard t), perm-count G (all-standard n t f h), r, count-past G (1 + n) k (λ x m. past-n ws n e x (omega arith)))
+
+some-leaf : (l : List ℕ) → not (same l []) ≡ true → 1 ≤ length l
+some-leaf [] e = absurd (true≢false (sym e))
+some-leaf (x ∷ l) e = omega arith
+
+group-form : (n : ℕ) (book : List ℕ) (count k : ℕ) → book-in-form? n book count ≡ true → k < count → group-in-form? n (group-words book k) ≡ true
+unfolding book-in-form?
+group-form n book count k e l =
+    all-passed (λ i. group-in-form? n (group-words book i)) (numbers-from 0 count) .0 (both Iff·rfl Iff·rfl .0 (both {a = leb count 96} Iff·rfl Iff·rfl .0 e .1) .0) k (numbers-in 0 count k (omega arith) (omega arith))
+
+-- The book's group at place k, and the standard order.
+pub group-within : (n : ℕ) (t : Forest) (book : List ℕ) (count k : ℕ) → InForm n t → 1 ≤ n → n ≤ 256 → 384 ≤ length book
+    → book-in-form? n book count ≡ true → k < count → GroupWithin (group-words book k) (standard t)
+group-within n t book count k f h l w e m =
+    let c = few-groups n book count e in
+    let g = both {a = not (same (leaves-of (group-words book k)) [])} Iff·rfl Iff·rfl .0 (group-form n book count k e m) in
+    let four : length (group-words book k) ≡ 4 = omega (arith, length-take 4 (drop (4 * k) book), length-drop (4 * k) book) in
+    record {
+      four = four;
+      some-leaf = some-leaf (leaves-of (group-words book k)) (g .0);
+      all-leaves = size-in n t (group-words book k) f h (omega arith) (g .1);
+      some-place = omega arith;
+      few-places = omega (arith, form-length n t f);
+    }
+
+-- Four words, one by one.
+pub four-listed : (ws : List ℕ) → length ws ≡ 4 → getD ws 0 0 ∷ getD ws 1 0 ∷ getD ws 2 0 ∷ getD ws 3 0 ∷ [] ≡ ws
+four-listed [] e = absurd (omega arith)
+four-listed (a ∷ []) e = absurd (omega arith)
+four-listed (a ∷ (b ∷ [])) e = absurd (omega arith)
+four-listed (a ∷ (b ∷ (c ∷ []))) e = absurd (omega arith)
+four-listed (a ∷ (b ∷ (c ∷ (d ∷ [])))) e = refl
+four-listed (a ∷ (b ∷ (c ∷ (d ∷ (f ∷ ws))))) e = absurd (omega arith)

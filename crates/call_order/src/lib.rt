@@ -1,0 +1,123 @@
+// The aim of a book's group in the standard order.
+ghost use mathlib.Core.Path.{_≡_};
+ghost use Prim.Native.Nat.{_+_, _≤_, _<_};
+ghost use lib.ListN.{length};
+ghost use Rattle.spec_orders.specs.Tree.{Forest};
+ghost use Rattle.spec_orders.specs.Conflict.{consecutive?};
+ghost use Rattle.spec_orders.specs.Aim.{start-after, aim-of};
+ghost use Rattle.mark_words.specs.Marks.{marked, leaves-of};
+ghost use Rattle.tree_tokens.specs.Tokens.{plain, encode};
+ghost use Rattle.spec_calls.specs.Refusals.{report};
+ghost use Rattle.spec_calls.specs.Promises.{AimPromise};
+ghost use Rattle.call_order.specs.Starts.{enters, starts, GroupWithin, aim-in};
+ghost use Rattle.call_order.specs.Rings.{Lends, aim-of-group};
+use call_checks::Lent;
+use spec_calls::Answer;
+use spec_calls::Refusal;
+
+// Whether the leaf is marked and the one before it is not.
+fn enters(words: &[u64], before: u16, leaf: u16) -> bool
+    ensures { λ r. ⌜ r ≡ enters (marked (now (words .entry))) before leaf ⌝ }
+{
+    if mark_words::test(words, before) {
+        return false;
+    }
+    mark_words::test(words, leaf)
+}
+
+// How many marked leaves follow one that is not marked; `before` stands before the first.
+fn starts(words: &[u64], before: u16, order: &[u16]) -> usize
+    ensures { λ r. ⌜ (r ≤ length (now (order .entry))) × (r ≡ starts (marked (now (words .entry))) before (now (order .entry))) ⌝ }
+{
+    if order.len() == 0 {
+        return 0;
+    }
+    let leaf = order[0];
+    if enters(words, before, leaf) {
+        return 1 + starts(words, leaf, &order[1..]);
+    }
+    starts(words, leaf, &order[1..])
+}
+
+// The place, counted from p on, of the first marked leaf that follows one that is not marked; 0 where there is none.
+fn first_start(words: &[u64], before: u16, p: usize, order: &[u16]) -> usize
+    requires { ⌜ p + length (now order) ≤ 512 ⌝ }
+    ensures { λ r. ⌜ (r ≤ 512) × (r ≡ start-after (marked (now (words .entry))) before p (now (order .entry))) ⌝ }
+{
+    if order.len() == 0 {
+        return 0;
+    }
+    let leaf = order[0];
+    if enters(words, before, leaf) {
+        return p;
+    }
+    first_start(words, leaf, p + 1, &order[1..])
+}
+
+// Whether the marked leaves are consecutive in the circular order.
+fn is_consecutive(words: &[u64], order: &[u16]) -> bool
+    requires { ⌜ 0 < length (now order) ⌝ }
+    ensures { λ r. ⌜ r ≡ consecutive? (marked (now (words .entry))) (now (order .entry)) ⌝ }
+{
+    let last = order[order.len() - 1];
+    starts(words, last, order) <= 1
+}
+
+// How many leaves a group's four words mark.
+fn size(words: &[u64]) -> usize
+    requires { ⌜ length (now words) ≡ 4 ⌝ }
+    ensures { λ r. ⌜ r ≡ length (leaves-of (now (words .entry))) ⌝ }
+{
+    mark_sets::size(words[0], words[1], words[2], words[3])
+}
+
+// The leaf in the middle of the run of marked leaves, the first one of two.
+pub fn middle(words: &[u64], order: &[u16]) -> usize
+    requires { ⌜ GroupWithin (now words) (now order) ⌝ }
+    ensures { λ r. ⌜ r ≡ aim-of (marked (now (words .entry))) (now (order .entry)) ⌝ }
+{
+    let last = order[order.len() - 1];
+    let start = first_start(words, last, 0, order);
+    let size = size(words);
+    order[(start + (size - 1) / 2) % order.len()] as usize
+}
+
+// The aim of the group with these marks, or that it is not consecutive.
+fn aim_in(words: &[u64], order: &[u16]) -> Answer
+    requires { ⌜ GroupWithin (now words) (now order) ⌝ }
+    ensures { λ r. ⌜ r ≡ aim-in (marked (now (words .entry))) (now (order .entry)) ⌝ }
+{
+    if is_consecutive(words, order) {
+        return Answer::Done(middle(words, order));
+    }
+    Answer::Refused(Refusal::NotConsecutive)
+}
+
+// Checks 9 and 10 on the book's group with this number, and its aim in the standard order of the tree.
+fn group_aim(toks: &[u16], book: &[u64], count: usize, group: usize) -> Answer
+    requires { ⌜ Lends (now toks) (now book) count ⌝ }
+    ensures { λ r. ⌜ ((t : Forest) → now (toks .entry) ≡ encode (plain t) → r ≡ aim-of-group (now (book .entry)) count group t) ⌝ }
+{
+    if group == 0 {
+        return Answer::Refused(Refusal::NoSuchGroup);
+    }
+    if group > count {
+        return Answer::Refused(Refusal::NoSuchGroup);
+    }
+    let at = 4 * (group - 1);
+    let end = at + 4;
+    let mut order = [0u16; 256];
+    let m = tree_order::standard_order(toks, &mut order);
+    aim_in(&book[at..end], &order[0..m])
+}
+
+// The leaf at which the group with this number is aimed (document 01's aim), in the standard order.
+pub fn aim(n: usize, nodes: &[u16], have: usize, book: &[u64], count: usize, group: usize) -> Answer
+    ensures { λ r. ⌜ AimPromise n (now (nodes .entry)) have (now (book .entry)) count group (report r) ⌝ }
+{
+    let mut toks = [0u16; 512];
+    match call_checks::lent_ring(n, nodes, have, book, count, &mut toks) {
+        Lent::Refused(r) => Answer::Refused(r),
+        Lent::Tree(k) => group_aim(&toks[0..k], book, count, group),
+    }
+}

@@ -1,0 +1,71 @@
+// The calls that write and read the tree text.
+ghost use mathlib.Core.Path.{_≡_};
+ghost use Prim.Native.Nat.{_≤_, _<_};
+ghost use lib.ListN.{length, replicate};
+ghost use Rattle.spec_orders.specs.Tree.{Forest};
+ghost use Rattle.spec_orders.specs.TreeText.{text};
+ghost use Rattle.spec_calls.specs.Refusals.{report};
+ghost use Rattle.spec_calls.specs.Promises.{WritePromise, ReadPromise};
+ghost use Rattle.tree_tokens.specs.Tokens.{tree, plain, encode, Wrote};
+ghost use Rattle.table_row.specs.Rows.{Formed};
+ghost use Rattle.call_text.specs.Fills.{Fills};
+use call_checks::Lent;
+use spec_calls::Answer;
+use spec_calls::Refusal;
+use table_book::Checked;
+use text_read::Read;
+
+// Writes k zeros, and says so.
+fn zeros(k: usize, out: &mut [u8]) -> usize
+    requires { ⌜ k ≤ length (now out) ⌝ }
+    ensures { λ m. ⌜ Wrote (replicate k 0) (now (out .entry)) (now (out .exit)) m ⌝ }
+{
+    let mut i = 0;
+    while i < k {
+        out[i] = 0;
+        i += 1;
+    }
+    i
+}
+
+// Writes the text of a tree in form and zeros up to 2,048 bytes; says how long the text is.
+fn fill(toks: &[u16], bytes: &mut [u8]) -> usize
+    requires { ⌜ (Formed (now toks)) × (2048 ≤ length (now bytes)) ⌝ }
+    ensures { λ r. ⌜ ((t : Forest) → now (toks .entry) ≡ encode (plain t)
+        → Fills t (now (bytes .entry)) (now (bytes .exit)) r) ⌝ }
+{
+    let m = text_write::tree_text(toks, bytes);
+    let _ = zeros(2048 - m, &mut bytes[m..]);
+    m
+}
+
+// Writes the tree text and zeros up to 2,048 bytes; answers the text's length.
+pub fn write(n: usize, nodes: &[u16], have: usize, bytes: &mut [u8]) -> Answer
+    ensures { λ r. ⌜ WritePromise n (now (nodes .entry)) have (now (bytes .entry)) (now (bytes .exit)) (report r) ⌝ }
+{
+    let mut toks = [0u16; 512];
+    match call_checks::lent_tree(n, nodes, have, bytes.len() < 2048, &mut toks) {
+        Lent::Refused(r) => Answer::Refused(r),
+        Lent::Tree(k) => Answer::Done(fill(&toks[0..k], bytes)),
+    }
+}
+
+// Reads a tree text for n leaves, lent exactly: the node table gets its tree, and the book is emptied. Answers the count of groups, 0; or refuses
+// (1, 2, 12), and leaves both tables as they were.
+pub fn read(n: usize, nodes: &mut [u16], have: usize, book: &mut [u64], text: &[u8]) -> Answer
+    ensures { λ r. ⌜ ReadPromise n (now (nodes .entry)) have (now (book .entry)) (now (text .entry)) (now (nodes .exit)) (now (book .exit)) (report r) ⌝ }
+{
+    if let Checked::Bad(refusal) = call_checks::check_tables(n, nodes, have, book.len() < 384) {
+        return Answer::Refused(refusal);
+    }
+    let mut toks = [0u16; 512];
+    let found = text_read::read_text(text, n, &mut toks);
+    match found {
+        Read::Refused(byte) => Answer::Refused(Refusal::TreeText(byte)),
+        Read::Tree(k) => {
+            table_store::store(&toks[0..k], nodes);
+            table_book::clear(book);
+            Answer::Done(0)
+        }
+    }
+}

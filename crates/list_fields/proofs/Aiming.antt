@@ -1,0 +1,64 @@
+-- The aim of a well-formed group in the standard order, from its mark words.
+use mathlib.Core.Path.{_≡_, refl, sym, ap, subst, _∙_}
+use mathlib.Core.List.{List, _∷_}
+use Prim.Native.Nat.{ℕ, suc, _+_, _-_, _*_, _/_, _%_, _≤_, _<_}
+use native.Mathlib.Nat.{mod-lt}
+use native.Mathlib.Omega.{arith}
+use lib.ListN.{length, getD}
+use Rattle.spec_orders.specs.Lists.{All, elem, numbers-from}
+use Rattle.spec_orders.specs.CircularOrder.{Restriction, WellFormed}
+use Rattle.spec_orders.specs.Tree.{frontier}
+use Rattle.spec_orders.specs.Form.{standard}
+use Rattle.spec_orders.specs.Aim.{count-in, run-start, aim-of}
+use Rattle.spec_orders.proofs.ListLaws.{all-map, all-at}
+use Rattle.spec_orders.proofs.Members.{in-all}
+use Rattle.spec_orders.proofs.Rearranged.{perm-all}
+use Rattle.spec_orders.proofs.Numbers.{in-range, count, count-elem}
+use Rattle.spec_orders.proofs.TextTree.{form-length}
+use Rattle.mark_words.specs.Marks.{marked, words-of, leaves-of}
+use Rattle.mark_words.proofs.Words.{length-words}
+use Rattle.mark_words.proofs.Leaves.{marked-group, size-of-list}
+use Rattle.call_order.specs.Starts.{GroupWithin}
+use Rattle.call_order.proofs.Sizes.{count-in-is, perm-count, all-standard}
+use Rattle.list_fields.specs.Ordered.{Ordered}
+
+module _ {n : ℕ} {order : List ℕ} (o : Ordered n order) where
+  pub order-length : length order ≡ n
+  order-length = ap length (o .is) ∙ omega (arith, form-length n (o .tree) (o .form), o .some-leaf)
+
+  pub order-all : All (λ b. (1 ≤ b) × (b ≤ n)) order
+  order-all =
+      rw (o .is)
+      (perm-all (λ b. (1 ≤ b) × (b ≤ n)) (all-standard n (o .tree) (o .form) (o .some-leaf))
+      (in-all (λ b. (1 ≤ b) × (b ≤ n)) (numbers-from 1 n) (λ x i. let r = in-range 1 n x i in (r .0, omega (arith, r .1)))))
+
+  pub aim-range : (G : Restriction) → (1 ≤ aim-of G order) × (aim-of G order ≤ n)
+  unfolding aim-of
+  aim-range G =
+      all-at (λ b. (1 ≤ b) × (b ≤ n)) 0 order ((run-start G order + (count-in G order - 1) / 2) % length order) order-all
+      (mod-lt (run-start G order + (count-in G order - 1) / 2) (omega (arith, order-length, o .some-leaf)))
+
+  module _ (list words : List ℕ) (g : WellFormed n list) (w : words ≡ words-of 4 (elem list)) where
+    pub same-group : marked words ≡ elem list
+    same-group = ap marked w ∙ marked-group 4 n list (o .few-leaves) g
+
+    size : length (leaves-of words) ≡ length list
+    size =
+        ap (λ (ws : List ℕ). length (leaves-of ws)) w
+        ∙ size-of-list 4 list (g .different) (all-map (λ b. (1 ≤ b) × (b ≤ n)) (λ b. (1 ≤ b) × (b ≤ 256)) (λ b r. (r .0, omega (arith, r .1, o .few-leaves))) list (g .in-range))
+
+    counted : count-in (elem list) order ≡ length list
+    counted =
+        ap (count-in (elem list)) (o .is)
+        ∙ count-in-is (elem list) (standard (o .tree))
+        ∙ sym (perm-count (elem list) (all-standard n (o .tree) (o .form) (o .some-leaf)))
+        ∙ count-elem n list (g .different) (g .in-range)
+
+    pub kept-within : GroupWithin words order
+    kept-within = record {
+      four = ap length w ∙ length-words 4 (elem list);
+      some-leaf = omega (arith, size, g .some-leaf);
+      all-leaves = ap (λ (G : Restriction). count-in G order) same-group ∙ counted ∙ sym size;
+      some-place = omega (arith, order-length, o .some-leaf);
+      few-places = omega (arith, order-length, o .few-leaves);
+    }

@@ -1,0 +1,62 @@
+-- The fields of a group line, by the tests that the code makes.
+use mathlib.Core.Path.{_≡_, refl, sym, ap, ap₂, subst, _∙_}
+use mathlib.Core.Option.{Option, none, some}
+use mathlib.Core.List.{List, [], _∷_, _++_}
+use Prim.Native.Nat.{ℕ, _+_, _-_, _≤_, _<_}
+use native.Mathlib.Omega.{arith}
+use lib.ListN.{length, take, drop, length-append}
+use Rattle.spec_orders.specs.Lists.{elem}
+use Rattle.spec_orders.specs.CircularOrder.{Restriction}
+use Rattle.spec_orders.specs.Tree.{Forest}
+use Rattle.spec_orders.specs.Join.{join}
+use Rattle.spec_orders.specs.Conflict.{conflict-list}
+use Rattle.spec_orders.specs.Aim.{aim-of}
+use Rattle.spec_orders.specs.Circles.{bytes}
+use Rattle.spec_calls.specs.Book.{groups}
+use Rattle.spec_calls.specs.Calls.{conflicts-of}
+use Rattle.list_ring.specs.Ledger.{Outcome, kept, refused, RingState, joined, outcome, next}
+use Rattle.list_ring.specs.Stands.{RingStands}
+use Rattle.list_ring.proofs.Outcomes.{outcome-empty, outcome-full, outcome-joined}
+use Rattle.list_fields.specs.Fields.{name, commas, fields}
+
+module _ (names : List (List ℕ)) (ord : List ℕ) (n : ℕ) (s : RingState) (list : List ℕ) where
+  pub tells-empty : length list ≡ 0 → bytes " empty - -" ≡ fields names ord s list (outcome n s list)
+  unfolding fields
+  tells-empty h = rw (outcome-empty n s list h)
+
+  pub tells-full : (length list ≡ 0 → ⊥) → length (s .groups) ≡ 96 → bytes " full - -" ≡ fields names ord s list (outcome n s list)
+  unfolding fields
+  tells-full h e = rw (outcome-full n s list h e)
+
+  module _ (k : ℕ) (toks : List ℕ) (m : ℕ) (book table : List ℕ) (after : ℕ) where
+    abbrev After : Outcome → Type 0
+    After o = RingStands n (next s k list o) toks m book table after
+
+    kept-told : (o : Option Forest) → After (joined n s (elem list) o) → length (s .groups) < after
+        → bytes " kept " ++ (name names (aim-of (elem list) ord) ++ bytes " -") ≡ fields names ord s list (joined n s (elem list) o)
+    unfolding fields
+    kept-told (some t) h l = refl
+    kept-told none h l = absurd (omega (arith, h .counted))
+
+    refused-told : (o : Option Forest) → After (joined n s (elem list) o) → after ≤ length (s .groups)
+        → bytes " refused - " ++ commas (take (length (s .groups) - 0) (drop 0 table)) (conflicts-of n book (length (s .groups)) list)
+        ≡ fields names ord s list (joined n s (elem list) o)
+    unfolding fields conflicts-of
+    refused-told (some t) h l = absurd (omega (arith, h .counted, length-append (s .groups) (elem list ∷ [])))
+    refused-told none h l =
+        rw (← h .counted)
+        (ap₂ (λ (lines : List ℕ) (Gs : List Restriction). bytes " refused - " ++ commas lines (conflict-list n Gs (elem list))) (h .in-table) (h .in-book))
+
+    module _ (some-leaf : length list ≡ 0 → ⊥) (place : length (s .groups) ≡ 96 → ⊥) (h : After (outcome n s list)) where
+      is : outcome n s list ≡ joined n s (elem list) (join (elem list) (s .tree))
+      is = outcome-joined n s list some-leaf place
+
+      pub tells-kept : length (s .groups) < after → bytes " kept " ++ (name names (aim-of (elem list) ord) ++ bytes " -") ≡ fields names ord s list (outcome n s list)
+      tells-kept l = kept-told (join (elem list) (s .tree)) (subst After is h) l ∙ ap (fields names ord s list) (sym is)
+
+      pub tells-refused : {count : ℕ} → count ≡ length (s .groups) → after ≤ length (s .groups)
+          → bytes " refused - " ++ commas (take (count - 0) (drop 0 table)) (conflicts-of n book count list) ≡ fields names ord s list (outcome n s list)
+      tells-refused {count} e l =
+          ap (λ (i : ℕ). bytes " refused - " ++ commas (take (i - 0) (drop 0 table)) (conflicts-of n book i list)) e
+          ∙ refused-told (join (elem list) (s .tree)) (subst After is h) l
+          ∙ ap (fields names ord s list) (sym is)

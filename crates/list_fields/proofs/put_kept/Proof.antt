@@ -1,0 +1,99 @@
+use mathlib.Core.Path.{_≡_, ap, _∙_}
+use Prim.Native.Nat.{_-_, _≤_}
+use native.Mathlib.Omega.{arith}
+use denote.Ref.{now}
+use lib.ListN.{length}
+use Rattle.spec_orders.specs.Lists.{elem}
+use Rattle.spec_orders.specs.CircularOrder.{Restriction}
+use Rattle.spec_orders.specs.Aim.{aim-of}
+use Rattle.list_bytes.proofs.Laws.{appends-then, appends-as}
+use Rattle.file_read.specs.RingFile.{FileHolds}
+use Rattle.file_read.proofs.Values.{name-held}
+use Rattle.list_fields.specs.Fields.{name}
+use Rattle.list_series.proofs.Words.{name-few}
+use Rattle.list_fields.proofs.Aiming.{same-group, aim-range, kept-within}
+use borrow.Author.Needs.{needs}
+use Rattle.list_fields.proofs.put_kept.Statement.{statement}
+use Rattle.list_fields.proofs.put_kept.Tie as tie
+use Rattle.list_fields.proofs.put_kept.Reads as reads
+use Rattle.list_fields.proofs.put_kept.Lts as lts
+use Rattle.call_order.proofs.middle.Reads as middle-reads
+use Rattle.mark_words.proofs.mark_list.Reads as mark-list-reads
+use Rattle.list_bytes.proofs.put.Reads as put-reads
+use Rattle.file_read.proofs.name_of.Reads as name-of-reads
+
+-- The leaf that is aimed at, and its name.
+aimed : (c : tie.After-middle) → c .middle .result ≡ aim-of (elem (now (c .before .before .before .before .before .before .before .before .before .args .list))) (now (c .before .before .before .before .before .before .before .before .before .args .order))
+aimed c = c .middle .ensures ∙ ap (λ (G : Restriction). aim-of G (now (c .before .before .before .before .before .before .before .before .before .args .order))) (same-group (c .before .before .before .before .before .before .before .before .before .pre .2) (now (c .before .before .before .before .before .before .before .before .before .args .list)) _ (c .before .before .before .before .before .before .before .before .before .pre .1) (c .before .before .before .mark-list .ensures))
+
+leaf : (c : tie.After-middle) → (1 ≤ c .middle .result) × (c .middle .result ≤ c .before .before .before .before .before .before .before .before .before .args .names)
+leaf c = rw (aimed c) (aim-range (c .before .before .before .before .before .before .before .before .before .pre .2) (elem (now (c .before .before .before .before .before .before .before .before .before .args .list))))
+
+named : (c : tie.After-name-of) (f : FileHolds (now (c .before .before .before .before .before .before .before .before .before .before .before .before .before .before .before .args .file)) (c .before .before .before .before .before .before .before .before .before .before .before .before .before .before .before .args .names) (c .before .before .before .before .before .before .before .before .before .before .before .before .before .before .before .args .head) (c .before .before .before .before .before .before .before .before .before .before .before .before .before .before .before .args .lines))
+    → now (c .name-of .result) ≡ name (f .ns) (aim-of (elem (now (c .before .before .before .before .before .before .before .before .before .before .before .before .before .before .before .args .list))) (now (c .before .before .before .before .before .before .before .before .before .before .before .before .before .before .before .args .order)))
+named c f =
+    c .name-of .ensures .0 ∙ name-held f (c .before .before .before .before .before .before .middle .result - 1)
+    ∙ ap (name (f .ns)) (aimed (c .before .before .before .before .before .before))
+
+few : (c : tie.After-name-of) → length (now (c .name-of .result)) ≤ 8
+few c =
+    let f = c .before .before .before .before .before .before .before .before .before .before .before .before .before .before .before .pre .0 in
+    rw (c .name-of .ensures .0 ∙ name-held f (c .before .before .before .before .before .before .middle .result - 1))
+    (name-few f (c .before .before .before .before .before .before .middle .result - 1) (omega (arith, leaf (c .before .before .before .before .before .before))))
+
+slice-aggregate-mark-list : tie.Need-slice-aggregate-mark-list
+slice-aggregate-mark-list c = search needs
+
+mark-list-requires : tie.Need-mark-list-requires
+mark-list-requires c κs = search needs
+
+slice-aggregate-middle : tie.Need-slice-aggregate-middle
+slice-aggregate-middle c = search needs
+
+middle-requires : tie.Need-middle-requires
+middle-requires c κs = kept-within (c .before .before .before .before .before .before .before .before .pre .2) (now (c .before .before .before .before .before .before .before .before .args .list)) _ (c .before .before .before .before .before .before .before .before .pre .1) (c .before .before .mark-list .ensures)
+
+slice-aggregate-put : tie.Need-slice-aggregate-put
+slice-aggregate-put c = search needs
+
+put-requires : tie.Need-put-requires
+put-requires c κs = search needs
+
+sub-name-of : tie.Need-sub-name-of
+sub-name-of c = leaf (c .before .before .before .before .before) .0
+
+name-of-requires : tie.Need-name-of-requires
+name-of-requires c κs = search needs
+
+put-requires-2 : tie.Need-put-requires-2
+put-requires-2 c κs = omega (arith, few (c .before), c .before .before .before .before .before .before .before .before .before .before .before .before .before .before .before .before .pre .3, c .before .before .before .before .put .ensures .past, c .before .before .before .before .put .kept .1 .0)
+
+slice-aggregate-put-2 : tie.Need-slice-aggregate-put-2
+slice-aggregate-put-2 c = search needs
+
+put-requires-3 : tie.Need-put-requires-3
+put-requires-3 c κs = omega (arith, few (c .before .before .before .before .before .before), c .before .before .before .before .before .before .before .before .before .before .before .before .before .before .before .before .before .before .before .before .before .pre .3, c .before .before .before .before .before .before .before .before .before .put .ensures .past, c .before .before .before .before .before .before .before .before .before .put .kept .1 .0, c .before .before .before .before .put2 .ensures .past, c .before .before .before .before .put2 .kept .1 .0)
+
+same-length : tie.Need-same-length
+same-length c = search needs
+
+returns : tie.Need-returns
+returns c = (omega (arith, few (c .before .before .before .before .before .before .before .before .before), c .before .before .before .before .before .before .before .before .before .before .before .before .put .ensures .past, c .before .before .before .before .before .before .before .put2 .ensures .past, c .before .before .put3 .ensures .past), λ f. appends-then (c .before .before .before .before .before .before .before .before .before .before .before .before .put .ensures) (appends-then (appends-as (named (c .before .before .before .before .before .before .before .before .before) f) (c .before .before .before .before .before .before .before .put2 .ensures)) (c .before .before .put3 .ensures)))
+
+pub put-kept-spec : {M : Type 1} → statement M
+put-kept-spec =
+    tie.close
+    (tie.spec
+    slice-aggregate-mark-list
+    mark-list-requires
+    slice-aggregate-middle
+    middle-requires
+    slice-aggregate-put
+    put-requires
+    sub-name-of
+    name-of-requires
+    put-requires-2
+    slice-aggregate-put-2
+    put-requires-3
+    same-length
+    returns)

@@ -1,0 +1,77 @@
+-- The printed lines by their numbers, and the ring after so many group lines.
+use mathlib.Core.Path.{_≡_, refl, ap, _∙_}
+use mathlib.Core.List.{List, [], _∷_, _++_}
+use Prim.Native.Nat.{ℕ, zero, suc, _+_, _<_}
+use native.Mathlib.Omega.{arith}
+use native.Mathlib.Numerals.{add-one}
+use lib.ListN.{length, getD, take, length-append, List·getD-append}
+use lib.Seq.{getD-append-add}
+use Rattle.spec_orders.specs.Form.{standard}
+use Rattle.spec_orders.specs.TreeText.{digits}
+use Rattle.spec_orders.specs.Circles.{bytes}
+use Rattle.list_ring.specs.Ledger.{RingState, opened, outcome, next, run, state-at}
+use Rattle.list_fields.specs.Fields.{fields}
+use Rattle.list_line.specs.Listing.{group-lines, listing}
+use Rattle.list_line.specs.Printing.{group-line, final, ending}
+
+-- The group lines.
+module _ (names : List (List ℕ)) (ord : List ℕ) where
+  pub group-length : (s : RingState) (k : ℕ) (lists : List (List ℕ)) → length (group-lines names ord s k lists) ≡ length lists
+  unfolding group-lines
+  group-length s k [] = refl
+  group-length s k (list ∷ lists) = ap suc (group-length (next s k list (outcome (length names) s list)) (suc k) lists)
+
+  group-at : (s : RingState) (k : ℕ) (lists : List (List ℕ)) (l : ℕ) → l < length lists
+      → getD (group-lines names ord s k lists) l []
+      ≡ digits (k + l)
+      ++ fields names ord (run (length names) s k (take l lists)) (getD lists l []) (outcome (length names) (run (length names) s k (take l lists)) (getD lists l []))
+  unfolding group-lines run
+  group-at s k [] l h = absurd (omega arith)
+  group-at s k (list ∷ lists) zero h = let e : k + 0 ≡ k = omega arith in rw e
+  group-at s k (list ∷ lists) (suc l) h =
+      let e : k + suc l ≡ suc k + l = omega arith in
+      rw e (group-at (next s k list (outcome (length names) s list)) (suc k) lists l (omega arith))
+
+  pub line-at : (lists : List (List ℕ)) (l : ℕ) → l < length lists
+      → getD (group-lines names ord (opened (length names)) 1 lists) l [] ≡ group-line names ord lists l
+  unfolding state-at group-line
+  line-at lists l h =
+      let e : 1 + l ≡ l + 1 = omega arith in
+      group-at (opened (length names)) 1 lists l h ∙ rw e
+
+-- The whole listing.
+module _ (names lists : List (List ℕ)) where
+  abbrev ord : List ℕ
+  ord = standard (final names lists)
+
+  groups-printed : List (List ℕ)
+  groups-printed = group-lines names ord (opened (length names)) 1 lists
+
+  groups-length : length groups-printed ≡ length lists
+  unfolding groups-printed
+  groups-length = group-length names ord (opened (length names)) 1 lists
+
+  parts : listing names lists ≡ bytes "line answer aim conflict" ∷ (groups-printed ++ ending names (final names lists))
+  unfolding listing groups-printed final ending
+  parts = refl
+
+  pub listing-length : length (listing names lists) ≡ length lists + 5
+  unfolding ending
+  listing-length = rw parts (omega (arith, length-append groups-printed (ending names (final names lists)), groups-length))
+
+  pub head-line : getD (listing names lists) 0 [] ≡ bytes "line answer aim conflict"
+  head-line = rw parts
+
+  -- Group line l.
+  pub middle-line : (l : ℕ) → l < length lists → getD (listing names lists) (l + 1) [] ≡ group-line names ord lists l
+  unfolding groups-printed
+  middle-line l h =
+      rw parts
+      (ap (λ (k : ℕ). getD (bytes "line answer aim conflict" ∷ (groups-printed ++ ending names (final names lists))) k []) (add-one l)
+      ∙ List·getD-append groups-printed (ending names (final names lists)) [] l (omega (arith, groups-length))
+      ∙ line-at names ord lists l h)
+
+  pub end-line : (j : ℕ) → getD (listing names lists) (length lists + 1 + j) [] ≡ getD (ending names (final names lists)) j []
+  end-line j =
+      let e : length lists + 1 + j ≡ suc (length groups-printed + j) = omega (arith, groups-length) in
+      rw (parts, e) (getD-append-add groups-printed (ending names (final names lists)) j [])

@@ -1,0 +1,97 @@
+-- The list of marks, and how many there are.
+use mathlib.Core.Path.{_≡_, refl, sym, ap, _∙_}
+use mathlib.Core.Bool.{Bool, true, false, true≢false}
+use mathlib.Core.List.{List}
+use Prim.Native.Nat.{ℕ, zero, suc, _+_, _*_, _/_, _%_, _≤_, _<_}
+use native.Mathlib.Nat.{mod-lt}
+use native.Mathlib.Decide.{decLe}
+use native.Mathlib.Omega.{arith}
+use lib.ListN.{length, getD}
+use Rattle.spec_orders.specs.Lists.{All, Distinct, In, those-of, elem, numbers-from}
+use Rattle.spec_orders.specs.CircularOrder.{Restriction, WellFormed}
+use Rattle.mark_words.specs.Marks.{bit, marked, words-of, leaves-of}
+use Rattle.spec_orders.proofs.ListLaws.{all-map}
+use Rattle.spec_orders.proofs.Members.{elem-in, in-elem, all-in, in-all}
+use Rattle.spec_orders.proofs.Numbers.{those-different, in-those, those-in, in-range, numbers-in, those-agree, count-elem}
+use Rattle.mark_words.proofs.Words.{Words, words-agree, words-of-marked, length-words, leaf-at, marked-none, marked-past, marked-words}
+use Rattle.spec_orders.proofs.Tests.{false-if}
+
+-- A leaf stands in the list of marks just when it is marked, and then it is one of the words' leaves.
+pub leaf-marked : (ws : List ℕ) (x : ℕ) → In x (leaves-of ws) → marked ws x ≡ true
+unfolding leaves-of
+leaf-marked ws x i = in-those (marked ws) (numbers-from 1 (64 * length ws)) x i .0
+
+pub leaf-range : (ws : List ℕ) (x : ℕ) → In x (leaves-of ws) → (1 ≤ x) × (x ≤ 64 * length ws)
+unfolding leaves-of
+leaf-range ws x i = let h = in-range 1 (64 * length ws) x (in-those (marked ws) (numbers-from 1 (64 * length ws)) x i .1) in (omega arith, omega arith)
+
+pub marked-leaf : (ws : List ℕ) (x : ℕ) → marked ws x ≡ true → In x (leaves-of ws)
+unfolding leaves-of marked
+marked-leaf ws zero e = absurd (true≢false (sym e))
+marked-leaf ws (suc m) e = go (decLe (suc m) (64 * length ws))
+  where
+    go : Dec (suc m ≤ 64 * length ws) → In (suc m) (those-of (marked ws) (numbers-from 1 (64 * length ws)))
+    go (yes l) = those-in (marked ws) (numbers-from 1 (64 * length ws)) (suc m) e (numbers-in 1 (64 * length ws) (suc m) (omega arith) (omega arith))
+    go (no l) = absurd (true≢false (sym e ∙ marked-past ws (suc m) (omega arith)))
+
+pub marked-range : (ws : List ℕ) (x : ℕ) → marked ws x ≡ true → (1 ≤ x) × (x ≤ 64 * length ws)
+marked-range ws x e = leaf-range ws x (marked-leaf ws x e)
+
+-- So the list is one of different leaves, and the words are those of the list.
+pub leaves-different : (ws : List ℕ) → Distinct (leaves-of ws)
+unfolding leaves-of
+leaves-different ws = those-different (marked ws) 1 (64 * length ws)
+
+pub leaves-range : (ws : List ℕ) → All (λ b. (1 ≤ b) × (b ≤ 64 * length ws)) (leaves-of ws)
+leaves-range ws = in-all (λ b. (1 ≤ b) × (b ≤ 64 * length ws)) (leaves-of ws) (λ x i. leaf-range ws x i)
+
+pub elem-leaves : (ws : List ℕ) (x : ℕ) → elem (leaves-of ws) x ≡ marked ws x
+elem-leaves ws x = go (marked ws x) refl
+  where
+    go : (b : Bool) → marked ws x ≡ b → elem (leaves-of ws) x ≡ b
+    go true e = in-elem (leaves-of ws) x (marked-leaf ws x e)
+    go false e = false-if (elem (leaves-of ws) x) (λ t. true≢false (sym (leaf-marked ws x (elem-in (leaves-of ws) x t)) ∙ e))
+
+pub words-of-leaves : (ws : List ℕ) → Words ws → words-of (length ws) (elem (leaves-of ws)) ≡ ws
+words-of-leaves ws v = words-agree (length ws) (elem (leaves-of ws)) (marked ws) (λ x l m. elem-leaves ws x) ∙ words-of-marked ws v
+
+-- What holds of the leaf of each mark holds of each leaf of the list.
+pub by-mark : (ws : List ℕ) (P : ℕ → Type 0) → ((i j : ℕ) → i < length ws → j < 64 → bit (getD ws i 0) j ≡ true → P (64 * i + suc j))
+    → (x : ℕ) → In x (leaves-of ws) → P x
+unfolding marked
+by-mark ws P h x i = at x (leaf-range ws x i) (leaf-marked ws x i)
+  where
+    at : (x : ℕ) → (1 ≤ x) × (x ≤ 64 * length ws) → marked ws x ≡ true → P x
+    at zero r e = absurd (omega arith)
+    at (suc m) r e = rw leaf-at at (h (m / 64) (m % 64) (omega (arith, leaf-at m)) (mod-lt m (omega arith)) e)
+
+-- The list of marks of the words of a restriction.
+pub leaves-of-words : (k : ℕ) (G : Restriction) → leaves-of (words-of k G) ≡ those-of G (numbers-from 1 (64 * k))
+unfolding leaves-of
+leaves-of-words k G =
+    rw (length-words k G) (those-agree (marked (words-of k G)) G 1 (64 * k) (λ x l m. marked-words k G x l (omega arith)))
+
+-- ---- sizes
+
+-- A list of different leaves of the words has as many as its words have marks.
+pub size-of-list : (k : ℕ) (l : List ℕ) → Distinct l → All (λ b. (1 ≤ b) × (b ≤ 64 * k)) l → length (leaves-of (words-of k (elem l))) ≡ length l
+size-of-list k l d h = ap length (leaves-of-words k (elem l)) ∙ count-elem (64 * k) l d h
+
+-- The words of a list of leaves hold the list's leaves and no others.
+pub marked-list : (k : ℕ) (l : List ℕ) → All (λ b. (1 ≤ b) × (b ≤ 64 * k)) l → marked (words-of k (elem l)) ≡ elem l
+marked-list k l r = λ i x. at x i
+  where
+    out : (x : ℕ) → ((1 ≤ x) × (x ≤ 64 * k) → ⊥) → elem l x ≡ false
+    out x h = false-if (elem l x) (λ e. h (all-in (λ b. (1 ≤ b) × (b ≤ 64 * k)) x l r (elem-in l x e)))
+
+    at : (x : ℕ) → marked (words-of k (elem l)) x ≡ elem l x
+    at zero = marked-none (words-of k (elem l)) ∙ sym (out 0 (λ h. omega (arith, h .0)))
+    at (suc x) = go (decLe (suc x) (64 * k))
+      where
+        go : Dec (suc x ≤ 64 * k) → marked (words-of k (elem l)) (suc x) ≡ elem l (suc x)
+        go (yes h) = marked-words k (elem l) (suc x) (omega arith) h
+        go (no h) = marked-past (words-of k (elem l)) (suc x) (omega (arith, length-words k (elem l))) ∙ sym (out (suc x) (λ p. h (p .1)))
+
+-- k words hold a well-formed group of at most 64 * k leaves.
+pub marked-group : (k n : ℕ) (l : List ℕ) → n ≤ 64 * k → WellFormed n l → marked (words-of k (elem l)) ≡ elem l
+marked-group k n l h w = marked-list k l (all-map (λ b. (1 ≤ b) × (b ≤ n)) (λ b. (1 ≤ b) × (b ≤ 64 * k)) (λ b r. (r .0, omega (arith, r .1))) l (w .in-range))

@@ -1,0 +1,94 @@
+-- What the functions do to a word.
+use mathlib.Core.Path.{_≡_, refl, sym, ap, ap₂, _∙_}
+use mathlib.Core.Logic.{_≢_}
+use mathlib.Core.Bool.{Bool, true, false, cond, _||_}
+use mathlib.Core.List.{List, [], _∷_, _++_}
+use Prim.Native.Nat.{ℕ, suc, _+_, _*_, _/_, _%_, _^_, _≤_, _<_}
+use native.Mathlib.Nat.{mod-lt}
+use native.Mathlib.Decide.{ℕ-discrete}
+use native.Mathlib.Numerals.{add-one}
+use native.Mathlib.Omega.{arith}
+use lib.Dec.{eqb}
+use lib.ListN.{length, getD, set, take, length-set}
+use lib.Seq.{getD-set-same, getD-set-other, take-suc}
+use lib.Pow.{pow-lt}
+use lib.Bits.{bitOr, or-lt}
+use borrow.Author.Tests.{eq-eqb, ne-eqb}
+use Rattle.spec_orders.specs.Lists.{elem}
+use Rattle.spec_orders.specs.CircularOrder.{Restriction}
+use Rattle.mark_words.specs.Marks.{bit, marked, word-of, words-of, with-leaf}
+use Rattle.mark_words.proofs.Word.{word-is, bit-or, bit-pow}
+use Rattle.mark_words.proofs.Words.{Words, length-words, marked-words, words-are, marked-at, leaf-at, words-agree, words-of-marked}
+
+-- ---- one leaf more
+
+-- A leaf that is none of the words': they stay.
+pub set-none : (ws : List ℕ) (b : ℕ) → Words ws → ((x : ℕ) → 1 ≤ x → x ≤ 64 * length ws → x ≢ b) → ws ≡ words-of (length ws) (with-leaf b (marked ws))
+set-none ws b v h =
+    sym (words-agree (length ws) (with-leaf b (marked ws)) (marked ws) (λ x l m. rw (ne-eqb x b (h x l m))) ∙ words-of-marked ws v)
+
+-- One word replaced by what it is for G, where the others are so already.
+module _ (ws : List ℕ) (G : Restriction) (w x : ℕ) (v : Words ws) (l : w < length ws) (hx : x < 2 ^ 64)
+    (new : (j : ℕ) → j < 64 → bit x j ≡ G (64 * w + suc j)) (others : (i j : ℕ) → i ≢ w → j < 64 → bit (getD ws i 0) j ≡ G (64 * i + suc j)) where
+  pub set-word : set ws w x ≡ words-of (length ws) G
+  set-word = words-are (set ws w x) G (λ i k. at i (ℕ-discrete i w)) ∙ ap (λ (k : ℕ). words-of k G) (length-set ws w x)
+    where
+      at : (i : ℕ) → Dec (i ≡ w) → getD (set ws w x) i 0 ≡ word-of G (64 * i) 64
+      at i (yes e) = rw e (getD-set-same ws w x 0 l ∙ word-is G (64 * w) x 64 hx new)
+      at i (no n) = getD-set-other ws w i x 0 n ∙ word-is G (64 * i) (getD ws i 0) 64 (v i) (λ j m. others i j n m)
+
+or-swap : (a b : Bool) → (a || b) ≡ (b || a)
+or-swap true true = refl
+or-swap true false = refl
+or-swap false true = refl
+or-swap false false = refl
+
+eqb-iff : (a b c d : ℕ) → (a ≡ b → c ≡ d) → (c ≡ d → a ≡ b) → eqb a b ≡ eqb c d
+eqb-iff a b c d f g = go (ℕ-discrete a b)
+  where
+    go : Dec (a ≡ b) → eqb a b ≡ eqb c d
+    go (yes e) = eq-eqb a b e ∙ sym (eq-eqb c d (f e))
+    go (no n) = ne-eqb a b n ∙ sym (ne-eqb c d (λ e. n (g e)))
+
+-- Leaf m + 1: its word with its mark.
+pub set-one : (ws : List ℕ) (m : ℕ) → Words ws → m / 64 < length ws
+    → set ws (m / 64) (bitOr (getD ws (m / 64) 0) (2 ^ (m % 64))) ≡ words-of (length ws) (with-leaf (suc m) (marked ws))
+set-one ws m v l =
+    set-word ws (with-leaf (suc m) (marked ws)) (m / 64) (bitOr (getD ws (m / 64) 0) (2 ^ (m % 64))) v l
+    (or-lt 64 (getD ws (m / 64) 0) (2 ^ (m % 64)) (v (m / 64)) (pow-lt small)) new others
+  where
+    small : m % 64 < 64
+    small = mod-lt m (omega arith)
+
+    new : (j : ℕ) → j < 64 → bit (bitOr (getD ws (m / 64) 0) (2 ^ (m % 64))) j ≡ with-leaf (suc m) (marked ws) (64 * (m / 64) + suc j)
+    new j h =
+        bit-or (getD ws (m / 64) 0) (2 ^ (m % 64)) j
+        ∙ ap₂ (λ (a b : Bool). a || b) (sym (marked-at ws (m / 64) j h))
+        (bit-pow (m % 64) j ∙ eqb-iff j (m % 64) (64 * (m / 64) + suc j) (suc m) (λ e. omega (arith, leaf-at m)) (λ e. omega (arith, leaf-at m)))
+        ∙ or-swap (marked ws (64 * (m / 64) + suc j)) (eqb (64 * (m / 64) + suc j) (suc m))
+
+    others : (i j : ℕ) → i ≢ m / 64 → j < 64 → bit (getD ws i 0) j ≡ with-leaf (suc m) (marked ws) (64 * i + suc j)
+    others i j n h = rw (ne-eqb (64 * i + suc j) (suc m) (λ e. n (omega (arith, leaf-at m, small)))) (sym (marked-at ws i j h))
+
+-- ---- the leaves of a list
+
+elem-more : (l : List ℕ) (b x : ℕ) → elem (l ++ (b ∷ [])) x ≡ (eqb x b || elem l x)
+elem-more [] b x = last (eqb x b)
+  where
+    last : (t : Bool) → cond t true false ≡ (t || false)
+    last true = refl
+    last false = refl
+elem-more (y ∷ l) b x = ap (cond (eqb x y) true) (elem-more l b x) ∙ past (eqb x y) (eqb x b) (elem l x)
+  where
+    past : (s t e : Bool) → cond s true (t || e) ≡ (t || cond s true e)
+    past true true e = refl
+    past true false e = refl
+    past false t e = refl
+
+pub list-more : (k : ℕ) (l : List ℕ) (i : ℕ) (ws : List ℕ) → i < length l → ws ≡ words-of k (elem (take i l))
+    → words-of (length ws) (with-leaf (getD l i 0) (marked ws)) ≡ words-of k (elem (take (i + 1) l))
+list-more k l i ws h e =
+    rw (e, length-words)
+    (words-agree k (with-leaf (getD l i 0) (marked (words-of k (elem (take i l))))) (elem (take (i + 1) l))
+    (λ x a b. ap (λ (t : Bool). eqb x (getD l i 0) || t) (marked-words k (elem (take i l)) x a b)
+    ∙ sym (elem-more (take i l) (getD l i 0) x) ∙ ap (λ (m : List ℕ). elem m x) (sym (take-suc l i 0 h) ∙ ap (λ (j : ℕ). take j l) (sym (add-one i)))))

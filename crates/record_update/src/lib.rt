@@ -1,0 +1,38 @@
+// The calls that open a ring, join a group and try one, on a node table of records.
+ghost use Rattle.spec_calls.specs.Refusals.{report};
+ghost use Rattle.record_left.specs.Records.{OpenRecords, JoinRecords, TrialRecords};
+use record_copy::Node;
+use spec_calls::Answer;
+
+// Opens a ring of n leaves: its node table gets the fresh tree, and its book is emptied. Answers the count of groups, 0; or refuses (1, 2), and
+// leaves both tables as they were.
+pub fn open(n: usize, nodes: &mut [Node], book: &mut [u64]) -> Answer
+    ensures { λ r. ⌜ OpenRecords n (now (nodes .entry)) (now (book .entry)) (now (nodes .exit)) (now (book .exit)) (report r) ⌝ }
+{
+    let mut flat = [0u16; 65792];
+    let have = record_copy::load(nodes, &mut flat);
+    let r = call_update::open(n, &mut flat, have, book);
+    record_copy::store(&flat, nodes);
+    r
+}
+
+// Joins the list's group: the node table gets the new tree, and the group takes the book's next place. Answers the new count of groups; or
+// refuses (1 to 8), and leaves both tables as they were.
+pub fn join(n: usize, nodes: &mut [Node], book: &mut [u64], count: usize, list: &[u16]) -> Answer
+    ensures { λ r. ⌜ JoinRecords n (now (nodes .entry)) (now (book .entry)) count (now (list .entry)) (now (nodes .exit)) (now (book .exit)) (report r) ⌝ }
+{
+    let mut flat = [0u16; 65792];
+    let have = record_copy::load(nodes, &mut flat);
+    let r = call_update::join(n, &mut flat, have, book, count, list);
+    record_copy::store(&flat, nodes);
+    r
+}
+
+// Answers as joining the list's group would, and changes nothing.
+pub fn trial(n: usize, nodes: &[Node], book: &[u64], count: usize, list: &[u16]) -> Answer
+    ensures { λ r. ⌜ TrialRecords n (now (nodes .entry)) (now (book .entry)) count (now (list .entry)) (report r) ⌝ }
+{
+    let mut flat = [0u16; 65792];
+    let have = record_copy::load(nodes, &mut flat);
+    call_update::trial(n, &flat, have, book, count, list)
+}

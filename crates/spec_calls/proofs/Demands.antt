@@ -1,0 +1,176 @@
+-- The calls' definitions meet the second demand; and a list is refused by 4, 5 or 6 just when it is not well formed.
+use mathlib.Core.Path.{_≡_, refl, sym, _∙_, ap, subst}
+use mathlib.Core.Logic.{_↔_, _≢_}
+use mathlib.Core.Bool.{Bool, true, false, not, cond, _||_, true≢false}
+use mathlib.Core.Option.{Option, none, some}
+use mathlib.Core.List.{List, [], _∷_, _++_}
+use Prim.Native.Nat.{ℕ, suc, _≤_, _<_}
+use native.Mathlib.Nat.{pos-of-ne-zero}
+use native.Mathlib.Omega.{arith}
+use borrow.Author.Tests.{ne-eqb, le-ltb, eqb-false, ltb-false}
+use lib.Dec.{eqb, ltb}
+use lib.ListN.{length, take, drop}
+use lib.Seq.{take-append-seam}
+use Rattle.spec_orders.specs.Lists.{All, Distinct, In, elem}
+use Rattle.spec_orders.specs.CircularOrder.{Restriction, WellFormed}
+use Rattle.spec_orders.specs.Tree.{Forest}
+use Rattle.spec_orders.specs.Form.{InForm, standard, StandardOrder}
+use Rattle.spec_orders.specs.Join.{join}
+use Rattle.spec_orders.proofs.StandardOrders.{standard-is}
+use Rattle.spec_orders.proofs.TextTree.{form-length}
+use Rattle.spec_orders.proofs.Joining.{join-none, join-some}
+use Rattle.spec_orders.proofs.Tests.{false-if}
+use Rattle.spec_calls.specs.declared.Refusal.{Refusal}
+use Rattle.spec_calls.specs.declared.Refusal.the-variants.{OutsideRing, Repeated, BookFull, Impossible}
+use Rattle.spec_calls.specs.Tables.{over}
+use Rattle.spec_calls.specs.Book.{book-in-form?}
+use Rattle.spec_calls.specs.NodeTable.{Holds, table-of, tree-in}
+use Rattle.spec_calls.specs.Refusals.{Reply, refuse, first-refusal, bad-size, short, short-nodes, bad-leaf, list-checks}
+use Rattle.spec_calls.specs.Calls.{is-none, joined-tree, join-refusal, joined, join-call, order-refusal, order-call}
+use Rattle.spec_calls.specs.Demands.{LentTree, LentRing, ImpossibleIff, NewTree, Joins}
+use Rattle.spec_calls.proofs.NodeTables.{tree-in-holds, over-holds}
+
+-- ---- lists
+
+-- None of the leaves stands earlier.
+abbrev pub New : List ℕ → List ℕ → Type 0
+New seen = All (λ b. elem seen b ≡ false)
+
+new-more : (seen : List ℕ) (x : ℕ) (l : List ℕ) → New seen l → All (λ y. x ≢ y) l → New (x ∷ seen) l
+new-more seen x [] a d = tt
+new-more seen x (y ∷ l) a d = (rw (ne-eqb y x (λ e. d .0 (sym e))) (a .0), new-more seen x l (a .1) (d .1))
+
+new-none : (l : List ℕ) → New [] l
+new-none [] = tt
+new-none (x ∷ l) = (refl, new-none l)
+
+leaves-fine : (n : ℕ) (seen : List ℕ) (k : ℕ) (l : List ℕ) → All (λ b. (1 ≤ b) × (b ≤ n)) l → Distinct l → New seen l → bad-leaf n seen k l ≡ none
+unfolding bad-leaf
+leaves-fine n seen k [] r d a = refl
+leaves-fine n seen k (b ∷ l) r d a =
+    rw (ne-eqb b 0 (λ e. omega (arith, r .0 .0)), le-ltb n b (r .0 .1), a .0) (leaves-fine n (b ∷ seen) (suc k) l (r .1) (d .1) (new-more seen b l (a .1) (d .0)))
+
+pub well-formed-passes : (n : ℕ) (l : List ℕ) → WellFormed n l → first-refusal (list-checks n l) ≡ none
+well-formed-passes n [] w = absurd (omega (arith, w .some-leaf))
+well-formed-passes n (b ∷ l) w = rw (leaves-fine n [] 0 (b ∷ l) (w .in-range) (w .different) (new-none (b ∷ l)))
+
+new-less : (seen : List ℕ) (x : ℕ) (l : List ℕ) → New (x ∷ seen) l → New seen l × All (λ y. x ≢ y) l
+new-less seen x [] a = (tt, tt)
+new-less seen x (y ∷ l) a = let r = new-less seen x l (a .1) in let h = go (eqb y x) refl (a .0) in ((h .0, r .0), (h .1, r .1))
+  where
+    go : (b : Bool) → eqb y x ≡ b → cond b true (elem seen y) ≡ false → (elem seen y ≡ false) × (x ≢ y)
+    go true q e = absurd (true≢false e)
+    go false q e = (e, λ p. eqb-false y x q (sym p))
+
+-- Different leaves of the ring, none of them earlier.
+abbrev pub Fine : ℕ → List ℕ → List ℕ → Type 0
+Fine n seen l = All (λ b. (1 ≤ b) × (b ≤ n)) l × Distinct l × New seen l
+
+pub fine-more : (n : ℕ) (seen : List ℕ) (b : ℕ) (l : List ℕ) → eqb b 0 ≡ false → ltb n b ≡ false → elem seen b ≡ false → Fine n (b ∷ seen) l → Fine n seen (b ∷ l)
+fine-more n seen b l z q r m =
+    let f = new-less seen b l (m .2) in
+    (((pos-of-ne-zero (eqb-false b 0 z), ltb-false n b q), m .0), (f .1, m .1), (r, f .0))
+
+leaves-are : (n : ℕ) (seen : List ℕ) (k : ℕ) (l : List ℕ) → bad-leaf n seen k l ≡ none → Fine n seen l
+unfolding bad-leaf
+leaves-are n seen k [] e = (tt, tt, tt)
+leaves-are n seen k (b ∷ l) e = go (leaves-are n (b ∷ seen) (suc k) l) (eqb b 0) refl (ltb n b) refl (elem seen b) refl e
+  where
+    go : (bad-leaf n (b ∷ seen) (suc k) l ≡ none → Fine n (b ∷ seen) l) → (z : Bool) → eqb b 0 ≡ z → (p : Bool) → ltb n b ≡ p → (s : Bool) → elem seen b ≡ s
+        → cond (z || p) (some (OutsideRing k)) (cond s (some (Repeated k)) (bad-leaf n (b ∷ seen) (suc k) l)) ≡ none → Fine n seen (b ∷ l)
+    go more true z p q s r e = absurd (let i : _≡_ {A = ℕ} 0 1 = cc in omega arith)
+    go more false z true q s r e = absurd (let i : _≡_ {A = ℕ} 0 1 = cc in omega arith)
+    go more false z false q true r e = absurd (let i : _≡_ {A = ℕ} 0 1 = cc in omega arith)
+    go more false z false q false r e = fine-more n seen b l z q r (more e)
+
+pub passes-iff : (n : ℕ) (l : List ℕ) → (first-refusal (list-checks n l) ≡ none) ↔ WellFormed n l
+passes-iff n l = (from l, well-formed-passes n l)
+  where
+    from : (l : List ℕ) → first-refusal (list-checks n l) ≡ none → WellFormed n l
+    from [] e = absurd (let i : _≡_ {A = ℕ} 0 1 = cc in omega arith)
+    from (b ∷ l) e = let f = leaves-are n [] 0 (b ∷ l) (last (bad-leaf n [] 0 (b ∷ l)) e) in record { some-leaf = omega arith; in-range = f .0; different = f .1 }
+      where
+        last : (r : Option Refusal) → first-refusal (r ∷ []) ≡ none → r ≡ none
+        last none e = refl
+        last (some r) e = absurd (let i : _≡_ {A = ℕ} 0 1 = cc in omega arith)
+
+-- ---- joining
+
+pub size-fine : (n : ℕ) → 1 ≤ n → n ≤ 256 → bad-size n ≡ false
+size-fine n l m = rw (ne-eqb n 0 (λ e. omega arith), le-ltb 256 n m)
+
+pub nodes-fine : (have : ℕ) (nodes : List ℕ) → 256 ≤ have → 65792 ≤ length nodes → short-nodes have nodes ≡ false
+nodes-fine have nodes l m = rw (le-ltb have 256 l, le-ltb (length nodes) 65792 m)
+
+module _ (n have : ℕ) (nodes book : List ℕ) (count : ℕ) (list : List ℕ) (t : Forest) (h : LentRing n have nodes book count t) (w : WellFormed n list) where
+  the-tree : tree-in n nodes ≡ some t
+  the-tree = tree-in-holds n nodes t (h .lent .few-leaves) .1 (h .lent .tree)
+
+  the-joined : joined-tree n nodes list ≡ join (elem list) t
+  unfolding joined-tree
+  the-joined = rw the-tree
+
+  after-checks : (cs : List (Option Refusal)) → first-refusal (list-checks n list ++ cs) ≡ first-refusal cs
+  after-checks cs = go list w
+    where
+      go : (l : List ℕ) → WellFormed n l → first-refusal (list-checks n l ++ cs) ≡ first-refusal cs
+      go [] w = absurd (omega (arith, w .some-leaf))
+      go (b ∷ l) w = rw (leaves-fine n [] 0 (b ∷ l) (w .in-range) (w .different) (new-none (b ∷ l)))
+
+  the-refusal : join-refusal n have nodes book count list ≡ first-refusal (refuse (is-none (join (elem list) t)) Impossible ∷ [])
+  unfolding join-refusal
+  the-refusal =
+      rw (
+        size-fine n (h .lent .some-leaf) (h .lent .few-leaves),
+        nodes-fine have nodes (h .lent .all-records) (h .lent .all-rows),
+        le-ltb (length book) 384 (h .all-words),
+        the-tree,
+        h .groups,
+        after-checks (refuse (eqb count 96) BookFull ∷ refuse (is-none (joined-tree n nodes list)) Impossible ∷ []),
+        ne-eqb count 96 (λ e. omega (arith, h .place-left)),
+        the-joined,
+      )
+
+  pub join-meets : Joins n (elem list) t (join-call n have nodes book count list .answer) (join-call n have nodes book count list .nodes)
+  unfolding join-call joined
+  join-meets = rw (the-refusal, the-joined) (by-answer (join (elem list) t) refl)
+    where
+      G : Restriction
+      G = elem list
+
+      t-form : InForm n t
+      t-form = h .lent .tree .in-form
+
+      by-answer : (o : Option Forest) → join G t ≡ o
+          → Joins n G t (joined (first-refusal (refuse (is-none o) Impossible ∷ [])) o nodes book count list .answer) (joined (first-refusal (refuse (is-none o) Impossible ∷ [])) o nodes book count list .nodes)
+      by-answer none e = record { impossible = (λ q. join-none n G t t-form .0 e, λ q. refl); otherwise = λ q. absurd (q refl) }
+      by-answer (some u) e =
+          let j = join-some n G t u t-form e in
+          record {
+            impossible = (λ q. absurd (omega (arith, ap (λ (s : Reply). s .number) q)), λ q. absurd (q (standard u) (j .orders (standard u) .0 (j .standard-first .allowed) .0) (j .orders (standard u) .0 (j .standard-first .allowed) .1)));
+            otherwise = λ q. record {
+              new = u;
+              held = over-holds n u nodes (j .form) (h .lent .few-leaves);
+              orders = j .orders;
+              first = j .standard-first;
+            };
+          }
+
+-- ---- the standard order
+
+pub order-meets : (n have : ℕ) (nodes order : List ℕ) (t : Forest) → LentTree n have nodes t → n ≤ length order → StandardOrder t (take n (order-call n have nodes order .table))
+unfolding order-call order-refusal
+order-meets n have nodes order t h l =
+    rw (
+      size-fine n (h .some-leaf) (h .few-leaves),
+      nodes-fine have nodes (h .all-records) (h .all-rows),
+      le-ltb (length order) n l,
+      tree-in-holds n nodes t (h .few-leaves) .1 (h .tree),
+    )
+    (subst (StandardOrder t) (sym whole) (standard-is n t (h .tree .in-form)))
+  where
+    many : length (standard t) ≡ n
+    many = omega (arith, form-length n t (h .tree .in-form), h .some-leaf)
+
+    whole : take n (standard t ++ drop (length (standard t)) order) ≡ standard t
+    whole = subst (λ k. take k (standard t ++ drop (length (standard t)) order) ≡ standard t) many (take-append-seam (standard t) (drop (length (standard t)) order))

@@ -1,0 +1,37 @@
+-- Document 01, "The ring and its tables": the book, a table of 384 mark words, four for each of up to 96 groups.
+use mathlib.Core.Bool.{Bool, not, _&&_}
+use mathlib.Core.List.{List, [], _++_, map}
+use Prim.Native.Nat.{ℕ, _+_, _-_, _*_}
+use lib.Dec.{eqb, leb}
+use lib.ListN.{take, drop, replicate}
+use Rattle.spec_orders.specs.Lists.{numbers-from, same, all-of}
+use Rattle.spec_orders.specs.CircularOrder.{Restriction}
+use Rattle.mark_words.specs.Marks.{marked, words-of, leaves-of}
+use Rattle.spec_calls.specs.Tables.{over}
+
+-- The four words of the group at place k, from 0.
+abbrev pub group-words : List ℕ → ℕ → List ℕ
+group-words book k = take 4 (drop (4 * k) book)
+
+-- The groups of a book with this count.
+unfoldable pub groups : List ℕ → ℕ → List Restriction
+groups book count = map (λ k. marked (group-words book k)) (numbers-from 0 count)
+
+-- "Each group up to the count has a mark, each mark is that of a bin from 1 to n."
+abbrev pub group-in-form? : ℕ → List ℕ → Bool
+group-in-form? n words = not (same (leaves-of words) []) && all-of (λ b. leb b n) (leaves-of words)
+
+-- "A book is well formed, or in form, when its count is at most 96, each group up to the count [is as above], and all groups past the count
+-- are zero."
+unfoldable pub book-in-form? : ℕ → List ℕ → ℕ → Bool
+book-in-form? n book count =
+    leb count 96
+    && (all-of (λ k. group-in-form? n (group-words book k)) (numbers-from 0 count) && all-of (eqb 0) (take (384 - 4 * count) (drop (4 * count) book)))
+
+-- "The accepted group takes the next book place": the book with the group at place k.
+unfoldable pub booked : List ℕ → ℕ → Restriction → List ℕ
+booked book k G = take (4 * k) book ++ (words-of 4 G ++ drop (4 * k + 4) book)
+
+-- The book emptied: its 384 words are zero.
+unfoldable pub emptied : List ℕ → List ℕ
+emptied book = over (replicate 384 0) book

@@ -1,0 +1,25 @@
+-- The standard order of a tree in form: leaf 1, then its leaves from left to right; and no other order is one.
+use mathlib.Core.Path.{_≡_, refl, subst, sym}
+use mathlib.Core.Logic.{_↔_, inr}
+use mathlib.Core.List.{List}
+use Prim.Native.Nat.{ℕ}
+use Rattle.spec_orders.specs.Lists.{NotAfter}
+use Rattle.spec_orders.specs.Tree.{Forest, frontier, Allowed}
+use Rattle.spec_orders.specs.Form.{InForm, StandardOrder, standard}
+use Rattle.spec_orders.proofs.NotAfter.{not-after-antisym}
+use Rattle.spec_orders.proofs.First.{frontier-allowed, frontier-first}
+
+pub standard-allowed : (t : Forest) → Allowed t (standard t)
+standard-allowed t = record { after = frontier t; one-first = refl; order = frontier-allowed t }
+
+pub standard-is : (n : ℕ) (t : Forest) → InForm n t → StandardOrder t (standard t)
+standard-is n t f = record {
+  allowed = standard-allowed t;
+  least = λ other a. subst (NotAfter (standard t)) (sym (a .one-first)) (inr (refl, frontier-first (a .order) (f .canonical)));
+}
+
+pub standard-unique : (t : Forest) (a b : List ℕ) → StandardOrder t a → StandardOrder t b → a ≡ b
+standard-unique t a b p q = not-after-antisym a b (p .least b (q .allowed)) (q .least a (p .allowed))
+
+pub standard-iff : (n : ℕ) (t : Forest) → InForm n t → (ord : List ℕ) → StandardOrder t ord ↔ (ord ≡ standard t)
+standard-iff n t f ord = ((λ s. standard-unique t ord (standard t) s (standard-is n t f)), (λ e. subst (StandardOrder t) (sym e) (standard-is n t f)))

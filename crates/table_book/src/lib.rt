@@ -1,0 +1,110 @@
+// The book: a table of 384 mark words, four for each of up to 96 groups; and the list of a group that is to join it.
+ghost use mathlib.Core.Path.{_≡_};
+ghost use Prim.Native.Nat.{ℕ, _≤_, _<_, _+_, _^_};
+ghost use lib.ListN.{length};
+ghost use mathlib.Core.List.{List, []};
+ghost use Rattle.spec_orders.specs.Lists.{elem};
+ghost use Rattle.spec_calls.specs.Refusals.{first-refusal, bad-leaf, list-checks};
+ghost use Rattle.spec_calls.specs.Book.{group-in-form?, book-in-form?, booked, emptied};
+ghost use Rattle.table_book.specs.Groups.{groups-in-form?};
+ghost use Rattle.table_book.specs.Lists.{refusal-in, Seen};
+use spec_calls::Refusal;
+
+// What the check of a group's list says: it is a list of different leaves of the ring, or why it is refused.
+pub enum Checked {
+    Fine,
+    Bad(Refusal),
+}
+
+// Whether the group of these four words has a mark, and marks of leaves up to n only.
+fn group_in_form(words: &[u64], n: usize) -> bool
+    ensures { λ r. ⌜ r ≡ group-in-form? n (now (words .entry)) ⌝ }
+{
+    if mark_sets::is_empty(words) {
+        return false;
+    }
+    mark_sets::within(words, n)
+}
+
+// Whether the groups from place k up to the count are in form.
+fn groups_in_form(book: &[u64], n: usize, k: usize, count: usize) -> bool
+    requires { ⌜ (count ≤ 96) × (384 ≤ length (now book)) ⌝ }
+    ensures { λ r. ⌜ r ≡ groups-in-form? n (now (book .entry)) k count ⌝ }
+{
+    if k >= count {
+        return true;
+    }
+    let at = 4 * k;
+    let end = at + 4;
+    if !group_in_form(&book[at..end], n) {
+        return false;
+    }
+    groups_in_form(book, n, k + 1, count)
+}
+
+// Whether the book with this count is in form for n leaves.
+pub fn in_form(book: &[u64], n: usize, count: usize) -> bool
+    requires { ⌜ 384 ≤ length (now book) ⌝ }
+    ensures { λ r. ⌜ r ≡ book-in-form? n (now (book .entry)) count ⌝ }
+{
+    if count > 96 {
+        return false;
+    }
+    if !groups_in_form(book, n, 0, count) {
+        return false;
+    }
+    let at = 4 * count;
+    mark_sets::is_empty(&book[at..384])
+}
+
+// Writes the group of the list to place k of the book.
+pub fn put(book: &mut [u64], k: usize, list: &[u16])
+    requires { ⌜ (k < 96) × (384 ≤ length (now book)) ⌝ }
+    ensures { λ r. ⌜ now (book .exit) ≡ booked (now (book .entry)) k (elem (now (list .entry))) ⌝ }
+{
+    let from = 4 * k;
+    let to = from + 4;
+    mark_words::mark_list(list, &mut book[from..to]);
+}
+
+// Empties the book: its 384 words become zero.
+pub fn clear(book: &mut [u64])
+    requires { ⌜ 384 ≤ length (now book) ⌝ }
+    ensures { λ r. ⌜ now (book .exit) ≡ emptied (now (book .entry)) ⌝ }
+{
+    mark_words::clear(&mut book[0..384]);
+}
+
+// Checks 5 and 6 on the part of a list from place k on; `seen` has the marks of the leaves before it, and gets more of them.
+fn bad_leaf(list: &[u16], n: usize, k: usize, seen: &mut [u64]) -> Checked
+    requires { ⌜ (n ≤ 256) × (length (now seen) ≡ 4) × (k + length (now list) < 2 ^ 64) ⌝ }
+    ensures { λ r. ⌜ ((earlier : List ℕ) → Seen n (now (seen .entry)) earlier → refusal-in r ≡ bad-leaf n earlier k (now (list .entry))) ⌝ }
+{
+    if list.len() == 0 {
+        return Checked::Fine;
+    }
+    let b = list[0];
+    if b == 0 {
+        return Checked::Bad(Refusal::OutsideRing(k));
+    }
+    if b as usize > n {
+        return Checked::Bad(Refusal::OutsideRing(k));
+    }
+    if mark_words::test(seen, b) {
+        return Checked::Bad(Refusal::Repeated(k));
+    }
+    mark_words::set(seen, b);
+    bad_leaf(&list[1..], n, k + 1, seen)
+}
+
+// Checks 4, 5 and 6: whether the list is a group of a ring with n leaves.
+pub fn check_list(list: &[u16], n: usize) -> Checked
+    requires { ⌜ n ≤ 256 ⌝ }
+    ensures { λ r. ⌜ refusal-in r ≡ first-refusal (list-checks n (now (list .entry))) ⌝ }
+{
+    if list.len() == 0 {
+        return Checked::Bad(Refusal::EmptyGroup);
+    }
+    let mut seen = [0u64; 4];
+    bad_leaf(list, n, 0, &mut seen)
+}

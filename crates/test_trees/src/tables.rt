@@ -1,0 +1,14 @@
+// A node table, by the text of its tree.
+use spec_calls::Answer;
+
+// Whether the table holds a tree of n leaves whose text is this one.
+pub fn is_text(n: usize, nodes: &[u16], want: &[u8]) -> bool {
+    let mut bytes = [0u8; 2048];
+    let Answer::Done(k) = call_text::write(n, nodes, 256, &mut bytes) else {
+        return false;
+    };
+    if k > 2048 {
+        return false;
+    }
+    test_fields::equal(&bytes[0..k], want)
+}

@@ -1,0 +1,38 @@
+-- What the update reads, writes and answers.
+use mathlib.Core.Path.{_≡_}
+use mathlib.Core.Option.{Option, none, some}
+use mathlib.Core.List.{List}
+use Prim.Native.Nat.{ℕ, _≤_}
+use lib.ListN.{length, take}
+use Rattle.spec_orders.specs.Lists.{All, Distinct}
+use Rattle.spec_orders.specs.Tree.{Forest, items, frontier}
+use Rattle.spec_orders.specs.Form.{Canonical, Single, InForm}
+use Rattle.tree_tokens.specs.Tokens.{Wrote}
+use Rattle.tree_pieces.specs.Writers.{flat}
+use Rattle.tree_update.specs.declared.Updated.{Updated}
+use Rattle.tree_update.specs.declared.Updated.the-variants.{Impossible, Tokens}
+
+-- new begins with xs, and r says how many.
+pub record Begins (xs new : List ℕ) (r : ℕ) : Type 0 where
+  pub many : r ≡ length xs
+  pub text : take r new ≡ xs
+
+-- The tokens are those of a tree in form for n leaves, at most 256.
+abbrev pub Published : ℕ → List ℕ → Type 0
+Published n toks = (t : Forest) × (toks ≡ flat t) × InForm n t × (n ≤ 256)
+
+-- A tree of some of the leaves 2 to n: at most one item, in the published form, and no leaf twice.
+pub record FormWithin (n : ℕ) (t : Forest) : Type 0 where
+  pub single : Single (items t)
+  pub canonical : Canonical t
+  pub different : Distinct (frontier t)
+  pub in-range : All (λ b. (2 ≤ b) × (b ≤ n)) (frontier t)
+
+-- The tokens are those of such a tree, n at most 256.
+abbrev pub TokensWithin : ℕ → List ℕ → Type 0
+TokensWithin n toks = (t : Forest) × (toks ≡ flat t) × FormWithin n t × (n ≤ 256)
+
+-- The answer: there is no tree, and out stays as it was; or the tree is written to its start, and the answer says how many tokens.
+pub data Answers : Option Forest → List ℕ → List ℕ → Updated → Type 0 where
+  impossible : {old new : List ℕ} → new ≡ old → Answers none old new Impossible
+  written : {t : Forest} {old new : List ℕ} {k : ℕ} → Wrote (flat t) old new k → Answers (some t) old new (Tokens k)
