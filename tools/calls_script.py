@@ -1,15 +1,15 @@
 #!/usr/bin/env python3
 """Writes crates/test_calls/data/script.txt, a script of calls, and crates/test_calls/stdout, what the program must print for it.
 
-    tools/calls_script.py [ORACLE]      ORACLE: the folder of oracle.py (../shared/oracle beside the repository)
+    tools/calls_script.py
 
-Every answer, and what every table holds afterwards, is the oracle's. crates/test_commands/src/lib.rt and
+Every answer, and what every table holds afterwards, is that of rust/plain, the planner in plain Rust. crates/test_commands/src/lib.rt and
 crates/test_calls/src/main.rt say what a command is.
 """
 import itertools
 import os
 
-from calls_oracle import HERE, ROW, ROWS, WORDS, Script
+from plain_calls import HERE, ROW, ROWS, WORDS, Script
 
 LARGEST = 2 ** 64 - 1
 
@@ -231,13 +231,13 @@ def random_damage(s, r):
         count = 0
         for g in groups:
             count += s.join(n, count, g)[0] == 0
-        used = next(i for i in range(256) if s.nodes.cells[ROW * i] == 0)
+        used = next(i for i in range(256) if s.nodes()[ROW * i] == 0)
         kept = s.kept()
         for _ in range(6):
             for _ in range(1 + r.below(2)):
                 row = r.below(used + 1)
-                i = ROW * row + r.below(2 + s.nodes.cells[ROW * row + 1] % 256 + 1)
-                v = r.pick([0, 1, 2, 3, s.nodes.cells[i] + 1, n, n + 1, 256, 257, 258, 256 + used, 1 + r.below(n), 1 + r.below(n), r.below(65536)])
+                i = ROW * row + r.below(2 + s.nodes()[ROW * row + 1] % 256 + 1)
+                v = r.pick([0, 1, 2, 3, s.nodes()[i] + 1, n, n + 1, 256, 257, 258, 256 + used, 1 + r.below(n), 1 + r.below(n), r.below(65536)])
                 s.node(i, v % 65536)
             ask(s, n, count, r.pick(groups), s.kept(), "TSW")
             s.restore(kept)
@@ -287,7 +287,7 @@ def large(s):
     s.text(n)
     for i in (0, 1, 2, 3, 4, 5, 256, 257):
         for r in (252, 253, 254, 255):
-            s.node(ROW * r + i % ROW, s.nodes.cells[ROW * r + i % ROW] + 1)
+            s.node(ROW * r + i % ROW, s.nodes()[ROW * r + i % ROW] + 1)
             s.order(n)
             s.restore(kept)
     s.join(n, 0, [2, 4])

@@ -1,0 +1,66 @@
+//! Calls to be counted by `rust/count`: on a ring of n leaves and a book of 96 runs of one random circular order, and a conflict call on a chain of
+//! pairs, all of which its list names. Prints how often each call was made.
+//!
+//!     count n
+use tokuwhape::{aim, conflict, join, open, order, read, trial, write, Node, GROUPS, RECORDS, TEXT, WORDS};
+
+/// Marsaglia's xorshift32.
+struct Draws(u32);
+
+impl Draws {
+    fn below(&mut self, k: usize) -> usize {
+        self.0 ^= self.0 << 13;
+        self.0 ^= self.0 >> 17;
+        self.0 ^= self.0 << 5;
+        self.0 as usize % k
+    }
+}
+
+/// A random circular order of the leaves 1 to n.
+fn circle(n: usize, draws: &mut Draws) -> Vec<u16> {
+    let mut order: Vec<u16> = (1..=n as u16).collect();
+    for i in (1..n).rev() {
+        order.swap(i, draws.below(i + 1));
+    }
+    order
+}
+
+/// So many leaves of the circle, from a place on.
+fn run(circle: &[u16], start: usize, many: usize) -> Vec<u16> {
+    circle.iter().cycle().skip(start).take(many).copied().collect()
+}
+
+/// A book of these groups, whatever a tree allows.
+fn booked(groups: &[Vec<u16>]) -> Vec<u64> {
+    let mut book = vec![0; WORDS];
+    for (k, group) in groups.iter().enumerate() {
+        for &leaf in group {
+            book[4 * k + usize::from(leaf - 1) / 64] |= 1 << ((leaf - 1) % 64);
+        }
+    }
+    book
+}
+
+fn main() {
+    let n = std::env::args().nth(1).and_then(|n| n.parse().ok()).expect("count n");
+    let mut draws = Draws(2463534242);
+    let circle = circle(n, &mut draws);
+    let groups: Vec<_> = (0..GROUPS).map(|_| run(&circle, draws.below(n), 1 + draws.below(n - 1))).collect();
+    let (mut nodes, mut book) = (vec![Node::UNUSED; RECORDS], vec![0; WORDS]);
+    open(n, &mut nodes, &mut book).expect("opened");
+    for (count, group) in groups.iter().enumerate() {
+        trial(n, &nodes, &book, count, group).expect("possible");
+        join(n, &mut nodes, &mut book, count, group).expect("kept");
+    }
+    order(n, &nodes, &mut vec![0; n]).expect("in form");
+    for k in 1..=GROUPS {
+        aim(n, &nodes, &book, GROUPS, k).expect("consecutive");
+    }
+    let mut text = vec![0; TEXT];
+    let length = write(n, &nodes, &mut text).expect("in form");
+    read(n, &mut nodes, &mut book, &text[..length]).expect("a tree text");
+    let pairs: Vec<_> = (1..n as u16).take(GROUPS).map(|leaf| vec![leaf, leaf + 1]).collect();
+    let last = pairs.len() as u16 + 1;
+    conflict(n, &booked(&pairs), pairs.len(), &[1, last], &mut vec![0; GROUPS]).expect("a list");
+    println!("open 1 join {GROUPS} trial {GROUPS} order 1 aim {GROUPS} write 1 read 1 conflict 1");
+}
