@@ -1,23 +1,23 @@
 -- The call's checks, and its definition meets the third demand.
 use mathlib.Core.Path.{_≡_, refl, sym, ap, subst, _∙_}
 use mathlib.Core.Bool.{Bool, true, false, not, _||_}
-use mathlib.Core.Option.{Option, none, some}
+use mathlib.Core.Option.{none}
 use mathlib.Core.List.{List, [], _∷_, _++_}
-use Prim.Native.Nat.{ℕ, zero, suc, _+_, _-_, _≤_, _<_}
+use Prim.Native.Nat.{ℕ, zero, suc, _+_, _-_, _≤_}
 use native.Mathlib.Omega.{arith}
 use borrow.Author.Tests.{ne-eqb, le-ltb, eqb-false, ltb-false}
 use lib.Dec.{eqb, ltb}
 use lib.ListN.{length, take, drop, replicate}
 use lib.Seq.{take-append-seam}
 use Rattle.spec_orders.specs.Lists.{elem, numbers-from}
-use Rattle.spec_orders.specs.CircularOrder.{Restriction, WellFormed}
+use Rattle.spec_orders.specs.CircularOrder.{Restriction}
 use Rattle.spec_orders.specs.Conflict.{conflict-list, Numbers}
 use Rattle.spec_orders.proofs.Conflicts.{conflict-demand-3}
 use Rattle.spec_calls.specs.declared.Refusal.{Refusal}
 use Rattle.spec_calls.specs.declared.Refusal.the-variants.{RingSize, ShortTable, NotInForm}
-use Rattle.spec_calls.specs.Tables.{over, padded}
+use Rattle.spec_calls.specs.Tables.{padded}
 use Rattle.spec_calls.specs.Book.{groups, book-in-form?}
-use Rattle.spec_calls.specs.Refusals.{Reply, reply, reported, refuse, first-refusal, bad-size, list-checks}
+use Rattle.spec_calls.specs.Refusals.{Reply, reply, reported, refuse, first-refusal, list-checks}
 use Rattle.spec_calls.specs.Calls.{Filled, filled-as, conflict-refusal, conflicts-of, conflict-call}
 use Rattle.spec_calls.proofs.NodeTables.{padded-length}
 use Rattle.spec_calls.proofs.Demands.{passes-iff}

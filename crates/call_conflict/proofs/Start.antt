@@ -7,9 +7,9 @@ use mathlib.Core.List.{List, [], _∷_, _++_}
 use Prim.Native.Nat.{ℕ, zero, suc, _≤_}
 use native.Mathlib.Decide.{ℕ-discrete}
 use native.Mathlib.Omega.{arith}
-use Rattle.spec_orders.specs.Lists.{All, In, those-of}
+use Rattle.spec_orders.specs.Lists.{In, those-of}
 use Rattle.spec_orders.specs.CircularOrder.{others, CircularOrder, Restriction, Consecutive}
-use Rattle.spec_orders.specs.Tree.{Forest, Allowed}
+use Rattle.spec_orders.specs.Tree.{Forest}
 use Rattle.spec_orders.specs.Join.{join}
 use Rattle.spec_orders.proofs.Rearranged.{perm-all, perm-distinct}
 use Rattle.spec_orders.proofs.Members.{in-all, all-in}

@@ -1,11 +1,11 @@
 -- What a text's reader answers and leaves, and that writing and reading undo each other.
-use mathlib.Core.Path.{_≡_, refl, sym, _∙_, ap, subst}
+use mathlib.Core.Path.{_≡_, sym, subst}
 use mathlib.Core.Option.{none, some}
 use mathlib.Core.List.{List}
 use Prim.Native.Nat.{ℕ}
 use Rattle.spec_orders.specs.Tree.{Forest}
 use Rattle.spec_orders.specs.Form.{InForm}
-use Rattle.spec_orders.specs.TreeText.{tree-text, tree, refused, Reads, accepted}
+use Rattle.spec_orders.specs.TreeText.{tree, refused, Reads, accepted}
 use Rattle.spec_calls.specs.declared.Refusal.{Refusal}
 use Rattle.spec_calls.specs.declared.Refusal.the-variants.{TreeText}
 use Rattle.spec_calls.specs.Tables.{over}

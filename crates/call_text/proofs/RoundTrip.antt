@@ -15,9 +15,9 @@ use Rattle.spec_calls.specs.declared.Refusal.{Refusal}
 use Rattle.spec_calls.specs.declared.Refusal.the-variants.{TreeText}
 use Rattle.spec_calls.specs.Tables.{over, padded}
 use Rattle.spec_calls.specs.Book.{emptied}
-use Rattle.spec_calls.specs.NodeTable.{table-of, Holds, tree-in}
+use Rattle.spec_calls.specs.NodeTable.{table-of, Holds}
 use Rattle.spec_calls.specs.Refusals.{Reply, reply, reported, short}
-use Rattle.spec_calls.specs.Calls.{Ring, ring, Filled, filled-as, filled, of-tree, table-checks, open-refusal, write-refusal, write-call, ReadCall, unread, read, read-outcome}
+use Rattle.spec_calls.specs.Calls.{Ring, Filled, filled-as, filled, of-tree, open-refusal, write-refusal, write-call, ReadCall, unread, read, read-outcome}
 use Rattle.spec_calls.specs.Demands.{LentTree}
 use Rattle.spec_calls.proofs.NodeTables.{tree-in-holds, table-length, over-holds}
 use Rattle.spec_calls.proofs.Demands.{size-fine, nodes-fine}

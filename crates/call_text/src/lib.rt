@@ -6,7 +6,7 @@ ghost use Rattle.spec_orders.specs.Tree.{Forest};
 ghost use Rattle.spec_orders.specs.TreeText.{text};
 ghost use Rattle.spec_calls.specs.Refusals.{report};
 ghost use Rattle.spec_calls.specs.Promises.{WritePromise, ReadPromise};
-ghost use Rattle.tree_tokens.specs.Tokens.{tree, plain, encode, Wrote};
+ghost use Rattle.tree_tokens.specs.Tokens.{plain, encode, Wrote};
 ghost use Rattle.table_row.specs.Rows.{Formed};
 ghost use Rattle.call_text.specs.Fills.{Fills};
 use call_checks::Lent;

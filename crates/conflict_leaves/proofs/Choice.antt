@@ -1,6 +1,5 @@
 -- The leaves to go by, as marks: words united, every leaf of the book's groups, and the first leaf that is in none.
 use mathlib.Core.Path.{_≡_, refl, sym, ap, ap₂, subst, _∙_}
-use mathlib.Core.Logic.{_⊎_, inl, inr}
 use mathlib.Core.Bool.{Bool, false, true, _||_, true≢false, or-true}
 use mathlib.Core.List.{List}
 use Prim.Native.Nat.{ℕ, _+_, _-_, _*_, _^_, _≤_, _<_}
@@ -11,7 +10,7 @@ use lib.Bits.{bitOr, or-lt}
 use lib.Dec.{eqb}
 use lib.ListN.{length, getD, take, drop}
 use Rattle.spec_orders.specs.CircularOrder.{Restriction}
-use Rattle.mark_words.specs.Marks.{bit, marked, word-of, words-of, with-leaf}
+use Rattle.mark_words.specs.Marks.{marked, word-of, words-of, with-leaf}
 use Rattle.mark_words.proofs.Word.{word-is, bit-or}
 use Rattle.mark_words.proofs.Words.{marked-at, marked-words}
 use Rattle.mark_words.proofs.Leaves.{marked-range}

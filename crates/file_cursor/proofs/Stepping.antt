@@ -3,7 +3,7 @@ use mathlib.Core.Path.{_≡_, sym, _∙_, ap, subst}
 use mathlib.Core.Bool.{Bool, true, false, cond}
 use mathlib.Core.List.{List, [], _∷_, _++_}
 use mathlib.Core.Option.{none, some}
-use Prim.Native.Nat.{ℕ, suc, _+_, _≤_, _<_}
+use Prim.Native.Nat.{ℕ, suc, _≤_, _<_}
 use native.Mathlib.Omega.{arith}
 use lib.Dec.{eqb}
 use lib.ListN.{length, take, getD}
@@ -11,7 +11,7 @@ use borrow.Author.Tests.{eq-eqb, ne-eqb, lt-ltb, le-ltb}
 use Rattle.spec_orders.specs.Lists.{elem}
 use Rattle.file_syntax.specs.RingFile.{alphabet, Value, off, on, hyphen, value-byte}
 use Rattle.file_syntax.specs.Words.{spaced}
-use Rattle.file_syntax.specs.Scanner.{naming, due, got, file-start, Sort, letter, space, end, other, sort, value, when, on-value, on-got, file-step, Naming}
+use Rattle.file_syntax.specs.Scanner.{naming, due, got, Sort, letter, space, end, other, sort, value, when, on-value, on-got, file-step, Naming}
 use Rattle.file_cursor.specs.Cursors.{CursorStands, Stepped, Advances}
 use Rattle.file_cursor.specs.declared.Cursor.{Cursor}
 use Rattle.file_syntax.proofs.Steps.{value-of-byte}

@@ -1,19 +1,18 @@
 -- The aim of a well-formed group in the standard order, from its mark words.
-use mathlib.Core.Path.{_≡_, refl, sym, ap, subst, _∙_}
-use mathlib.Core.List.{List, _∷_}
-use Prim.Native.Nat.{ℕ, suc, _+_, _-_, _*_, _/_, _%_, _≤_, _<_}
+use mathlib.Core.Path.{_≡_, sym, ap, _∙_}
+use mathlib.Core.List.{List}
+use Prim.Native.Nat.{ℕ, _+_, _-_, _/_, _%_, _≤_}
 use native.Mathlib.Nat.{mod-lt}
 use native.Mathlib.Omega.{arith}
-use lib.ListN.{length, getD}
+use lib.ListN.{length}
 use Rattle.spec_orders.specs.Lists.{All, elem, numbers-from}
 use Rattle.spec_orders.specs.CircularOrder.{Restriction, WellFormed}
-use Rattle.spec_orders.specs.Tree.{frontier}
 use Rattle.spec_orders.specs.Form.{standard}
 use Rattle.spec_orders.specs.Aim.{count-in, run-start, aim-of}
 use Rattle.spec_orders.proofs.ListLaws.{all-map, all-at}
 use Rattle.spec_orders.proofs.Members.{in-all}
 use Rattle.spec_orders.proofs.Rearranged.{perm-all}
-use Rattle.spec_orders.proofs.Numbers.{in-range, count, count-elem}
+use Rattle.spec_orders.proofs.Numbers.{in-range, count-elem}
 use Rattle.spec_orders.proofs.TextTree.{form-length}
 use Rattle.mark_words.specs.Marks.{marked, words-of, leaves-of}
 use Rattle.mark_words.proofs.Words.{length-words}

@@ -1,11 +1,11 @@
 -- The printed lines from the fields and the file; the four lines that end the listing.
-use mathlib.Core.Path.{_≡_, refl, sym, ap, ap₂, subst, _∙_}
-use mathlib.Core.List.{List, [], _∷_, _++_}
+use mathlib.Core.Path.{_≡_, sym, ap, ap₂, subst, _∙_}
+use mathlib.Core.List.{List, [], _++_}
 use Prim.Native.Nat.{ℕ, _+_, _-_, _≤_, _<_}
 use native.Mathlib.Omega.{arith}
 use lib.ListN.{length, getD}
 use Rattle.spec_orders.specs.Tree.{Forest}
-use Rattle.spec_orders.specs.Form.{InForm, standard}
+use Rattle.spec_orders.specs.Form.{standard}
 use Rattle.spec_orders.specs.TreeText.{digits, tree-text}
 use Rattle.spec_orders.specs.Circles.{bytes}
 use Rattle.spec_orders.proofs.TextTree.{text-length}

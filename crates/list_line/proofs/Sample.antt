@@ -1,7 +1,7 @@
 -- The sample of document 01, computed.
 use mathlib.Core.Path.{_≡_, refl}
-use mathlib.Core.Bool.{Bool, true}
-use mathlib.Core.List.{[], _∷_, _++_}
+use mathlib.Core.Bool.{true}
+use mathlib.Core.List.{[], _∷_}
 use Rattle.spec_orders.specs.Lists.{same}
 use Rattle.spec_orders.specs.Reduce.{reduce}
 use Rattle.spec_orders.specs.TreeText.{digits-in, digits, tree-text}

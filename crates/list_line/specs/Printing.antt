@@ -12,7 +12,6 @@ use Rattle.file_read.specs.RingFile.{FileHolds}
 use Rattle.list_ring.specs.Ledger.{opened, outcome, run, state-at}
 use Rattle.list_ring.specs.Stands.{lists-of, StandsAt}
 use Rattle.list_fields.specs.Fields.{spaced-names, fields}
-use Rattle.list_line.specs.Listing.{printed}
 
 -- The line of group line l, from 0, without its byte 10.
 unfoldable pub group-line : List (List ℕ) → List ℕ → List (List ℕ) → ℕ → List ℕ

@@ -2,14 +2,14 @@
 use mathlib.Core.Path.{_≡_, refl, sym, ap, subst, _∙_}
 use mathlib.Core.Bool.{Bool, true, false, cond}
 use mathlib.Core.Option.{Option, none, some}
-use mathlib.Core.List.{List, [], _∷_, _++_}
-use Prim.Native.Nat.{ℕ, suc, _+_, _-_, _*_, _≤_, _<_}
+use mathlib.Core.List.{List, [], _∷_}
+use Prim.Native.Nat.{ℕ, _+_, _-_, _≤_, _<_}
 use native.Mathlib.Omega.{arith}
 use borrow.Author.Tests.{eq-eqb, ne-eqb, eqb-false}
 use lib.Dec.{eqb}
 use lib.ListN.{length, take, drop, set, length-append}
 use Rattle.spec_orders.specs.Lists.{elem}
-use Rattle.spec_orders.specs.CircularOrder.{Restriction, WellFormed}
+use Rattle.spec_orders.specs.CircularOrder.{Restriction}
 use Rattle.spec_orders.specs.Tree.{Forest}
 use Rattle.spec_orders.specs.Join.{fresh, join}
 use Rattle.spec_orders.proofs.Fresh.{fresh-form}
@@ -24,7 +24,7 @@ use Rattle.tree_update.specs.declared.Updated.{Updated}
 use Rattle.tree_update.specs.declared.Updated.the-variants.{Impossible, Tokens}
 use Rattle.tree_update.specs.Update.{Answers as Joined, Published}
 use Rattle.conflict_rule.proofs.Joined.{answers-tree, no-tree}
-use Rattle.list_ring.specs.Ledger.{Outcome, kept, refused, empty, full, RingState, opened, joined, outcome, next}
+use Rattle.list_ring.specs.Ledger.{Outcome, kept, empty, full, RingState, opened, joined, outcome, next}
 use Rattle.list_ring.specs.declared.Tried.{Tried}
 use Rattle.list_ring.specs.declared.Tried.the-variants.{Kept, Stays}
 use Rattle.list_ring.specs.Stands.{RingStands, Line, LineAnswers, is-kept, is-refused, is-empty, is-full}

@@ -5,7 +5,7 @@ use native.Mathlib.Omega.{arith}
 use mathlib.Core.Path.{_≡_, refl, sym, _∙_, ap, subst}
 use mathlib.Core.Logic.{_⊎_, inl, inr}
 use mathlib.Core.List.{List, [], _∷_, _++_, append-assoc, append-nil}
-use lib.ListN.{length, getD, take, drop, set, length-set, length-append, length-drop, length-take, drop-of-length-le}
+use lib.ListN.{length, getD, take, drop, set, length-set, length-append, length-drop, drop-of-length-le}
 use lib.Seq.{take-at, take-suc, drop-append-add, drop-drop, drop-cons, set-at, paste, paste-suc, length-paste, take-suc-set, take-all, drop-set-lt, getD-drop, length-take-le}
 use Rattle.record_copy.specs.declared.Node.{Node}
 use Rattle.record_copy.specs.Rows.{zero-node, row-of, rows-of, put-row, node-at, nodes-of, with-rows, node-rows, zero-rows, Sound}

@@ -3,7 +3,7 @@
 -- The rest of the context is as it was, and in the operands its positions are the same. ℓ is the lifetime's name in the function's signature, ℓ′ that of the array in the core's.
 -- Assumes `Given`.
 use mathlib.Core.Path.{_≡_, refl, sym, _∙_, ap, subst}
-use Prim.Native.Nat.{ℕ, _+_, _*_}
+use Prim.Native.Nat.{ℕ, _*_}
 use mathlib.Core.List.{List, [], _∷_, _++_}
 use lib.ListN.{length, take, drop as dropN}
 use lib.Dec.{lit<}
@@ -18,11 +18,10 @@ use prog.Routine.{Routine}
 use prog.Wp.{Heap, Env, Calls, Loops}
 use ghost.Atoms.{Atoms, sem}
 use contract.Monad.{Fun, fact}
-use types.Kit.{Given, Item, Post, Seq, runs, lands, ‵, raw, some, later, _⊛_, _$_, _∵_, !, qed, move, drop, use1, use2, use3, split, join, pick, rewrite, fsplit, fjoin, feqL, feqI, frame, await, done}
+use types.Kit.{Given, Item, Post, Seq, runs, lands, ‵, raw, some, later, _⊛_, _$_, _∵_, !, qed, move, drop, use1, use2, use3, split, join, pick, rewrite, fsplit, fjoin, feqL, frame, await, done}
 use types.Run.{Opds}
 use types.Tokens.{lft-new, lft-end, lent-back}
 use sound.WpLaws.{FmC}
-use denote.RattleType.{RattleType}
 use denote.Laws.{Is, shows}
 use denote.Builtin.{u16, unit, usize}
 use denote.Ref.{RefT}

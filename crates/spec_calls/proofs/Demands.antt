@@ -1,17 +1,17 @@
 -- The calls' definitions meet the second demand; and a list is refused by 4, 5 or 6 just when it is not well formed.
-use mathlib.Core.Path.{_≡_, refl, sym, _∙_, ap, subst}
+use mathlib.Core.Path.{_≡_, refl, sym, ap, subst}
 use mathlib.Core.Logic.{_↔_, _≢_}
-use mathlib.Core.Bool.{Bool, true, false, not, cond, _||_, true≢false}
+use mathlib.Core.Bool.{Bool, true, false, cond, _||_, true≢false}
 use mathlib.Core.Option.{Option, none, some}
 use mathlib.Core.List.{List, [], _∷_, _++_}
-use Prim.Native.Nat.{ℕ, suc, _≤_, _<_}
+use Prim.Native.Nat.{ℕ, suc, _≤_}
 use native.Mathlib.Nat.{pos-of-ne-zero}
 use native.Mathlib.Omega.{arith}
 use borrow.Author.Tests.{ne-eqb, le-ltb, eqb-false, ltb-false}
 use lib.Dec.{eqb, ltb}
 use lib.ListN.{length, take, drop}
 use lib.Seq.{take-append-seam}
-use Rattle.spec_orders.specs.Lists.{All, Distinct, In, elem}
+use Rattle.spec_orders.specs.Lists.{All, Distinct, elem}
 use Rattle.spec_orders.specs.CircularOrder.{Restriction, WellFormed}
 use Rattle.spec_orders.specs.Tree.{Forest}
 use Rattle.spec_orders.specs.Form.{InForm, standard, StandardOrder}
@@ -19,15 +19,12 @@ use Rattle.spec_orders.specs.Join.{join}
 use Rattle.spec_orders.proofs.StandardOrders.{standard-is}
 use Rattle.spec_orders.proofs.TextTree.{form-length}
 use Rattle.spec_orders.proofs.Joining.{join-none, join-some}
-use Rattle.spec_orders.proofs.Tests.{false-if}
 use Rattle.spec_calls.specs.declared.Refusal.{Refusal}
 use Rattle.spec_calls.specs.declared.Refusal.the-variants.{OutsideRing, Repeated, BookFull, Impossible}
-use Rattle.spec_calls.specs.Tables.{over}
-use Rattle.spec_calls.specs.Book.{book-in-form?}
-use Rattle.spec_calls.specs.NodeTable.{Holds, table-of, tree-in}
-use Rattle.spec_calls.specs.Refusals.{Reply, refuse, first-refusal, bad-size, short, short-nodes, bad-leaf, list-checks}
+use Rattle.spec_calls.specs.NodeTable.{tree-in}
+use Rattle.spec_calls.specs.Refusals.{Reply, refuse, first-refusal, bad-size, short-nodes, bad-leaf, list-checks}
 use Rattle.spec_calls.specs.Calls.{is-none, joined-tree, join-refusal, joined, join-call, order-refusal, order-call}
-use Rattle.spec_calls.specs.Demands.{LentTree, LentRing, ImpossibleIff, NewTree, Joins}
+use Rattle.spec_calls.specs.Demands.{LentTree, LentRing, Joins}
 use Rattle.spec_calls.proofs.NodeTables.{tree-in-holds, over-holds}
 
 -- ---- lists

@@ -16,7 +16,7 @@ use Rattle.spec_orders.specs.TreeText.{Found}
 use Rattle.spec_calls.specs.declared.Refusal.{Refusal}
 use Rattle.spec_calls.specs.declared.Refusal.the-variants.{OutsideRing, Repeated}
 use Rattle.spec_calls.specs.Refusals.{bad-leaf}
-use Rattle.spec_calls.specs.Calls.{Ring, ring, filled, opened, open-refusal, open-call, joined, join-refusal, joined-tree, join-call, read-outcome, ReadCall, unread, read}
+use Rattle.spec_calls.specs.Calls.{Ring, filled, opened, open-refusal, open-call, joined, join-refusal, joined-tree, join-call, read-outcome, ReadCall, unread, read}
 use Rattle.spec_calls.proofs.Demands.{Fine, fine-more}
 
 -- "Left as it was: every table."

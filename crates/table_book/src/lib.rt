@@ -2,7 +2,7 @@
 ghost use mathlib.Core.Path.{_≡_};
 ghost use Prim.Native.Nat.{ℕ, _≤_, _<_, _+_, _^_};
 ghost use lib.ListN.{length};
-ghost use mathlib.Core.List.{List, []};
+ghost use mathlib.Core.List.{List};
 ghost use Rattle.spec_orders.specs.Lists.{elem};
 ghost use Rattle.spec_calls.specs.Refusals.{first-refusal, bad-leaf, list-checks};
 ghost use Rattle.spec_calls.specs.Book.{group-in-form?, book-in-form?, booked, emptied};

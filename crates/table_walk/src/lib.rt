@@ -3,7 +3,7 @@ ghost use mathlib.Core.Path.{_≡_};
 ghost use Prim.Native.Nat.{_<_, _≤_};
 ghost use lib.ListN.{length};
 ghost use Rattle.spec_calls.specs.NodeTable.{kind-of, spelled-items, spelled};
-ghost use Rattle.tree_tokens.specs.Tokens.{E, tree, node-token};
+ghost use Rattle.tree_tokens.specs.Tokens.{E, node-token};
 ghost use Rattle.table_walk.specs.Walks.{NodeStands, PlacesStand, Walks, Spells};
 
 // What a walk finds: how many tokens it wrote; or the records are those of no tree.

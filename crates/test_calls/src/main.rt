@@ -2,7 +2,6 @@
 // lent to it. A command is a letter and numbers, one space before each: one of those of crate vector_commands, or
 //
 //   C n b count c list         the conflict list of a group, into the first c places of the conflicts
-ghost use Prim.Native.Nat.{_≤_};
 use spec_calls::Answer;
 use test_fields::at;
 use test_fields::least;

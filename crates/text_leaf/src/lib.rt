@@ -5,7 +5,6 @@ ghost use Prim.Native.Nat.{ℕ, _+_, _-_, _*_, _≤_, _<_};
 ghost use lib.ListN.{length, getD};
 ghost use Rattle.tree_tokens.specs.Tokens.{E, node-token};
 ghost use Rattle.text_scanner.specs.Scan.{letter?};
-ghost use Rattle.text_scanner.specs.Unused.{unused};
 ghost use Rattle.text_leaf.specs.Passages.{Marks, ItemRead, kind-of-letter};
 
 // How far the text was read: up to the byte `at`, with `left` leaves unused and `count` tokens written; or, where not `ok`, the byte of the refusal.

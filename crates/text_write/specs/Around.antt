@@ -1,5 +1,5 @@
 -- The tree text by the first item of a sequence: what stands before that item's own items, and after them up to the next item.
-use mathlib.Core.List.{List, [], _∷_, _++_}
+use mathlib.Core.List.{List, [], _∷_}
 use Prim.Native.Nat.{ℕ}
 use Rattle.spec_orders.specs.Tree.{Forest, nil, leaf, node}
 use Rattle.spec_orders.specs.TreeText.{digits, letter}

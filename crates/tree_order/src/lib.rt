@@ -1,7 +1,6 @@
 // The standard order: leaf 1, and then the leaves of the tree from left to right.
 ghost use mathlib.Core.Path.{_≡_};
 ghost use lib.ListN.{length};
-ghost use Rattle.spec_orders.specs.Tree.{frontier};
 ghost use Rattle.spec_orders.specs.Form.{standard};
 ghost use Rattle.tree_tokens.specs.Tokens.{Judged, tree, encode, Wrote};
 ghost use Rattle.tree_frontier.specs.Room.{Room};

@@ -1,15 +1,15 @@
 // Parts of a judged sequence: items by state, and the small trees that are made of them.
 ghost use mathlib.Core.Path.{_≡_};
 ghost use mathlib.Core.List.{reverse};
-ghost use Prim.Native.Nat.{ℕ, _+_, _<_, _≤_};
+ghost use Prim.Native.Nat.{_+_, _<_, _≤_};
 ghost use lib.Dec.{leb};
 ghost use lib.ListN.{length};
-ghost use Rattle.spec_orders.specs.Tree.{P, Forest, nil, node};
+ghost use Rattle.spec_orders.specs.Tree.{Forest};
 ghost use Rattle.spec_orders.specs.Form.{first};
 ghost use Rattle.spec_orders.specs.Reduce.{pack, put-sorted};
 ghost use Rattle.tree_tokens.specs.Tokens.{Judged, tree, plain, encode, Tokens, Wrote};
 ghost use Rattle.tree_tokens.specs.Views.{first-of};
-ghost use Rattle.tree_judge.specs.Judge.{all-empty, rises};
+ghost use Rattle.tree_judge.specs.Judge.{rises};
 ghost use Rattle.tree_judge.specs.Total.{states-of, whole-of, c-node-of, totals};
 ghost use Rattle.tree_pieces.specs.Writers.{flat, Fits, with-state, all-with-state, from-partial};
 

@@ -7,7 +7,7 @@ ghost use Rattle.spec_orders.specs.Lists.{same, numbers-from};
 ghost use Rattle.spec_orders.specs.Tree.{frontier, rev, items};
 ghost use Rattle.spec_orders.specs.Form.{first, nodes};
 ghost use Rattle.spec_orders.specs.Join.{fresh, leaf-items};
-ghost use Rattle.tree_tokens.specs.Tokens.{State, number, Judged, tree, plain, j-rev, encode, Tokens, Wrote};
+ghost use Rattle.tree_tokens.specs.Tokens.{number, Judged, tree, plain, j-rev, encode, Tokens, Wrote};
 ghost use Rattle.tree_tokens.specs.Views.{shape-of, state-of, leaf-of, first-of, items-of, rest-of};
 
 // The first item's shape: 1 a leaf, 2 a P-node, 3 a C-node.

@@ -4,26 +4,6 @@ use Prim.Native.Nat.{ℕ}
 use Rattle.spec_calls.specs.Promises.{JoinPromise}
 use Rattle.c_update.proofs.join.Statement.{statement}
 use Rattle.c_update.proofs.join.Tie as tie
-use Rattle.c_update.proofs.join.Reads as reads
-use Rattle.c_update.proofs.join.Lts as lts
-use Rattle.spec_calls.proofs.code.Reads as code-reads
-use Rattle.c_rows.proofs.records.Reads as records-reads
-use Rattle.call_update.proofs.join.Reads as join-reads
-
-records-requires : tie.Need-records-requires
-records-requires c κs = search needs
-
-join-requires : tie.Need-join-requires
-join-requires c κs = search needs
-
-code-requires : tie.Need-code-requires
-code-requires c κs = search needs
-
-same-length : tie.Need-same-length
-same-length c = search needs
-
-same-length-2 : tie.Need-same-length-2
-same-length-2 c = search needs
 
 returns : tie.Need-returns
 returns c = coded (λ (have : ℕ). JoinPromise (c .before .before .before .before .before .before .before .before .before .before .before .before .before .before .args .n) (c .before .before .before .before .before .before .before .before .before .before .before .before .before .before .args .nodes .now) have (c .before .before .before .before .before .before .before .before .before .before .before .before .before .before .args .book .now) (c .before .before .before .before .before .before .before .before .before .before .before .before .before .before .args .count) (c .before .before .before .before .before .before .before .before .before .before .before .before .before .before .args .list .now) (c .before .before .before .before .before .before .join .last .1 .0) (c .before .before .before .before .before .before .join .last .1 .1 .1 .0)) (c .before .before .before .before .before .before .before .before .before .records .ensures) (c .code .ensures) (c .before .before .before .before .before .before .join .ensures)
@@ -31,4 +11,4 @@ returns c = coded (λ (have : ℕ). JoinPromise (c .before .before .before .befo
 pub join-spec : {M : Type 1} → statement M
 join-spec =
     tie.close
-    (tie.spec records-requires join-requires code-requires same-length same-length-2 returns)
+    (tie.spec (λ c κs. search needs) (λ c κs. search needs) (λ c κs. search needs) (λ c. search needs) (λ c. search needs) returns)

@@ -4,23 +4,9 @@ use Prim.Native.Nat.{ℕ}
 use Rattle.spec_calls.specs.Promises.{TrialPromise}
 use Rattle.c_update.proofs.trial.Statement.{statement}
 use Rattle.c_update.proofs.trial.Tie as tie
-use Rattle.c_update.proofs.trial.Reads as reads
-use Rattle.c_update.proofs.trial.Lts as lts
-use Rattle.spec_calls.proofs.code.Reads as code-reads
-use Rattle.c_rows.proofs.records.Reads as records-reads
-use Rattle.call_update.proofs.trial.Reads as trial-reads
-
-records-requires : tie.Need-records-requires
-records-requires c κs = search needs
-
-trial-requires : tie.Need-trial-requires
-trial-requires c κs = search needs
-
-code-requires : tie.Need-code-requires
-code-requires c κs = search needs
 
 returns : tie.Need-returns
 returns c = coded (λ (have : ℕ). TrialPromise (c .before .before .before .before .before .before .before .args .n) (c .before .before .before .before .before .before .before .args .nodes .now) have (c .before .before .before .before .before .before .before .args .book .now) (c .before .before .before .before .before .before .before .args .count) (c .before .before .before .before .before .before .before .args .list .now)) (c .before .before .before .records .ensures) (c .code .ensures) (c .before .before .trial .ensures)
 
 pub trial-spec : {M : Type 1} → statement M
-trial-spec = tie.close (tie.spec records-requires trial-requires code-requires returns)
+trial-spec = tie.close (tie.spec (λ c κs. search needs) (λ c κs. search needs) (λ c κs. search needs) returns)

@@ -3,8 +3,6 @@ use denote.Ref.{now}
 use Rattle.call_checks.proofs.Laws.{no-leaf, many-leaves, few-records, few-rows, other-short, tables-pass}
 use Rattle.call_checks.proofs.check_tables.Statement.{statement}
 use Rattle.call_checks.proofs.check_tables.Tie as tie
-use Rattle.call_checks.proofs.check_tables.Reads as reads
-use Rattle.call_checks.proofs.check_tables.Lts as lts
 
 returns : tie.Need-returns
 returns c = no-leaf (c .before .args .n) (c .before .args .have) (now (c .before .args .nodes)) (c .before .args .other) (c .if1 .taken)

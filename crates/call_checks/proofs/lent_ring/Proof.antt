@@ -7,22 +7,6 @@ use Rattle.call_checks.proofs.Laws.{tree-refused, book-long, book-refus
 use borrow.Author.Needs.{needs}
 use Rattle.call_checks.proofs.lent_ring.Statement.{statement}
 use Rattle.call_checks.proofs.lent_ring.Tie as tie
-use Rattle.call_checks.proofs.lent_ring.Reads as reads
-use Rattle.call_checks.proofs.lent_ring.Lts as lts
-use Rattle.table_book.proofs.in_form.Reads as in-form-reads
-use Rattle.call_checks.proofs.lent_tree.Reads as lent-tree-reads
-
-lent-tree-requires : tie.Need-lent-tree-requires
-lent-tree-requires c κs = search needs
-
-enum-known-found : tie.Need-enum-known-found
-enum-known-found c = search needs
-
-enum-told : tie.Need-enum-told
-enum-told c = search needs
-
-same-length : tie.Need-same-length
-same-length c = search needs
 
 returns : tie.Need-returns
 returns c = tree-refused (c .before .before .before .before .before .before .before .before .before .args .n) (c .before .before .before .before .before .before .before .before .before .args .have) (now (c .before .before .before .before .before .before .before .before .before .args .nodes)) (now (c .before .before .before .before .before .before .before .before .before .args .book)) (c .before .before .before .before .before .before .before .before .before .args .count) (now (c .before .before .before .before .before .before .before .before .before .args .toks)) (c .before .before .before .before .lent-tree .last .1 .1 .1 .1 .0) (c .before .before .before .before .lent-tree .result) (c .enum-told .given .0 .0) (c .enum-told .given .1) (c .before .before .before .before .lent-tree .ensures)
@@ -34,14 +18,8 @@ found c = subst (LendsTree (c .before .before .before .before .before .before .b
 in-form-requires : tie.Need-in-form-requires
 in-form-requires c κs = book-long (c .before .before .before .before .before .before .before .before .before .before .args .n) (c .before .before .before .before .before .before .before .before .before .before .args .have) (now (c .before .before .before .before .before .before .before .before .before .before .args .nodes)) (now (c .before .before .before .before .before .before .before .before .before .before .args .book)) (c .before .before .before .before .before .before .before .before .before .before .args .count) (found c)
 
-same-length-2 : tie.Need-same-length-2
-same-length-2 c = search needs
-
 returns-2 : tie.Need-returns-2
 returns-2 c = book-refused (c .before .before .before .before .before .before .before .before .before .before .before .before .args .n) (c .before .before .before .before .before .before .before .before .before .before .before .before .args .have) (now (c .before .before .before .before .before .before .before .before .before .before .before .before .args .nodes)) (now (c .before .before .before .before .before .before .before .before .before .before .before .before .args .book)) (c .before .before .before .before .before .before .before .before .before .before .before .before .args .count) (found (c .before .before)) (sym (c .before .in-form .ensures) ∙ not-true (c .before .in-form .result) (c .if1 .taken))
-
-same-length-3 : tie.Need-same-length-3
-same-length-3 c = search needs
 
 returns-3 : tie.Need-returns-3
 returns-3 c = ring-lent (c .before .before .before .before .before .before .before .before .before .before .before .before .args .n) (c .before .before .before .before .before .before .before .before .before .before .before .before .args .have) (now (c .before .before .before .before .before .before .before .before .before .before .before .before .args .nodes)) (now (c .before .before .before .before .before .before .before .before .before .before .before .before .args .book)) (c .before .before .before .before .before .before .before .before .before .before .before .before .args .count) (found (c .before .before)) (sym (c .before .in-form .ensures) ∙ not-false (c .before .in-form .result) (c .if1 .left))
@@ -50,13 +28,13 @@ pub lent-ring-spec : {M : Type 1} → statement M
 lent-ring-spec =
     tie.close
     (tie.spec
-    lent-tree-requires
-    enum-known-found
-    enum-told
-    same-length
+    (λ c κs. search needs)
+    (λ c. search needs)
+    (λ c. search needs)
+    (λ c. search needs)
     returns
     in-form-requires
-    same-length-2
+    (λ c. search needs)
     returns-2
-    same-length-3
+    (λ c. search needs)
     returns-3)

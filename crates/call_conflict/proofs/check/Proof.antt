@@ -6,10 +6,6 @@ use Rattle.spec_calls.specs.Calls.{conflict-refusal}
 use borrow.Author.Needs.{needs}
 use Rattle.call_conflict.proofs.check.Statement.{statement}
 use Rattle.call_conflict.proofs.check.Tie as tie
-use Rattle.call_conflict.proofs.check.Reads as reads
-use Rattle.call_conflict.proofs.check.Lts as lts
-use Rattle.table_book.proofs.check_list.Reads as check-list-reads
-use Rattle.table_book.proofs.in_form.Reads as in-form-reads
 
 returns : tie.Need-returns
 unfolding conflict-refusal
@@ -27,15 +23,9 @@ returns-4 : tie.Need-returns-4
 unfolding conflict-refusal
 returns-4 c = λ table e. rw (ne-eqb (c .before .before .before .before .before .before .args .n) 0 (c .before .before .before .if1 .left), le-ltb 256 (c .before .before .before .before .before .before .args .n) (c .before .before .if2 .left), le-ltb (length (now (c .before .before .before .before .before .before .args .book))) 384 (c .before .if3 .left), lt-ltb (length table) 96 (omega (arith, e, c .if4 .taken)))
 
-in-form-requires : tie.Need-in-form-requires
-in-form-requires c κs = search needs
-
 returns-5 : tie.Need-returns-5
 unfolding conflict-refusal
 returns-5 c = λ table e. rw (ne-eqb (c .before .before .before .before .before .before .before .before .args .n) 0 (c .before .before .before .before .before .if1 .left), le-ltb 256 (c .before .before .before .before .before .before .before .before .args .n) (c .before .before .before .before .if2 .left), le-ltb (length (now (c .before .before .before .before .before .before .before .before .args .book))) 384 (c .before .before .before .if3 .left), le-ltb (length table) 96 (omega (arith, e, c .before .before .if4 .left)), ← c .before .in-form .ensures, not-true (c .before .in-form .result) (c .if5 .taken))
-
-check-list-requires : tie.Need-check-list-requires
-check-list-requires c κs = search needs
 
 returns-6 : tie.Need-returns-6
 unfolding conflict-refusal
@@ -49,7 +39,7 @@ check-spec =
     returns-2
     returns-3
     returns-4
-    in-form-requires
+    (λ c κs. search needs)
     returns-5
-    check-list-requires
+    (λ c κs. search needs)
     returns-6)

@@ -10,28 +10,11 @@ use Rattle.call_conflict.proofs.Call.{passes-lent, call-refused, call-f
 use borrow.Author.Needs.{needs}
 use Rattle.call_conflict.proofs.conflict.Statement.{statement}
 use Rattle.call_conflict.proofs.conflict.Tie as tie
-use Rattle.call_conflict.proofs.conflict.Reads as reads
-use Rattle.call_conflict.proofs.conflict.Lts as lts
-use Rattle.call_conflict.proofs.check.Reads as check-reads
-use Rattle.call_conflict.proofs.find.Reads as find-reads
-use Rattle.tree_tokens.proofs.copy.Reads as copy-reads
-
-check-requires : tie.Need-check-requires
-check-requires c κs = search needs
-
-enum-known-checked : tie.Need-enum-known-checked
-enum-known-checked c = search needs
 
 returns : tie.Need-returns
 returns c =
     let e = call-refused (c .before .before .before .before .before .before .before .args .n) (now (c .before .before .before .before .before .before .before .args .book)) (c .before .before .before .before .before .before .before .args .count) (now (c .before .before .before .before .before .before .before .args .list)) (now (c .before .before .before .before .before .before .before .args .conflicts)) (c .before .checked .given .1) (c .before .before .before .check .ensures (now (c .before .before .before .before .before .before .before .args .conflicts)) refl) in
     (e, call-meets (c .before .before .before .before .before .before .before .args .n) (now (c .before .before .before .before .before .before .before .args .book)) (c .before .before .before .before .before .before .before .args .count) (now (c .before .before .before .before .before .before .before .args .list)) (now (c .before .before .before .before .before .before .before .args .conflicts)) e)
-
-enum-told : tie.Need-enum-told
-enum-told c = search needs
-
-slice-aggregate-find : tie.Need-slice-aggregate-find
-slice-aggregate-find c = search needs
 
 -- The checks found nothing.
 passed : (c : tie.After-enum-told) → conflict-refusal (c .before .before .before .before .before .before .args .n) (now (c .before .before .before .before .before .before .args .book)) (c .before .before .before .before .before .before .args .count) (now (c .before .before .before .before .before .before .args .list)) (now (c .before .before .before .before .before .before .args .conflicts)) ≡ none
@@ -46,14 +29,8 @@ find-requires c κs =
     let few = few-groups (c .before .before .before .before .before .before .before .args .n) (now (c .before .before .before .before .before .before .before .args .book)) (c .before .before .before .before .before .before .before .args .count) (h .in-form) in
     (h .few-leaves, h .all-words, few, few, h .group)
 
-slice-aggregate-copy : tie.Need-slice-aggregate-copy
-slice-aggregate-copy c = search needs
-
 copy-requires : tie.Need-copy-requires
 copy-requires c κs = omega (arith, c .before .before .before .find .kept .1 .1 .1 .1 .0, (lent (c .before .before .before .before .before)) .all-places)
-
-same-length : tie.Need-same-length
-same-length c = search needs
 
 returns-2 : tie.Need-returns-2
 returns-2 c =
@@ -64,13 +41,13 @@ pub conflict-spec : {M : Type 1} → statement M
 conflict-spec =
     tie.close
     (tie.spec
-    check-requires
-    enum-known-checked
+    (λ c κs. search needs)
+    (λ c. search needs)
     returns
-    enum-told
-    slice-aggregate-find
+    (λ c. search needs)
+    (λ c. search needs)
     find-requires
-    slice-aggregate-copy
+    (λ c. search needs)
     copy-requires
-    same-length
+    (λ c. search needs)
     returns-2)

@@ -22,62 +22,9 @@ use Rattle.call_conflict.proofs.Call.{list-is}
 use borrow.Author.Needs.{needs}
 use Rattle.call_conflict.proofs.find.Statement.{statement}
 use Rattle.call_conflict.proofs.find.Tie as tie
-use Rattle.call_conflict.proofs.find.Reads as reads
-use Rattle.call_conflict.proofs.find.Lts as lts
-use Rattle.conflict_rule.proofs.leave_out.Reads as leave-out-reads
-use Rattle.call_conflict.proofs.rising.Reads as rising-reads
-use Rattle.conflict_leaves.proofs.choose.Reads as choose-reads
-use Rattle.conflict_leaves.proofs.start_tree.Reads as start-tree-reads
-use Rattle.mark_words.proofs.mark_list.Reads as mark-list-reads
-use Rattle.tree_update.proofs.join.Reads as join-reads
-
-slice-aggregate-mark-list : tie.Need-slice-aggregate-mark-list
-slice-aggregate-mark-list c = search needs
-
-mark-list-requires : tie.Need-mark-list-requires
-mark-list-requires c κs = search needs
-
-array-read-t20 : tie.Need-array-read-t20
-array-read-t20 c = search needs
-
-array-read-t23 : tie.Need-array-read-t23
-array-read-t23 c = search needs
-
-array-read-t26 : tie.Need-array-read-t26
-array-read-t26 c = search needs
-
-array-read-t29 : tie.Need-array-read-t29
-array-read-t29 c = search needs
-
-slice-aggregate-choose : tie.Need-slice-aggregate-choose
-slice-aggregate-choose c = search needs
 
 choose-requires : tie.Need-choose-requires
 choose-requires c κs = (omega arith, c .before .before .before .before .before .before .before .pre .1, c .before .before .before .before .before .before .before .pre .0)
-
-slice-aggregate-start-tree : tie.Need-slice-aggregate-start-tree
-slice-aggregate-start-tree c = search needs
-
-slice-aggregate-start-tree-2 : tie.Need-slice-aggregate-start-tree-2
-slice-aggregate-start-tree-2 c = search needs
-
-start-tree-requires : tie.Need-start-tree-requires
-start-tree-requires c κs = search needs
-
-sub-join : tie.Need-sub-join
-sub-join c = search needs
-
-part-join-start : tie.Need-part-join-start
-part-join-start c = search needs
-
-part-join-end : tie.Need-part-join-end
-part-join-end c = search needs
-
-slice-aggregate-join : tie.Need-slice-aggregate-join
-slice-aggregate-join c = search needs
-
-slice-aggregate-join-2 : tie.Need-slice-aggregate-join-2
-slice-aggregate-join-2 c = search needs
 
 -- The leaves to go by; the tree of them; the tree of the new group.
 choice : (c : tie.After-choose) → Chosen (c .before .before .before .before .before .before .before .before .args .n) (elem (now (c .before .before .before .before .before .before .before .before .args .list))) (group (now (c .before .before .before .before .before .before .before .before .args .book))) (marked (c .choose .last .0))
@@ -92,35 +39,11 @@ after c = next-tree (start (c .before .before .before .before .before .before .b
 join-requires : tie.Need-join-requires
 join-requires c κs = ((start (c .before .before .before .before .before .before .before .before .before .before .before .before .before .before .before .before .before .args .n) (marked (c .before .before .before .before .before .before .before .before .before .choose .last .0)), started (c .before .before .before .before .before), start-form (choice (c .before .before .before .before .before .before .before .before .before)), c .before .before .before .before .before .before .before .before .before .before .before .before .before .before .before .before .before .pre .0), c .before .before .before .before .before .before .before .before .before .before .before .before .mark-list .kept .1 .0, omega arith)
 
-enum-known-got : tie.Need-enum-known-got
-enum-known-got c = search needs
-
-enum-told : tie.Need-enum-told
-enum-told c = search needs
-
 returns : tie.Need-returns
 returns c = absurd (one-joins (choice (c .before .before .before .before .before .before .before .before .before .before .before .before .before)) (no-tree (start (c .before .before .before .before .before .before .before .before .before .before .before .before .before .before .before .before .before .before .before .before .before .args .n) (marked (c .before .before .before .before .before .before .before .before .before .before .before .before .before .choose .last .0))) (ap marked (c .before .before .before .before .before .before .before .before .before .before .before .before .before .before .before .before .mark-list .ensures) ∙ marked-group 4 (c .before .before .before .before .before .before .before .before .before .before .before .before .before .before .before .before .before .before .before .before .before .args .n) (now (c .before .before .before .before .before .before .before .before .before .before .before .before .before .before .before .before .before .before .before .before .before .args .list)) (c .before .before .before .before .before .before .before .before .before .before .before .before .before .before .before .before .before .before .before .before .before .pre .0) (c .before .before .before .before .before .before .before .before .before .before .before .before .before .before .before .before .before .before .before .before .before .pre .4)) (c .enum-told .given .1) (c .before .before .before .join .ensures (start (c .before .before .before .before .before .before .before .before .before .before .before .before .before .before .before .before .before .before .before .before .before .args .n) (marked (c .before .before .before .before .before .before .before .before .before .before .before .before .before .choose .last .0))) (started (c .before .before .before .before .before .before .before .before .before)))))
 
-slice-aggregate-rising : tie.Need-slice-aggregate-rising
-slice-aggregate-rising c = search needs
-
-rising-requires : tie.Need-rising-requires
-rising-requires c κs = search needs
-
-sub-leave-out : tie.Need-sub-leave-out
-sub-leave-out c = search needs
-
-part-leave-out-start : tie.Need-part-leave-out-start
-part-leave-out-start c = search needs
-
 part-leave-out-end : tie.Need-part-leave-out-end
 part-leave-out-end c = omega (arith, (after (c .before .before .before .before)) .room)
-
-sub-leave-out-2 : tie.Need-sub-leave-out-2
-sub-leave-out-2 c = search needs
-
-part-leave-out-start-2 : tie.Need-part-leave-out-start-2
-part-leave-out-start-2 c = search needs
 
 part-leave-out-end-2 : tie.Need-part-leave-out-end-2
 part-leave-out-end-2 c = omega (arith, wrote-most (c .before .before .before .before .rising .ensures))
@@ -130,9 +53,6 @@ leave-out-requires c κs =
     let x = after (c .before .before .before .before .before .before .before .before) in
     let r = read-part (c .before .before .before .before .before .before .rising .ensures) in
     ((x .tree, (elem (now (c .before .before .before .before .before .before .before .before .before .before .before .before .before .before .before .before .before .before .before .before .before .before .before .before .before .before .before .before .before .before .args .list))) ∷ [], x .text, one-represented (choice (c .before .before .before .before .before .before .before .before .before .before .before .before .before .before .before .before .before .before .before .before .before .before)) (x .is), c .before .before .before .before .before .before .before .before .before .before .before .before .before .before .before .before .before .before .before .before .before .before .before .before .before .before .before .before .before .before .pre .0), c .before .before .before .before .before .before .before .before .before .before .before .before .before .before .before .before .before .before .before .before .before .before .before .before .before .before .before .before .before .before .pre .1, subst InBook (sym r) (numbers-in-book (c .before .before .before .before .before .before .before .before .before .before .before .before .before .before .before .before .before .before .before .before .before .before .before .before .before .before .before .before .before .before .args .count) (c .before .before .before .before .before .before .before .before .before .before .before .before .before .before .before .before .before .before .before .before .before .before .before .before .before .before .before .before .before .before .pre .2)), omega (arith, ap length r, numbers-length 1 (c .before .before .before .before .before .before .before .before .before .before .before .before .before .before .before .before .before .before .before .before .before .before .before .before .before .before .before .before .before .before .args .count), c .before .before .before .before .before .before .before .before .before .before .before .before .before .before .before .before .before .before .before .before .before .before .before .before .before .before .before .before .before .before .pre .3))
-
-same-length : tie.Need-same-length
-same-length c = search needs
 
 returns-2 : tie.Need-returns-2
 returns-2 c =
@@ -145,34 +65,34 @@ pub find-spec : {M : Type 1} → statement M
 find-spec =
     tie.close
     (tie.spec
-    slice-aggregate-mark-list
-    mark-list-requires
-    array-read-t20
-    array-read-t23
-    array-read-t26
-    array-read-t29
-    slice-aggregate-choose
+    (λ c. search needs)
+    (λ c κs. search needs)
+    (λ c. search needs)
+    (λ c. search needs)
+    (λ c. search needs)
+    (λ c. search needs)
+    (λ c. search needs)
     choose-requires
-    slice-aggregate-start-tree
-    slice-aggregate-start-tree-2
-    start-tree-requires
-    sub-join
-    part-join-start
-    part-join-end
-    slice-aggregate-join
-    slice-aggregate-join-2
+    (λ c. search needs)
+    (λ c. search needs)
+    (λ c κs. search needs)
+    (λ c. search needs)
+    (λ c. search needs)
+    (λ c. search needs)
+    (λ c. search needs)
+    (λ c. search needs)
     join-requires
-    enum-known-got
-    enum-told
+    (λ c. search needs)
+    (λ c. search needs)
     returns
-    slice-aggregate-rising
-    rising-requires
-    sub-leave-out
-    part-leave-out-start
+    (λ c. search needs)
+    (λ c κs. search needs)
+    (λ c. search needs)
+    (λ c. search needs)
     part-leave-out-end
-    sub-leave-out-2
-    part-leave-out-start-2
+    (λ c. search needs)
+    (λ c. search needs)
     part-leave-out-end-2
     leave-out-requires
-    same-length
+    (λ c. search needs)
     returns-2)

@@ -9,8 +9,6 @@ use Rattle.tree_tokens.proofs.Writes.{write-step}
 use Rattle.conflict_rule.proofs.Places.{numbers-more}
 use Rattle.call_conflict.proofs.rising.Statement.{statement}
 use Rattle.call_conflict.proofs.rising.Tie as tie
-use Rattle.call_conflict.proofs.rising.Reads as reads
-use Rattle.call_conflict.proofs.rising.Lts as lts
 
 abbrev Inv-loop : tie.InvT-loop
 Inv-loop count out₀ i₀ out i = (i ≤ count) × (length out ≡ length out₀) × (out ≡ numbers-from 1 i ++ drop i out₀)
@@ -20,24 +18,6 @@ abbrev μ-loop : tie.MeasureT-loop
 
 loop-holds : tie.Need-loop-holds Inv-loop μ-loop
 loop-holds c = (omega arith, refl, refl)
-
-add-out : tie.Need-add-out Inv-loop μ-loop
-add-out c = omega arith
-
-cast-out : tie.Need-cast-out Inv-loop μ-loop
-cast-out c = omega arith
-
-mul-out : tie.Need-mul-out Inv-loop μ-loop
-mul-out c = omega arith
-
-slice-write-out : tie.Need-slice-write-out Inv-loop μ-loop
-slice-write-out c = omega arith
-
-add-i : tie.Need-add-i Inv-loop μ-loop
-add-i c = omega arith
-
-loop-less : tie.Need-loop-less Inv-loop μ-loop
-loop-less c = omega arith
 
 loop-again : tie.Need-loop-again Inv-loop μ-loop
 loop-again c =
@@ -63,12 +43,12 @@ rising-spec =
     Inv-loop
     μ-loop
     loop-holds
-    add-out
-    cast-out
-    mul-out
-    slice-write-out
-    add-i
-    loop-less
+    (λ c. omega arith)
+    (λ c. omega arith)
+    (λ c. omega arith)
+    (λ c. omega arith)
+    (λ c. omega arith)
+    (λ c. omega arith)
     loop-again
     same-length
     returns)

@@ -12,24 +12,6 @@ use Rattle.call_order.proofs.Calls.{aim-refused, lent-lends, aim-there}
 use Rattle.call_order.proofs.aim.Statement.{statement}
 use Rattle.call_order.proofs.aim.Tie as tie
 
-slice-aggregate-lent-ring : tie.Need-slice-aggregate-lent-ring
-slice-aggregate-lent-ring c = search needs
-
-lent-ring-requires : tie.Need-lent-ring-requires
-lent-ring-requires c κs = search needs
-
-enum-known-r : tie.Need-enum-known-r
-enum-known-r c = search needs
-
-enum-known-k : tie.Need-enum-known-k
-enum-known-k c = search needs
-
-sub-group-aim : tie.Need-sub-group-aim
-sub-group-aim c = search needs
-
-part-group-aim-start : tie.Need-part-group-aim-start
-part-group-aim-start c = search needs
-
 -- The tree that the node table holds.
 found : (c : tie.After-known-told2) → (old : List ℕ) × RingLent (c .before .before .before .before .before .before .before .before .args .n) (c .before .before .before .before .before .before .before .before .args .have) (now (c .before .before .before .before .before .before .before .before .args .nodes)) (now (c .before .before .before .before .before .before .before .before .args .book)) (c .before .before .before .before .before .before .before .before .args .count) old (c .before .before .before .before .lent-ring .last .1 .1 .1 .1 .1 .0) (c .before .k .given .0 .0)
 found c = (_, subst (LendsRing (c .before .before .before .before .before .before .before .before .args .n) (c .before .before .before .before .before .before .before .before .args .have) (now (c .before .before .before .before .before .before .before .before .args .nodes)) (now (c .before .before .before .before .before .before .before .before .args .book)) (c .before .before .before .before .before .before .before .before .args .count) _ (c .before .before .before .before .lent-ring .last .1 .1 .1 .1 .1 .0)) (c .before .k .given .1) (c .before .before .before .before .lent-ring .ensures))
@@ -53,12 +35,12 @@ pub aim-spec : {M : Type 1} → statement M
 aim-spec =
     tie.close
     (tie.spec
-    slice-aggregate-lent-ring
-    lent-ring-requires
-    enum-known-r
-    enum-known-k
-    sub-group-aim
-    part-group-aim-start
+    (λ c. search needs)
+    (λ c κs. search needs)
+    (λ c. search needs)
+    (λ c. search needs)
+    (λ c. search needs)
+    (λ c. search needs)
     part-group-aim-end
     group-aim-requires
     returns

@@ -7,17 +7,11 @@ use Rattle.call_order.proofs.Laws.{after-inside, after-outside}
 use Rattle.call_order.proofs.enters.Statement.{statement}
 use Rattle.call_order.proofs.enters.Tie as tie
 
-test-requires : tie.Need-test-requires
-test-requires c κs = search needs
-
 returns : tie.Need-returns
 returns c = sym (after-inside (marked (now (c .before .before .before .args .words)) (c .before .before .before .args .leaf)) _ (sym (c .before .test .ensures) ∙ c .if1 .taken))
-
-test-requires-2 : tie.Need-test-requires-2
-test-requires-2 c κs = search needs
 
 returns-2 : tie.Need-returns-2
 returns-2 c = c .test2 .ensures ∙ sym (after-outside (marked (now (c .before .before .before .before .args .words)) (c .before .before .before .before .args .leaf)) _ (sym (c .before .before .test .ensures) ∙ c .before .if1 .left))
 
 pub enters-spec : {M : Type 1} → statement M
-enters-spec = tie.close (tie.spec test-requires returns test-requires-2 returns-2)
+enters-spec = tie.close (tie.spec (λ c κs. search needs) returns (λ c κs. search needs) returns-2)

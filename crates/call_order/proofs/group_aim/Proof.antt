@@ -23,9 +23,6 @@ returns c = λ t e. sym (number-zero (now (c .before .before .before .args .book
 returns-2 : tie.Need-returns-2
 returns-2 c = λ t e. sym (number-past (now (c .before .before .before .before .args .book)) (c .before .before .before .before .args .count) (c .before .before .before .before .args .group) t (c .before .if1 .left) (c .if2 .taken))
 
-sub-at : tie.Need-sub-at
-sub-at c = search needs
-
 few : (c : tie.Else2) → c .before .before .before .before .args .group ≤ 96
 few c = omega (arith, few-groups (c .before .before .before .before .pre .size) (now (c .before .before .before .before .args .book)) (c .before .before .before .before .args .count) (c .before .before .before .before .pre .groups), c .if2 .left)
 
@@ -35,29 +32,14 @@ mul-at c = omega (arith, few c)
 add-end : tie.Need-add-end
 add-end c = omega (arith, few c)
 
-slice-aggregate-standard-order : tie.Need-slice-aggregate-standard-order
-slice-aggregate-standard-order c = search needs
-
 standard-order-requires : tie.Need-standard-order-requires
 standard-order-requires c κs = (plain (c .before .before .before .before .before .pre .shown), c .before .before .before .before .before .pre .is, order-room (c .before .before .before .before .before .pre))
 
 mul-aim-in : tie.Need-mul-aim-in
 mul-aim-in c = omega (arith, few (c .before .before .before))
 
-sub-aim-in : tie.Need-sub-aim-in
-sub-aim-in c = search needs
-
-part-aim-in-start : tie.Need-part-aim-in-start
-part-aim-in-start c = search needs
-
 part-aim-in-end : tie.Need-part-aim-in-end
 part-aim-in-end c = omega (arith, few (c .before .before .before), c .before .before .before .before .before .before .before .pre .all-words)
-
-sub-aim-in-2 : tie.Need-sub-aim-in-2
-sub-aim-in-2 c = search needs
-
-part-aim-in-start-2 : tie.Need-part-aim-in-start-2
-part-aim-in-start-2 c = search needs
 
 part-aim-in-end-2 : tie.Need-part-aim-in-end-2
 part-aim-in-end-2 c = omega (arith, wrote-most (c .before .before .before .standard-order .ensures (plain (c .before .before .before .before .before .before .before .before .before .pre .shown)) (c .before .before .before .before .before .before .before .before .before .pre .is)))
@@ -81,17 +63,17 @@ group-aim-spec =
     (tie.spec
     returns
     returns-2
-    sub-at
+    (λ c. search needs)
     mul-at
     add-end
-    slice-aggregate-standard-order
+    (λ c. search needs)
     standard-order-requires
     mul-aim-in
-    sub-aim-in
-    part-aim-in-start
+    (λ c. search needs)
+    (λ c. search needs)
     part-aim-in-end
-    sub-aim-in-2
-    part-aim-in-start-2
+    (λ c. search needs)
+    (λ c. search needs)
     part-aim-in-end-2
     aim-in-requires
     returns-3)

@@ -10,30 +10,6 @@ use Rattle.call_order.proofs.Laws.{aim-is}
 use Rattle.call_order.proofs.middle.Statement.{statement}
 use Rattle.call_order.proofs.middle.Tie as tie
 
-sub-last : tie.Need-sub-last
-sub-last c = search needs
-
-mul-last : tie.Need-mul-last
-mul-last c = search needs
-
-shared-slice-read-last : tie.Need-shared-slice-read-last
-shared-slice-read-last c = search needs
-
-first-start-requires : tie.Need-first-start-requires
-first-start-requires c κs = search needs
-
-size-requires : tie.Need-size-requires
-size-requires c κs = search needs
-
-sub-result : tie.Need-sub-result
-sub-result c = search needs
-
-add-result : tie.Need-add-result
-add-result c = search needs
-
-rem-result : tie.Need-rem-result
-rem-result c = search needs
-
 place : (c : tie.After-size) → (c .before .first-start .result + (c .size .result - 1) / 2) % length (c .before .before .before .before .before .args .order .now) < length (c .before .before .before .before .before .args .order .now)
 place c = mod-lt _ (c .before .before .before .before .before .pre .some-place)
 
@@ -53,14 +29,14 @@ pub middle-spec : {M : Type 1} → statement M
 middle-spec =
     tie.close
     (tie.spec
-    sub-last
-    mul-last
-    shared-slice-read-last
-    first-start-requires
-    size-requires
-    sub-result
-    add-result
-    rem-result
+    (λ c. search needs)
+    (λ c. search needs)
+    (λ c. search needs)
+    (λ c κs. search needs)
+    (λ c κs. search needs)
+    (λ c. search needs)
+    (λ c. search needs)
+    (λ c. search needs)
     mul-result
     shared-slice-read-result
     cast-result

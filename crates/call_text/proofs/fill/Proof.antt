@@ -23,15 +23,6 @@ sub-zeros-2 c = omega (arith, few c, c .before .before .tree-text .kept .1 .0)
 part-zeros-start : tie.Need-part-zeros-start
 part-zeros-start c = omega (arith, few c, c .before .before .tree-text .kept .1 .0)
 
-part-zeros-end : tie.Need-part-zeros-end
-part-zeros-end c = search needs
-
-zeros-requires : tie.Need-zeros-requires
-zeros-requires c κs = search needs
-
-same-length : tie.Need-same-length
-same-length c = search needs
-
 returns : tie.Need-returns
 returns c = λ t e. let w = c .before .before .before .before .before .before .tree-text .ensures (plain t) e in wrote-fills t w (wrote-then w (c .before .before .zeros .ensures))
 
@@ -43,7 +34,7 @@ fill-spec =
     sub-zeros
     sub-zeros-2
     part-zeros-start
-    part-zeros-end
-    zeros-requires
-    same-length
+    (λ c. search needs)
+    (λ c κs. search needs)
+    (λ c. search needs)
     returns)

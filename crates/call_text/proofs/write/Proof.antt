@@ -12,24 +12,6 @@ use Rattle.call_text.proofs.Calls.{write-refused, lent-formed, lent-lon
 use Rattle.call_text.proofs.write.Statement.{statement}
 use Rattle.call_text.proofs.write.Tie as tie
 
-slice-aggregate-lent-tree : tie.Need-slice-aggregate-lent-tree
-slice-aggregate-lent-tree c = search needs
-
-lent-tree-requires : tie.Need-lent-tree-requires
-lent-tree-requires c κs = search needs
-
-enum-known-r : tie.Need-enum-known-r
-enum-known-r c = search needs
-
-enum-known-k : tie.Need-enum-known-k
-enum-known-k c = search needs
-
-sub-fill : tie.Need-sub-fill
-sub-fill c = search needs
-
-part-fill-start : tie.Need-part-fill-start
-part-fill-start c = search needs
-
 -- The tree that the node table holds.
 found : (c : tie.After-known-told2) → (old : List ℕ) × TreeLent (c .before .before .before .before .before .before .before .before .args .n) (c .before .before .before .before .before .before .before .before .args .have) (now (c .before .before .before .before .before .before .before .before .args .nodes)) (short 2048 (now (c .before .before .before .before .before .before .before .before .args .bytes))) old (c .before .before .before .before .lent-tree .last .1 .1 .1 .1 .0) (c .before .k .given .0 .0)
 found c = (_, subst (LendsTree (c .before .before .before .before .before .before .before .before .args .n) (c .before .before .before .before .before .before .before .before .args .have) (now (c .before .before .before .before .before .before .before .before .args .nodes)) (short 2048 (now (c .before .before .before .before .before .before .before .before .args .bytes))) _ (c .before .before .before .before .lent-tree .last .1 .1 .1 .1 .0)) (c .before .k .given .1) (c .before .before .before .before .lent-tree .ensures))
@@ -45,9 +27,6 @@ fill-requires c κs =
 returns : tie.Need-returns
 returns c = write-refused (c .before .before .before .before .before .before .before .before .args .n) (c .before .before .before .before .before .before .before .before .args .have) (now (c .before .before .before .before .before .before .before .before .args .nodes)) (now (c .before .before .before .before .before .before .before .before .args .bytes)) (c .before .r .given .0 .0) (subst (LendsTree (c .before .before .before .before .before .before .before .before .args .n) (c .before .before .before .before .before .before .before .before .args .have) (now (c .before .before .before .before .before .before .before .before .args .nodes)) (short 2048 (now (c .before .before .before .before .before .before .before .before .args .bytes))) _ (c .before .before .before .before .lent-tree .last .1 .1 .1 .1 .0)) (c .before .r .given .1) (c .before .before .before .before .lent-tree .ensures))
 
-same-length : tie.Need-same-length
-same-length c = search needs
-
 returns-2 : tie.Need-returns-2
 returns-2 c =
     let f = found (c .before .before .before .before .before .before) in
@@ -57,14 +36,14 @@ pub write-spec : {M : Type 1} → statement M
 write-spec =
     tie.close
     (tie.spec
-    slice-aggregate-lent-tree
-    lent-tree-requires
-    enum-known-r
-    enum-known-k
-    sub-fill
-    part-fill-start
+    (λ c. search needs)
+    (λ c κs. search needs)
+    (λ c. search needs)
+    (λ c. search needs)
+    (λ c. search needs)
+    (λ c. search needs)
     part-fill-end
     fill-requires
     returns
-    same-length
+    (λ c. search needs)
     returns-2)

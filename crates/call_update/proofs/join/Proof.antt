@@ -4,35 +4,11 @@ use native.Mathlib.Omega.{arith}
 use denote.Ref.{now}
 use lib.ListN.{replicate}
 use Rattle.tree_tokens.proofs.Writes.{read-part, wrote-most}
-use Rattle.table_row.specs.Rows.{Formed}
 use Rattle.call_attempt.specs.Attempts.{JoinedRing, Attempts}
 use Rattle.call_update.proofs.Laws.{join-refused, join-done, join-demand}
 use borrow.Author.Needs.{needs}
 use Rattle.call_update.proofs.join.Statement.{statement}
 use Rattle.call_update.proofs.join.Tie as tie
-use Rattle.call_update.proofs.join.Reads as reads
-use Rattle.call_update.proofs.join.Lts as lts
-use Rattle.table_book.proofs.put.Reads as put-reads
-use Rattle.call_attempt.proofs.attempt.Reads as attempt-reads
-use Rattle.table_store.proofs.store.Reads as store-reads
-
-slice-aggregate-attempt : tie.Need-slice-aggregate-attempt
-slice-aggregate-attempt c = search needs
-
-attempt-requires : tie.Need-attempt-requires
-attempt-requires c κs = search needs
-
-enum-known-tried : tie.Need-enum-known-tried
-enum-known-tried c = search needs
-
-enum-known-tried-2 : tie.Need-enum-known-tried-2
-enum-known-tried-2 c = search needs
-
-sub-store : tie.Need-sub-store
-sub-store c = search needs
-
-part-store-start : tie.Need-part-store-start
-part-store-start c = search needs
 
 -- The tree with the group joined to it.
 new-tree : (c : tie.After-known-told2) → JoinedRing (c .before .before .before .before .before .before .before .before .before .before .before .args .n) (c .before .before .before .before .before .before .before .before .before .before .before .args .have) (now (c .before .before .before .before .before .before .before .before .before .before .before .args .nodes)) (now (c .before .before .before .before .before .before .before .before .before .before .before .args .book)) (c .before .before .before .before .before .before .before .before .before .before .before .args .count) (now (c .before .before .before .before .before .before .before .before .before .before .before .args .list)) (replicate 512 0) (c .before .before .before .before .attempt .last .1 .1 .1 .1 .1 .1 .0) (c .before .tried2 .given .0 .0)
@@ -51,21 +27,9 @@ put-requires c κs = let j = new-tree (c .before .before .before .before .before
 add-t21 : tie.Need-add-t21
 add-t21 c = omega (arith, new-tree (c .before .before .before .before .before .before .before .before .before .before) .place-left)
 
-same-length : tie.Need-same-length
-same-length c = search needs
-
-same-length-2 : tie.Need-same-length-2
-same-length-2 c = search needs
-
 returns : tie.Need-returns
 returns c = let e = join-refused (c .before .before .before .before .before .before .before .before .before .before .before .args .n) (c .before .before .before .before .before .before .before .before .before .before .before .args .have) (now (c .before .before .before .before .before .before .before .before .before .before .before .args .nodes)) (now (c .before .before .before .before .before .before .before .before .before .before .before .args .book)) (c .before .before .before .before .before .before .before .before .before .before .before .args .count) (now (c .before .before .before .before .before .before .before .before .before .before .before .args .list)) (c .before .tried .given .0 .0) (subst (Attempts (c .before .before .before .before .before .before .before .before .before .before .before .args .n) (c .before .before .before .before .before .before .before .before .before .before .before .args .have) (now (c .before .before .before .before .before .before .before .before .before .before .before .args .nodes)) (now (c .before .before .before .before .before .before .before .before .before .before .before .args .book)) (c .before .before .before .before .before .before .before .before .before .before .before .args .count) (now (c .before .before .before .before .before .before .before .before .before .before .before .args .list)) (replicate 512 0) (c .before .before .before .before .attempt .last .1 .1 .1 .1 .1 .1 .0)) (c .before .tried .given .1) (c .before .before .before .before .attempt .ensures)) in
     (e, join-demand (c .before .before .before .before .before .before .before .before .before .before .before .args .n) (c .before .before .before .before .before .before .before .before .before .before .before .args .have) (now (c .before .before .before .before .before .before .before .before .before .before .before .args .nodes)) (now (c .before .before .before .before .before .before .before .before .before .before .before .args .book)) (c .before .before .before .before .before .before .before .before .before .before .before .args .count) (now (c .before .before .before .before .before .before .before .before .before .before .before .args .list)) _ _ _ e)
-
-same-length-3 : tie.Need-same-length-3
-same-length-3 c = search needs
-
-same-length-4 : tie.Need-same-length-4
-same-length-4 c = search needs
 
 returns-2 : tie.Need-returns-2
 unfolding flat
@@ -77,19 +41,19 @@ pub join-spec : {M : Type 1} → statement M
 join-spec =
     tie.close
     (tie.spec
-    slice-aggregate-attempt
-    attempt-requires
-    enum-known-tried
-    enum-known-tried-2
-    sub-store
-    part-store-start
+    (λ c. search needs)
+    (λ c κs. search needs)
+    (λ c. search needs)
+    (λ c. search needs)
+    (λ c. search needs)
+    (λ c. search needs)
     part-store-end
     store-requires
     put-requires
     add-t21
-    same-length
-    same-length-2
+    (λ c. search needs)
+    (λ c. search needs)
     returns
-    same-length-3
-    same-length-4
+    (λ c. search needs)
+    (λ c. search needs)
     returns-2)

@@ -13,28 +13,6 @@ use Rattle.call_update.proofs.Laws.{order-refused, order-length, order-
 use borrow.Author.Needs.{needs}
 use Rattle.call_update.proofs.order.Statement.{statement}
 use Rattle.call_update.proofs.order.Tie as tie
-use Rattle.call_update.proofs.order.Reads as reads
-use Rattle.call_update.proofs.order.Lts as lts
-use Rattle.call_checks.proofs.lent_tree.Reads as lent-tree-reads
-use Rattle.tree_order.proofs.standard_order.Reads as standard-order-reads
-
-slice-aggregate-lent-tree : tie.Need-slice-aggregate-lent-tree
-slice-aggregate-lent-tree c = search needs
-
-lent-tree-requires : tie.Need-lent-tree-requires
-lent-tree-requires c κs = search needs
-
-enum-known-found : tie.Need-enum-known-found
-enum-known-found c = search needs
-
-enum-known-found-2 : tie.Need-enum-known-found-2
-enum-known-found-2 c = search needs
-
-sub-standard-order : tie.Need-sub-standard-order
-sub-standard-order c = search needs
-
-part-standard-order-start : tie.Need-part-standard-order-start
-part-standard-order-start c = search needs
 
 -- The tree that was lent.
 lent : (c : tie.After-known-told2) → TreeLent (c .before .before .before .before .before .before .before .before .args .n) (c .before .before .before .before .before .before .before .before .args .have) (now (c .before .before .before .before .before .before .before .before .args .nodes)) (short (c .before .before .before .before .before .before .before .before .args .n) (now (c .before .before .before .before .before .before .before .before .args .order))) (replicate 512 0) (c .before .before .before .before .lent-tree .last .1 .1 .1 .1 .0) (c .before .found2 .given .0 .0)
@@ -51,9 +29,6 @@ returns : tie.Need-returns
 returns c = let e = order-refused (c .before .before .before .before .before .before .before .before .args .n) (c .before .before .before .before .before .before .before .before .args .have) (now (c .before .before .before .before .before .before .before .before .args .nodes)) (now (c .before .before .before .before .before .before .before .before .args .order)) (c .before .found .given .0 .0) (subst (LendsTree (c .before .before .before .before .before .before .before .before .args .n) (c .before .before .before .before .before .before .before .before .args .have) (now (c .before .before .before .before .before .before .before .before .args .nodes)) (short (c .before .before .before .before .before .before .before .before .args .n) (now (c .before .before .before .before .before .before .before .before .args .order))) (replicate 512 0) (c .before .before .before .before .lent-tree .last .1 .1 .1 .1 .0)) (c .before .found .given .1) (c .before .before .before .before .lent-tree .ensures)) in
     (e, order-demand (c .before .before .before .before .before .before .before .before .args .n) (c .before .before .before .before .before .before .before .before .args .have) (now (c .before .before .before .before .before .before .before .before .args .nodes)) (now (c .before .before .before .before .before .before .before .before .args .order)) _ _ e)
 
-same-length : tie.Need-same-length
-same-length c = search needs
-
 returns-2 : tie.Need-returns-2
 returns-2 c = let l = lent (c .before .before .before .before .before .before) in
     let w = subst (λ t. Wrote (standard t) (now (c .before .before .before .before .before .before .before .before .before .before .before .before .before .before .args .order)) (c .before .before .standard-order .last .1 .0) (c .before .before .standard-order .result)) (tree-plain (l .tree)) (c .before .before .standard-order .ensures (plain (l .tree)) (read-part (l .wrote))) in
@@ -64,14 +39,14 @@ pub order-spec : {M : Type 1} → statement M
 order-spec =
     tie.close
     (tie.spec
-    slice-aggregate-lent-tree
-    lent-tree-requires
-    enum-known-found
-    enum-known-found-2
-    sub-standard-order
-    part-standard-order-start
+    (λ c. search needs)
+    (λ c κs. search needs)
+    (λ c. search needs)
+    (λ c. search needs)
+    (λ c. search needs)
+    (λ c. search needs)
     part-standard-order-end
     standard-order-requires
     returns
-    same-length
+    (λ c. search needs)
     returns-2)

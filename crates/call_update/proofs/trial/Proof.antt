@@ -7,21 +7,6 @@ use Rattle.call_update.proofs.Laws.{trial-refused, trial-done, trial-de
 use borrow.Author.Needs.{needs}
 use Rattle.call_update.proofs.trial.Statement.{statement}
 use Rattle.call_update.proofs.trial.Tie as tie
-use Rattle.call_update.proofs.trial.Reads as reads
-use Rattle.call_update.proofs.trial.Lts as lts
-use Rattle.call_attempt.proofs.attempt.Reads as attempt-reads
-
-slice-aggregate-attempt : tie.Need-slice-aggregate-attempt
-slice-aggregate-attempt c = search needs
-
-attempt-requires : tie.Need-attempt-requires
-attempt-requires c κs = search needs
-
-enum-known-tried : tie.Need-enum-known-tried
-enum-known-tried c = search needs
-
-enum-told : tie.Need-enum-told
-enum-told c = search needs
 
 -- The tree with the group joined to it.
 new-tree : (c : tie.After-enum-told) → JoinedRing (c .before .before .before .before .before .before .before .before .args .n) (c .before .before .before .before .before .before .before .before .args .have) (now (c .before .before .before .before .before .before .before .before .args .nodes)) (now (c .before .before .before .before .before .before .before .before .args .book)) (c .before .before .before .before .before .before .before .before .args .count) (now (c .before .before .before .before .before .before .before .before .args .list)) (replicate 512 0) (c .before .before .before .attempt .last .1 .1 .1 .1 .1 .1 .0) (c .enum-told .given .0 .0)
@@ -42,10 +27,10 @@ pub trial-spec : {M : Type 1} → statement M
 trial-spec =
     tie.close
     (tie.spec
-    slice-aggregate-attempt
-    attempt-requires
-    enum-known-tried
-    enum-told
+    (λ c. search needs)
+    (λ c κs. search needs)
+    (λ c. search needs)
+    (λ c. search needs)
     add-t13
     returns
     returns-2)

@@ -1,5 +1,5 @@
 use mathlib.Core.Path.{subst}
-use Prim.Native.Nat.{ℕ, _+_, _-_, _^_, _<_}
+use Prim.Native.Nat.{ℕ, _-_, _^_, _<_}
 use native.Mathlib.Omega.{arith}
 use lib.ListN.{length}
 use Rattle.mark_words.specs.Marks.{marked}
@@ -8,8 +8,6 @@ use Rattle.conflict_leaves.specs.StandIn.{either}
 use Rattle.conflict_leaves.proofs.Choice.{either-word}
 use Rattle.conflict_leaves.proofs.add.Statement.{statement}
 use Rattle.conflict_leaves.proofs.add.Tie as tie
-use Rattle.conflict_leaves.proofs.add.Reads as reads
-use Rattle.conflict_leaves.proofs.add.Lts as lts
 
 abbrev Inv-loop : tie.InvT-loop
 Inv-loop words₀ more i₀ words i = Written (either (marked words₀) (marked more)) i words₀ words
@@ -19,30 +17,6 @@ abbrev μ-loop : tie.MeasureT-loop
 
 loop-holds : tie.Need-loop-holds Inv-loop μ-loop
 loop-holds c = written-none (either (marked (c .args .words .now)) (marked (c .args .more .now))) (c .args .words .now)
-
-mul-words : tie.Need-mul-words Inv-loop μ-loop
-mul-words c = omega arith
-
-slice-read-words : tie.Need-slice-read-words Inv-loop μ-loop
-slice-read-words c = omega arith
-
-mul-words-2 : tie.Need-mul-words-2 Inv-loop μ-loop
-mul-words-2 c = omega arith
-
-shared-slice-read-words : tie.Need-shared-slice-read-words Inv-loop μ-loop
-shared-slice-read-words c = omega arith
-
-mul-words-3 : tie.Need-mul-words-3 Inv-loop μ-loop
-mul-words-3 c = omega arith
-
-slice-write-words : tie.Need-slice-write-words Inv-loop μ-loop
-slice-write-words c = omega arith
-
-add-i : tie.Need-add-i Inv-loop μ-loop
-add-i c = omega arith
-
-loop-less : tie.Need-loop-less Inv-loop μ-loop
-loop-less c = omega arith
 
 loop-again : tie.Need-loop-again Inv-loop μ-loop
 loop-again c =
@@ -64,14 +38,14 @@ add-spec =
     Inv-loop
     μ-loop
     loop-holds
-    mul-words
-    slice-read-words
-    mul-words-2
-    shared-slice-read-words
-    mul-words-3
-    slice-write-words
-    add-i
-    loop-less
+    (λ c. omega arith)
+    (λ c. omega arith)
+    (λ c. omega arith)
+    (λ c. omega arith)
+    (λ c. omega arith)
+    (λ c. omega arith)
+    (λ c. omega arith)
+    (λ c. omega arith)
     loop-again
     same-length
     returns)

@@ -1,4 +1,4 @@
-use mathlib.Core.Path.{_≡_, ap, subst, _∙_}
+use mathlib.Core.Path.{_≡_, subst, _∙_}
 use Prim.Native.Nat.{ℕ, _+_, _-_, _*_, _≤_}
 use native.Mathlib.Omega.{arith}
 use lib.ListN.{length, take, drop}
@@ -7,9 +7,6 @@ use Rattle.conflict_leaves.specs.StandIn.{Below, group}
 use Rattle.conflict_leaves.proofs.Choice.{first-below, second-below, part-numbered, one-more-below}
 use Rattle.conflict_leaves.proofs.add_book.Statement.{statement}
 use Rattle.conflict_leaves.proofs.add_book.Tie as tie
-use Rattle.conflict_leaves.proofs.add_book.Reads as reads
-use Rattle.conflict_leaves.proofs.add_book.Lts as lts
-use Rattle.conflict_leaves.proofs.add.Reads as add-reads
 
 abbrev Inv-loop : tie.InvT-loop
 Inv-loop words₀ book k₀ words k = (k ≤ 96) × (length words ≡ 4) × Below (marked words₀) (marked words) × ((j : ℕ) → 1 ≤ j → j ≤ k → Below (group book j) (marked words))
@@ -20,32 +17,8 @@ abbrev μ-loop : tie.MeasureT-loop
 loop-holds : tie.Need-loop-holds Inv-loop μ-loop
 loop-holds c = (omega arith, c .before .before .pre .0, λ b e. e, λ j h l. absurd (omega (arith, h, l)))
 
-mul-at : tie.Need-mul-at Inv-loop μ-loop
-mul-at c = omega arith
-
-add-end : tie.Need-add-end Inv-loop μ-loop
-add-end c = omega arith
-
-mul-add : tie.Need-mul-add Inv-loop μ-loop
-mul-add c = omega arith
-
-sub-add : tie.Need-sub-add Inv-loop μ-loop
-sub-add c = omega arith
-
-part-add-start : tie.Need-part-add-start Inv-loop μ-loop
-part-add-start c = omega arith
-
-part-add-end : tie.Need-part-add-end Inv-loop μ-loop
-part-add-end c = omega arith
-
 add-requires : tie.Need-add-requires Inv-loop μ-loop
 add-requires c κs = c .before .before .before .loop .inv .1 ∙ omega (arith, c .add-arg2 .given, c .before .before .before .before .before .before .pre .1)
-
-add-k : tie.Need-add-k Inv-loop μ-loop
-add-k c = omega arith
-
-loop-less : tie.Need-loop-less Inv-loop μ-loop
-loop-less c = omega arith
 
 loop-again : tie.Need-loop-again Inv-loop μ-loop
 loop-again c =
@@ -59,9 +32,6 @@ loop-again c =
       one-more-below (c .before .before .before .before .before .before .loop .inv .3) a (subst (λ G. Below G (marked (c .before .before .add .last .0))) (part-numbered (c .before .before .before .before .before .before .before .before .before .args .book .now) (c .before .before .before .before .before .before .loop .k)) b),
     )
 
-same-length : tie.Need-same-length Inv-loop μ-loop
-same-length c = omega arith
-
 returns : tie.Need-returns Inv-loop μ-loop
 returns c = (c .before .loop .inv .2, λ j h l. c .before .loop .inv .3 j h (omega (arith, l)))
 
@@ -72,15 +42,15 @@ add-book-spec =
     Inv-loop
     μ-loop
     loop-holds
-    mul-at
-    add-end
-    mul-add
-    sub-add
-    part-add-start
-    part-add-end
+    (λ c. omega arith)
+    (λ c. omega arith)
+    (λ c. omega arith)
+    (λ c. omega arith)
+    (λ c. omega arith)
+    (λ c. omega arith)
     add-requires
-    add-k
-    loop-less
+    (λ c. omega arith)
+    (λ c. omega arith)
     loop-again
-    same-length
+    (λ c. omega arith)
     returns)

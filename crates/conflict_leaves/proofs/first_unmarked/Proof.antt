@@ -7,9 +7,6 @@ use Rattle.mark_words.specs.Marks.{marked}
 use Rattle.conflict_leaves.proofs.Choice.{marked-more}
 use Rattle.conflict_leaves.proofs.first_unmarked.Statement.{statement}
 use Rattle.conflict_leaves.proofs.first_unmarked.Tie as tie
-use Rattle.conflict_leaves.proofs.first_unmarked.Reads as reads
-use Rattle.conflict_leaves.proofs.first_unmarked.Lts as lts
-use Rattle.mark_words.proofs.test.Reads as test-reads
 
 abbrev Inv-loop : tie.InvT-loop
 Inv-loop words n b₀ b = (1 ≤ b) × (b ≤ n + 1) × ((x : ℕ) → 1 ≤ x → x < b → marked words x ≡ true)
@@ -20,20 +17,8 @@ abbrev μ-loop : tie.MeasureT-loop
 loop-holds : tie.Need-loop-holds Inv-loop μ-loop
 loop-holds c = (omega arith, omega (arith, c .before .pre), λ x h l. absurd (omega (arith, h, l)))
 
-cast-test : tie.Need-cast-test Inv-loop μ-loop
-cast-test c = omega arith
-
-test-requires : tie.Need-test-requires Inv-loop μ-loop
-test-requires c κs = omega arith
-
 returns : tie.Need-returns Inv-loop μ-loop
 returns c = record { from = c .before .before .before .loop .inv .0; to = c .before .before .before .loop .inv .1; before = c .before .before .before .loop .inv .2; outside = λ h. sym (c .before .test .ensures) ∙ not-true (c .before .test .result) (c .if1 .taken) }
-
-add-b : tie.Need-add-b Inv-loop μ-loop
-add-b c = omega arith
-
-loop-less : tie.Need-loop-less Inv-loop μ-loop
-loop-less c = omega arith
 
 loop-again : tie.Need-loop-again Inv-loop μ-loop
 loop-again c = (omega arith, omega arith, marked-more (marked (c .before .before .before .before .before .args .words .now)) (c .before .before .before .loop .b) (c .before .before .before .loop .inv .2) (sym (c .before .test .ensures) ∙ not-false (c .before .test .result) (c .if1 .left)))
@@ -48,10 +33,10 @@ first-unmarked-spec =
     Inv-loop
     μ-loop
     loop-holds
-    cast-test
-    test-requires
+    (λ c. omega arith)
+    (λ c κs. omega arith)
     returns
-    add-b
-    loop-less
+    (λ c. omega arith)
+    (λ c. omega arith)
     loop-again
     returns-2)

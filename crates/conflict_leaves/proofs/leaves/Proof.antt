@@ -1,7 +1,7 @@
-use mathlib.Core.Path.{_≡_, refl, sym, ap, subst, _∙_}
+use mathlib.Core.Path.{_≡_, refl, sym, _∙_}
 use mathlib.Core.Logic.{⊎-elim}
 use mathlib.Core.List.{[]}
-use Prim.Native.Nat.{ℕ, _+_, _-_, _*_, _≤_}
+use Prim.Native.Nat.{_+_, _-_, _*_, _≤_}
 use native.Mathlib.Omega.{arith}
 use lib.ListN.{length, length-set}
 use Rattle.spec_orders.specs.Lists.{those-of}
@@ -13,9 +13,6 @@ use Rattle.tree_pieces.specs.Writers.{flat}
 use Rattle.conflict_leaves.proofs.StartTokens.{from, from-two, from-end, from-next, from-past}
 use Rattle.conflict_leaves.proofs.leaves.Statement.{statement}
 use Rattle.conflict_leaves.proofs.leaves.Tie as tie
-use Rattle.conflict_leaves.proofs.leaves.Reads as reads
-use Rattle.conflict_leaves.proofs.leaves.Lts as lts
-use Rattle.mark_words.proofs.test.Reads as test-reads
 
 abbrev Inv-loop : tie.InvT-loop
 Inv-loop words n out₀ k₀ b₀ out k b = (2 ≤ b) × (k + 2 ≤ b) × (length out ≡ length out₀)
@@ -26,33 +23,6 @@ abbrev μ-loop : tie.MeasureT-loop
 
 loop-holds : tie.Need-loop-holds Inv-loop μ-loop
 loop-holds c = (omega arith, omega arith, refl, written-same (from (marked (c .before .before .args .words .now)) 2 (c .before .before .args .n)) (from-two (marked (c .before .before .args .words .now)) (c .before .before .args .n)) (written-start _ (c .before .before .args .out .now)))
-
-cast-test : tie.Need-cast-test Inv-loop μ-loop
-cast-test c = omega arith
-
-test-requires : tie.Need-test-requires Inv-loop μ-loop
-test-requires c κs = omega arith
-
-mul-out : tie.Need-mul-out Inv-loop μ-loop
-mul-out c = omega arith
-
-cast-out : tie.Need-cast-out Inv-loop μ-loop
-cast-out c = omega arith
-
-mul-out-2 : tie.Need-mul-out-2 Inv-loop μ-loop
-mul-out-2 c = omega arith
-
-slice-write-out : tie.Need-slice-write-out Inv-loop μ-loop
-slice-write-out c = omega arith
-
-add-k : tie.Need-add-k Inv-loop μ-loop
-add-k c = omega arith
-
-add-b : tie.Need-add-b Inv-loop μ-loop
-add-b c = omega arith
-
-loop-less : tie.Need-loop-less Inv-loop μ-loop
-loop-less c = omega arith
 
 loop-again : tie.Need-loop-again Inv-loop μ-loop
 loop-again c =
@@ -85,15 +55,15 @@ leaves-spec =
     Inv-loop
     μ-loop
     loop-holds
-    cast-test
-    test-requires
-    mul-out
-    cast-out
-    mul-out-2
-    slice-write-out
-    add-k
-    add-b
-    loop-less
+    (λ c. omega arith)
+    (λ c κs. omega arith)
+    (λ c. omega arith)
+    (λ c. omega arith)
+    (λ c. omega arith)
+    (λ c. omega arith)
+    (λ c. omega arith)
+    (λ c. omega arith)
+    (λ c. omega arith)
     loop-again
     same-length
     returns)

@@ -11,31 +11,6 @@ use Rattle.conflict_leaves.proofs.StartTokens.{start-few, start-many}
 use borrow.Author.Needs.{needs}
 use Rattle.conflict_leaves.proofs.start_tree.Statement.{statement}
 use Rattle.conflict_leaves.proofs.start_tree.Tie as tie
-use Rattle.conflict_leaves.proofs.start_tree.Reads as reads
-use Rattle.conflict_leaves.proofs.start_tree.Lts as lts
-use Rattle.conflict_leaves.proofs.leaves.Reads as leaves-reads
-use Rattle.tree_tokens.proofs.copy.Reads as copy-reads
-
-slice-aggregate-leaves : tie.Need-slice-aggregate-leaves
-slice-aggregate-leaves c = search needs
-
-leaves-requires : tie.Need-leaves-requires
-leaves-requires c κs = search needs
-
-sub-copy : tie.Need-sub-copy
-sub-copy c = search needs
-
-part-copy-start : tie.Need-part-copy-start
-part-copy-start c = search needs
-
-part-copy-end : tie.Need-part-copy-end
-part-copy-end c = search needs
-
-copy-requires : tie.Need-copy-requires
-copy-requires c κs = search needs
-
-same-length : tie.Need-same-length
-same-length c = search needs
 
 bounded : {xs old new : List ℕ} {k : ℕ} → Wrote xs old new k → (k ≤ length new) × Wrote xs old new k
 bounded w = (wrote-most w, w)
@@ -43,23 +18,8 @@ bounded w = (wrote-most w, w)
 returns : tie.Need-returns
 returns c = bounded (wrote-as (read-part (c .before .before .before .before .before .before .before .before .leaves .ensures) ∙ sym (start-few (c .before .before .before .before .before .before .before .before .before .before .before .before .args .n) (marked (c .before .before .before .before .before .before .before .before .before .before .before .before .args .words .now)) (c .before .before .before .before .before .before .before .before .leaves .result) (c .before .before .before .before .before .before .before .before .leaves .ensures .many) (c .before .before .before .before .before .before .if1 .taken))) (c .before .before .copy .ensures))
 
-sub-copy-2 : tie.Need-sub-copy-2
-sub-copy-2 c = search needs
-
-part-copy-start-2 : tie.Need-part-copy-start-2
-part-copy-start-2 c = search needs
-
 part-copy-end-2 : tie.Need-part-copy-end-2
 part-copy-end-2 c = omega (arith, wrote-most (c .before .before .before .leaves .ensures))
-
-sub-copy-3 : tie.Need-sub-copy-3
-sub-copy-3 c = search needs
-
-part-copy-start-3 : tie.Need-part-copy-start-3
-part-copy-start-3 c = search needs
-
-part-copy-end-3 : tie.Need-part-copy-end-3
-part-copy-end-3 c = search needs
 
 copy-requires-2 : tie.Need-copy-requires-2
 copy-requires-2 c κs = omega (arith, wrote-most (c .before .before .before .before .before .leaves .ensures), c .before .copy-arg3 .given, c .copy-arg4 .given)
@@ -73,14 +33,8 @@ add-out c = omega (arith, wrote-most (c .before .before .before .before .before 
 cast-out : tie.Need-cast-out
 cast-out c = omega (arith, wrote-most (c .before .before .before .before .before .before .before .before .leaves .ensures))
 
-slice-write-out : tie.Need-slice-write-out
-slice-write-out c = search needs
-
 add-result : tie.Need-add-result
 add-result c = omega (arith, wrote-most (c .before .before .copy2 .ensures))
-
-same-length-2 : tie.Need-same-length-2
-same-length-2 c = search needs
 
 returns-2 : tie.Need-returns-2
 returns-2 c =
@@ -91,25 +45,25 @@ pub start-tree-spec : {M : Type 1} → statement M
 start-tree-spec =
     tie.close
     (tie.spec
-    slice-aggregate-leaves
-    leaves-requires
-    sub-copy
-    part-copy-start
-    part-copy-end
-    copy-requires
-    same-length
+    (λ c. search needs)
+    (λ c κs. search needs)
+    (λ c. search needs)
+    (λ c. search needs)
+    (λ c. search needs)
+    (λ c κs. search needs)
+    (λ c. search needs)
     returns
-    sub-copy-2
-    part-copy-start-2
+    (λ c. search needs)
+    (λ c. search needs)
     part-copy-end-2
-    sub-copy-3
-    part-copy-start-3
-    part-copy-end-3
+    (λ c. search needs)
+    (λ c. search needs)
+    (λ c. search needs)
     copy-requires-2
     mul-out
     add-out
     cast-out
-    slice-write-out
+    (λ c. search needs)
     add-result
-    same-length-2
+    (λ c. search needs)
     returns-2)

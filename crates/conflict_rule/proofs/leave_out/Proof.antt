@@ -14,43 +14,9 @@ use Rattle.conflict_rule.proofs.Written.{went-on}
 use borrow.Author.Needs.{needs}
 use Rattle.conflict_rule.proofs.leave_out.Statement.{statement}
 use Rattle.conflict_rule.proofs.leave_out.Tie as tie
-use Rattle.conflict_rule.proofs.leave_out.Reads as reads
-use Rattle.conflict_rule.proofs.leave_out.Lts as lts
-use Rattle.conflict_rule.proofs.go_on.Reads as go-on-reads
-use Rattle.conflict_rule.proofs.walk.Reads as walk-reads
-
-slice-aggregate-walk : tie.Need-slice-aggregate-walk
-slice-aggregate-walk c = search needs
-
-walk-requires : tie.Need-walk-requires
-walk-requires c κs = search needs
 
 returns : tie.Need-returns
 returns c = λ u Gs e rep. rw (among-all (c .before .before .before .before .before .before .before .before .args .numbers .now) (c .before .before .walk .ensures .2 u Gs e rep .0) (omega (arith, c .if1 .taken))) (wrote-none _)
-
-sub-out : tie.Need-sub-out
-sub-out c = search needs
-
-mul-out : tie.Need-mul-out
-mul-out c = search needs
-
-shared-slice-read-out : tie.Need-shared-slice-read-out
-shared-slice-read-out c = search needs
-
-slice-write-out : tie.Need-slice-write-out
-slice-write-out c = search needs
-
-mul-go-on : tie.Need-mul-go-on
-mul-go-on c = search needs
-
-sub-go-on : tie.Need-sub-go-on
-sub-go-on c = search needs
-
-part-go-on-start : tie.Need-part-go-on-start
-part-go-on-start c = search needs
-
-part-go-on-end : tie.Need-part-go-on-end
-part-go-on-end c = search needs
 
 go-on-requires : tie.Need-go-on-requires
 go-on-requires c κs =
@@ -76,17 +42,17 @@ pub leave-out-spec : {M : Type 1} → statement M
 leave-out-spec =
     tie.close
     (tie.spec
-    slice-aggregate-walk
-    walk-requires
+    (λ c. search needs)
+    (λ c κs. search needs)
     returns
-    sub-out
-    mul-out
-    shared-slice-read-out
-    slice-write-out
-    mul-go-on
-    sub-go-on
-    part-go-on-start
-    part-go-on-end
+    (λ c. search needs)
+    (λ c. search needs)
+    (λ c. search needs)
+    (λ c. search needs)
+    (λ c. search needs)
+    (λ c. search needs)
+    (λ c. search needs)
+    (λ c. search needs)
     go-on-requires
     same-length
     returns-2)

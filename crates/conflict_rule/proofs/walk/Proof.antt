@@ -16,10 +16,6 @@ use Rattle.conflict_rule.proofs.Trees.{stands-within, walk-begins, walk
 use Rattle.conflict_rule.proofs.Joined.{Next, next-tree, no-tree, next-within}
 use Rattle.conflict_rule.proofs.walk.Statement.{statement}
 use Rattle.conflict_rule.proofs.walk.Tie as tie
-use Rattle.conflict_rule.proofs.walk.Reads as reads
-use Rattle.conflict_rule.proofs.walk.Lts as lts
-use Rattle.tree_tokens.proofs.copy.Reads as copy-reads
-use Rattle.tree_update.proofs.join.Reads as join-reads
 
 abbrev Inv-loop : tie.InvT-loop
 Inv-loop toks book n numbers out₀ m₀ left₀ out m left =
@@ -72,17 +68,8 @@ part-join-end c = omega (arith, c .before .before .before .loop .inv .2)
 mul-join : tie.Need-mul-join Inv-loop μ-loop
 mul-join c = let r = number (c .before .before) in omega (arith, r .0, r .1)
 
-sub-join-2 : tie.Need-sub-join-2 Inv-loop μ-loop
-sub-join-2 c = omega arith
-
-part-join-start-2 : tie.Need-part-join-start-2 Inv-loop μ-loop
-part-join-start-2 c = omega arith
-
 part-join-end-2 : tie.Need-part-join-end-2 Inv-loop μ-loop
 part-join-end-2 c = let r = number (c .before .before) in omega (arith, r .0, r .1, c .before .before .before .before .before .before .before .before .before .before .before .before .before .pre .1)
-
-slice-aggregate-join : tie.Need-slice-aggregate-join Inv-loop μ-loop
-slice-aggregate-join c = search needs
 
 join-requires : tie.Need-join-requires Inv-loop μ-loop
 join-requires c κs =
@@ -90,12 +77,6 @@ join-requires c κs =
     let w = c .before .before .before .before .before .before .loop .inv .3 (p .0) (p .1) (p .2) (p .3) in
     let r = number (c .before .before .before .before) in
     ((w .tree, part-start (c .before .before .before .before .before .before .loop .m) (c .before .before .before .before .before .before .loop .out) ∙ w .text, w .stands .form, p .4), omega (arith, r .0, r .1, c .before .before .before .before .before .before .before .before .before .before .before .before .before .before .before .pre .1, c .before .before .join-arg .given, c .before .join-arg2 .given), omega arith)
-
-enum-known-got : tie.Need-enum-known-got Inv-loop μ-loop
-enum-known-got c = search needs
-
-enum-told : tie.Need-enum-told Inv-loop μ-loop
-enum-told c = search needs
 
 same-length : tie.Need-same-length Inv-loop μ-loop
 same-length c = c .before .before .before .before .before .before .before .before .before .before .loop .inv .1 ∙ c .before .before .before .before .before .before .before .before .before .before .before .before .before .copy .kept .1 .0
@@ -111,9 +92,6 @@ returns c = (
 
 sub-copy : tie.Need-sub-copy Inv-loop μ-loop
 sub-copy c = omega (arith, c .before .before .before .before .before .before .before .before .before .before .loop-test .taken, c .before .before .before .before .before .before .before .before .before .before .before .loop .inv .0)
-
-part-copy-start : tie.Need-part-copy-start Inv-loop μ-loop
-part-copy-start c = search needs
 
 -- The tree with one group more.
 after : (c : tie.After-known-told Inv-loop μ-loop) (t : Forest) (Gs : List Restriction) (e : c .before .before .before .before .before .before .before .before .before .before .before .before .before .before .before .before .before .before .before .before .args .toks .now ≡ flat t) (rep : Represents (c .before .before .before .before .before .before .before .before .before .before .before .before .before .before .before .before .before .before .before .before .args .n) (group (c .before .before .before .before .before .before .before .before .before .before .before .before .before .before .before .before .before .before .before .before .args .book .now)) Gs t)
@@ -180,17 +158,17 @@ walk-spec =
     part-join-start
     part-join-end
     mul-join
-    sub-join-2
-    part-join-start-2
+    (λ c. omega arith)
+    (λ c. omega arith)
     part-join-end-2
-    slice-aggregate-join
+    (λ c. search needs)
     join-requires
-    enum-known-got
-    enum-told
+    (λ c. search needs)
+    (λ c. search needs)
     same-length
     returns
     sub-copy
-    part-copy-start
+    (λ c. search needs)
     part-copy-end
     copy-requires-2
     sub-left

@@ -1,9 +1,5 @@
 use Rattle.file_read.proofs.scan.Statement.{statement}
 use Rattle.file_read.proofs.scan.Tie as tie
-use Rattle.file_read.proofs.scan.Reads as reads
-use Rattle.file_read.proofs.scan.Lts as lts
-use Rattle.file_cursor.proofs.advance.Reads as advance-reads
-use Rattle.file_cursor.proofs.at_phase.Reads as at-phase-reads
 use native.Mathlib.Omega.{arith}
 use Prim.Native.Nat.{_≤_, _-_}
 use mathlib.Core.Path.{_≡_, refl}
@@ -34,12 +30,6 @@ advance-requires c κs = (c .before .loop .inv .3, omega arith, c .before .loop 
 returns-2 : tie.Need-returns-2 Inv-loop μ-loop
 returns-2 c = says-bad (now (c .before .before .before .before .before .before .before .args .file)) (c .before .before .before .loop .i) (c .before .before .before .loop .c) (c .before .advance .result) (omega arith) (c .before .advance .ensures .1) (c .before .before .before .loop .inv .4) (c .before .before .before .loop .inv .1) (c .if2 .taken)
 
-add-i : tie.Need-add-i Inv-loop μ-loop
-add-i c = omega arith
-
-loop-less : tie.Need-loop-less Inv-loop μ-loop
-loop-less c = omega arith
-
 loop-again : tie.Need-loop-again Inv-loop μ-loop
 loop-again c = (refl, c .before .before .before .loop .inv .1, omega arith, c .before .advance .ensures .0, reach-next (now (c .before .before .before .before .before .before .before .args .file)) (c .before .before .before .loop .i) (c .before .before .before .loop .c) (c .before .advance .result) (omega arith) (c .before .advance .ensures .1) (c .before .before .before .loop .inv .4) (c .if2 .left))
 
@@ -63,8 +53,8 @@ scan-spec =
     loop-holds
     advance-requires
     returns-2
-    add-i
-    loop-less
+    (λ c. omega arith)
+    (λ c. omega arith)
     loop-again
     returns-3
     returns-4

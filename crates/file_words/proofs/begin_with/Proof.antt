@@ -1,4 +1,4 @@
-use mathlib.Core.Path.{_≡_, refl, sym, _∙_}
+use mathlib.Core.Path.{_≡_}
 use Prim.Native.Nat.{_+_, _-_, _≤_}
 use native.Mathlib.Omega.{arith}
 use lib.ListN.{length, drop, getD}
@@ -6,8 +6,6 @@ use borrow.Author.Tests.{eq-eqb, ne-eqb}
 use Rattle.file_words.proofs.Matching.{at-least, one-more, tally, tally-words, at-space, at-letter, at-end, matched-on, matched-not, matched-past}
 use Rattle.file_words.proofs.begin_with.Statement.{statement}
 use Rattle.file_words.proofs.begin_with.Tie as tie
-use Rattle.file_words.proofs.begin_with.Reads as reads
-use Rattle.file_words.proofs.begin_with.Lts as lts
 
 abbrev Inv-loop : tie.InvT-loop
 Inv-loop x t m count₀ j₀ i₀ count j i = (i ≤ length x) × (count ≤ i) × (tally t 0 x ≡ count + tally t j (drop i x))
@@ -18,50 +16,17 @@ abbrev μ-loop : tie.MeasureT-loop
 loop-holds : tie.Need-loop-holds Inv-loop μ-loop
 loop-holds c = (omega arith, omega arith, omega arith)
 
-shared-slice-read-b : tie.Need-shared-slice-read-b Inv-loop μ-loop
-shared-slice-read-b c = omega arith
-
-add-i : tie.Need-add-i Inv-loop μ-loop
-add-i c = omega arith
-
-add-count : tie.Need-add-count Inv-loop μ-loop
-add-count c = omega arith
-
-loop-less : tie.Need-loop-less Inv-loop μ-loop
-loop-less c = omega arith
-
 loop-again : tie.Need-loop-again Inv-loop μ-loop
 loop-again c = (omega arith, omega arith, let x = c .before .before .before .before .before .args .x .now in let t = c .before .before .before .before .before .args .t .now in omega (arith, c .before .before .before .before .loop .inv .2, at-space at-least t one-more 0 x (c .before .before .before .before .loop .i) (c .before .before .before .before .loop .j) (omega arith) (c .before .if1 .taken) (eq-eqb (c .before .before .before .before .loop .j) (length t) (c .if2 .taken))))
-
-loop-less-2 : tie.Need-loop-less-2 Inv-loop μ-loop
-loop-less-2 c = omega arith
 
 loop-again-2 : tie.Need-loop-again-2 Inv-loop μ-loop
 loop-again-2 c = (omega arith, omega arith, let x = c .before .before .before .before .before .args .x .now in let t = c .before .before .before .before .before .args .t .now in omega (arith, c .before .before .before .before .loop .inv .2, at-space at-least t one-more 0 x (c .before .before .before .before .loop .i) (c .before .before .before .before .loop .j) (omega arith) (c .before .if1 .taken) (ne-eqb (c .before .before .before .before .loop .j) (length t) (c .if2 .left))))
 
-loop-less-3 : tie.Need-loop-less-3 Inv-loop μ-loop
-loop-less-3 c = omega arith
-
 loop-again-3 : tie.Need-loop-again-3 Inv-loop μ-loop
 loop-again-3 c = (omega arith, omega arith, let x = c .before .before .before .before .before .args .x .now in let t = c .before .before .before .before .before .args .t .now in omega (arith, c .before .before .before .before .loop .inv .2, at-letter at-least t one-more 0 x (c .before .before .before .before .loop .i) (c .before .before .before .before .loop .j) (omega arith) (c .before .if1 .left) (matched-past at-least t (c .before .before .before .before .loop .j) (getD x (c .before .before .before .before .loop .i) 0) (omega arith))))
 
-shared-slice-read-if4 : tie.Need-shared-slice-read-if4 Inv-loop μ-loop
-shared-slice-read-if4 c = omega arith
-
-add-j : tie.Need-add-j Inv-loop μ-loop
-add-j c = omega arith
-
-loop-less-4 : tie.Need-loop-less-4 Inv-loop μ-loop
-loop-less-4 c = omega arith
-
 loop-again-4 : tie.Need-loop-again-4 Inv-loop μ-loop
 loop-again-4 c = (omega arith, omega arith, let x = c .before .before .before .before .before .before .before .args .x .now in let t = c .before .before .before .before .before .before .before .args .t .now in omega (arith, c .before .before .before .before .before .before .loop .inv .2, at-letter at-least t one-more 0 x (c .before .before .before .before .before .before .loop .i) (c .before .before .before .before .before .before .loop .j) (omega arith) (c .before .before .before .if1 .left) (matched-on at-least t (c .before .before .before .before .before .before .loop .j) (getD x (c .before .before .before .before .before .before .loop .i) 0) (omega arith) (c .if4 .taken))))
-
-add-j-2 : tie.Need-add-j-2 Inv-loop μ-loop
-add-j-2 c = omega arith
-
-loop-less-5 : tie.Need-loop-less-5 Inv-loop μ-loop
-loop-less-5 c = omega arith
 
 loop-again-5 : tie.Need-loop-again-5 Inv-loop μ-loop
 loop-again-5 c = (omega arith, omega arith, let x = c .before .before .before .before .before .before .before .args .x .now in let t = c .before .before .before .before .before .before .before .args .t .now in omega (arith, c .before .before .before .before .before .before .loop .inv .2, at-letter at-least t one-more 0 x (c .before .before .before .before .before .before .loop .i) (c .before .before .before .before .before .before .loop .j) (omega arith) (c .before .before .before .if1 .left) (matched-not at-least t (c .before .before .before .before .before .before .loop .j) (getD x (c .before .before .before .before .before .before .loop .i) 0) (omega arith) (c .if4 .left))))
@@ -76,20 +41,20 @@ begin-with-spec =
     Inv-loop
     μ-loop
     loop-holds
-    shared-slice-read-b
-    add-i
-    add-count
-    loop-less
+    (λ c. omega arith)
+    (λ c. omega arith)
+    (λ c. omega arith)
+    (λ c. omega arith)
     loop-again
-    loop-less-2
+    (λ c. omega arith)
     loop-again-2
-    loop-less-3
+    (λ c. omega arith)
     loop-again-3
-    shared-slice-read-if4
-    add-j
-    loop-less-4
+    (λ c. omega arith)
+    (λ c. omega arith)
+    (λ c. omega arith)
     loop-again-4
-    add-j-2
-    loop-less-5
+    (λ c. omega arith)
+    (λ c. omega arith)
     loop-again-5
     returns)

@@ -7,8 +7,6 @@ use borrow.Author.Tests.{eq-eqb, ne-eqb}
 use Rattle.file_words.proofs.Matching.{all-of, or-else, seek, seek-words, at-space, at-letter, at-end, matched-on, matched-not, matched-past}
 use Rattle.file_words.proofs.is_among.Statement.{statement}
 use Rattle.file_words.proofs.is_among.Tie as tie
-use Rattle.file_words.proofs.is_among.Reads as reads
-use Rattle.file_words.proofs.is_among.Lts as lts
 
 abbrev Inv-loop : tie.InvT-loop
 Inv-loop x w m j₀ i₀ j i = (i ≤ length x) × (seek w 0 x ≡ seek w j (drop i x))
@@ -19,47 +17,17 @@ abbrev μ-loop : tie.MeasureT-loop
 loop-holds : tie.Need-loop-holds Inv-loop μ-loop
 loop-holds c = (omega arith, refl)
 
-shared-slice-read-b : tie.Need-shared-slice-read-b Inv-loop μ-loop
-shared-slice-read-b c = omega arith
-
-add-i : tie.Need-add-i Inv-loop μ-loop
-add-i c = omega arith
-
 returns : tie.Need-returns Inv-loop μ-loop
 returns c = λ ns h e. let x = c .before .before .before .before .before .args .x .now in let w = c .before .before .before .before .before .args .w .now in sym (sym (seek-words w x ns h e) ∙ c .before .before .before .before .loop .inv .1 ∙ at-space (all-of w) w or-else false x (c .before .before .before .before .loop .i) (c .before .before .before .before .loop .j) (omega arith) (c .before .if1 .taken) (eq-eqb (c .before .before .before .before .loop .j) (length w) (c .if2 .taken)))
-
-loop-less : tie.Need-loop-less Inv-loop μ-loop
-loop-less c = omega arith
 
 loop-again : tie.Need-loop-again Inv-loop μ-loop
 loop-again c = (omega arith, let x = c .before .before .before .before .before .args .x .now in let w = c .before .before .before .before .before .args .w .now in c .before .before .before .before .loop .inv .1 ∙ at-space (all-of w) w or-else false x (c .before .before .before .before .loop .i) (c .before .before .before .before .loop .j) (omega arith) (c .before .if1 .taken) (ne-eqb (c .before .before .before .before .loop .j) (length w) (c .if2 .left)))
 
-add-j : tie.Need-add-j Inv-loop μ-loop
-add-j c = omega arith
-
-loop-less-2 : tie.Need-loop-less-2 Inv-loop μ-loop
-loop-less-2 c = omega arith
-
 loop-again-2 : tie.Need-loop-again-2 Inv-loop μ-loop
 loop-again-2 c = (omega arith, let x = c .before .before .before .before .before .args .x .now in let w = c .before .before .before .before .before .args .w .now in c .before .before .before .before .loop .inv .1 ∙ at-letter (all-of w) w or-else false x (c .before .before .before .before .loop .i) (c .before .before .before .before .loop .j) (omega arith) (c .before .if1 .left) (matched-past (all-of w) w (c .before .before .before .before .loop .j) (getD x (c .before .before .before .before .loop .i) 0) (omega arith)))
 
-shared-slice-read-if4 : tie.Need-shared-slice-read-if4 Inv-loop μ-loop
-shared-slice-read-if4 c = omega arith
-
-add-j-2 : tie.Need-add-j-2 Inv-loop μ-loop
-add-j-2 c = omega arith
-
-loop-less-3 : tie.Need-loop-less-3 Inv-loop μ-loop
-loop-less-3 c = omega arith
-
 loop-again-3 : tie.Need-loop-again-3 Inv-loop μ-loop
 loop-again-3 c = (omega arith, let x = c .before .before .before .before .before .before .before .args .x .now in let w = c .before .before .before .before .before .before .before .args .w .now in c .before .before .before .before .before .before .loop .inv .1 ∙ at-letter (all-of w) w or-else false x (c .before .before .before .before .before .before .loop .i) (c .before .before .before .before .before .before .loop .j) (omega arith) (c .before .before .before .if1 .left) (matched-on (all-of w) w (c .before .before .before .before .before .before .loop .j) (getD x (c .before .before .before .before .before .before .loop .i) 0) (omega arith) (c .if4 .taken)))
-
-add-j-3 : tie.Need-add-j-3 Inv-loop μ-loop
-add-j-3 c = omega arith
-
-loop-less-4 : tie.Need-loop-less-4 Inv-loop μ-loop
-loop-less-4 c = omega arith
 
 loop-again-4 : tie.Need-loop-again-4 Inv-loop μ-loop
 loop-again-4 c = (omega arith, let x = c .before .before .before .before .before .before .before .args .x .now in let w = c .before .before .before .before .before .before .before .args .w .now in c .before .before .before .before .before .before .loop .inv .1 ∙ at-letter (all-of w) w or-else false x (c .before .before .before .before .before .before .loop .i) (c .before .before .before .before .before .before .loop .j) (omega arith) (c .before .before .before .if1 .left) (matched-not (all-of w) w (c .before .before .before .before .before .before .loop .j) (getD x (c .before .before .before .before .before .before .loop .i) 0) (omega arith) (c .if4 .left)))
@@ -74,19 +42,19 @@ is-among-spec =
     Inv-loop
     μ-loop
     loop-holds
-    shared-slice-read-b
-    add-i
+    (λ c. omega arith)
+    (λ c. omega arith)
     returns
-    loop-less
+    (λ c. omega arith)
     loop-again
-    add-j
-    loop-less-2
+    (λ c. omega arith)
+    (λ c. omega arith)
     loop-again-2
-    shared-slice-read-if4
-    add-j-2
-    loop-less-3
+    (λ c. omega arith)
+    (λ c. omega arith)
+    (λ c. omega arith)
     loop-again-3
-    add-j-3
-    loop-less-4
+    (λ c. omega arith)
+    (λ c. omega arith)
     loop-again-4
     returns-2)

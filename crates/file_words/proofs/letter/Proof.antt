@@ -3,8 +3,6 @@ use native.Mathlib.Omega.{arith}
 use Rattle.file_syntax.proofs.Words.{upper, lower, digit, no-letter}
 use Rattle.file_words.proofs.letter.Statement.{statement}
 use Rattle.file_words.proofs.letter.Tie as tie
-use Rattle.file_words.proofs.letter.Reads as reads
-use Rattle.file_words.proofs.letter.Lts as lts
 
 returns : tie.Need-returns
 returns c = sym (digit (c .before .before .args .b) (omega arith) (omega arith))

@@ -1,7 +1,5 @@
 use Rattle.file_words.proofs.word_end.Statement.{statement}
 use Rattle.file_words.proofs.word_end.Tie as tie
-use Rattle.file_words.proofs.word_end.Reads as reads
-use Rattle.file_words.proofs.word_end.Lts as lts
 use native.Mathlib.Omega.{arith}
 use Prim.Native.Nat.{_≤_, _-_, _+_}
 use mathlib.Core.Path.{_≡_}
@@ -20,23 +18,11 @@ abbrev μ-loop : tie.MeasureT-loop
 loop-holds : tie.Need-loop-holds Inv-loop μ-loop
 loop-holds c = (omega arith, omega arith)
 
-shared-slice-read-if1 : tie.Need-shared-slice-read-if1 Inv-loop μ-loop
-shared-slice-read-if1 c = omega arith
-
 returns : tie.Need-returns Inv-loop μ-loop
 returns c = end-hit (now (c .before .before .before .before .args .x)) (c .before .before .before .loop .i) (omega arith) (inl (c .if1 .taken)) (c .before .before .before .loop .inv .1)
 
-shared-slice-read-if2 : tie.Need-shared-slice-read-if2 Inv-loop μ-loop
-shared-slice-read-if2 c = omega arith
-
 returns-2 : tie.Need-returns-2 Inv-loop μ-loop
 returns-2 c = end-hit (now (c .before .before .before .before .before .before .args .x)) (c .before .before .before .before .before .loop .i) (omega arith) (inr (c .if2 .taken)) (c .before .before .before .before .before .loop .inv .1)
-
-add-i : tie.Need-add-i Inv-loop μ-loop
-add-i c = omega arith
-
-loop-less : tie.Need-loop-less Inv-loop μ-loop
-loop-less c = omega arith
 
 loop-again : tie.Need-loop-again Inv-loop μ-loop
 loop-again c = (omega arith, end-on-loop (now (c .before .before .before .before .before .before .args .x)) (c .before .before .before .before .before .loop .i) (omega arith) (c .before .before .if1 .left) (c .if2 .left) (c .before .before .before .before .before .loop .inv .1))
@@ -51,11 +37,11 @@ word-end-spec =
     Inv-loop
     μ-loop
     loop-holds
-    shared-slice-read-if1
+    (λ c. omega arith)
     returns
-    shared-slice-read-if2
+    (λ c. omega arith)
     returns-2
-    add-i
-    loop-less
+    (λ c. omega arith)
+    (λ c. omega arith)
     loop-again
     returns-3)

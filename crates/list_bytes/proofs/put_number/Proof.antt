@@ -4,27 +4,12 @@ use Rattle.list_bytes.proofs.Digits.{digits-few}
 use borrow.Author.Needs.{needs}
 use Rattle.list_bytes.proofs.put_number.Statement.{statement}
 use Rattle.list_bytes.proofs.put_number.Tie as tie
-use Rattle.list_bytes.proofs.put_number.Reads as reads
-use Rattle.list_bytes.proofs.put_number.Lts as lts
-use Rattle.text_write.proofs.write_number.Reads as write-number-reads
-
-sub-write-number : tie.Need-sub-write-number
-sub-write-number c = search needs
-
-part-write-number-start : tie.Need-part-write-number-start
-part-write-number-start c = search needs
-
-part-write-number-end : tie.Need-part-write-number-end
-part-write-number-end c = search needs
 
 write-number-requires : tie.Need-write-number-requires
 write-number-requires c κs = omega (arith, c .before .before .pre, c .write-number-arg .given, digits-few (c .before .before .args .v) (omega (arith, c .before .before .fits .v)))
 
 add-result : tie.Need-add-result
 add-result c = omega (arith, c .before .before .before .before .before .pre, c .before .before .write-number .ensures .many, c .before .before .before .before .before .good .1 .0, digits-few (c .before .before .before .before .before .args .v) (omega (arith, c .before .before .before .before .before .fits .v)))
-
-same-length : tie.Need-same-length
-same-length c = search needs
 
 returns : tie.Need-returns
 returns c = (omega (arith, c .before .before .write-number .ensures .many, digits-few (c .before .before .before .before .before .args .v) (omega (arith, c .before .before .before .before .before .fits .v))), part-appends (c .before .before .write-number .ensures))
@@ -33,10 +18,10 @@ pub put-number-spec : {M : Type 1} → statement M
 put-number-spec =
     tie.close
     (tie.spec
-    sub-write-number
-    part-write-number-start
-    part-write-number-end
+    (λ c. search needs)
+    (λ c. search needs)
+    (λ c. search needs)
     write-number-requires
     add-result
-    same-length
+    (λ c. search needs)
     returns)

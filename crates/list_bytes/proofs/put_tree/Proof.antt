@@ -3,27 +3,12 @@ use native.Mathlib.Omega.{arith}
 use Rattle.list_bytes.proofs.Laws.{part-appends}
 use Rattle.list_bytes.proofs.put_tree.Statement.{statement}
 use Rattle.list_bytes.proofs.put_tree.Tie as tie
-use Rattle.list_bytes.proofs.put_tree.Reads as reads
-use Rattle.list_bytes.proofs.put_tree.Lts as lts
-use Rattle.text_write.proofs.tree_text.Reads as tree-text-reads
-
-sub-tree-text : tie.Need-sub-tree-text
-sub-tree-text c = search needs
-
-part-tree-text-start : tie.Need-part-tree-text-start
-part-tree-text-start c = search needs
-
-part-tree-text-end : tie.Need-part-tree-text-end
-part-tree-text-end c = search needs
 
 tree-text-requires : tie.Need-tree-text-requires
 tree-text-requires c κs = (c .before .before .before .pre .0, c .before .before .before .pre .1, omega (arith, c .before .before .before .pre .2, c .tree-text-arg .given))
 
 add-result : tie.Need-add-result
 add-result c = omega (arith, c .before .before .before .before .before .before .pre .2, c .before .before .tree-text .ensures (c .before .before .before .before .before .before .pre .0) (c .before .before .before .before .before .before .pre .1) .many, c .before .before .before .before .before .before .good .1 .0)
-
-same-length : tie.Need-same-length
-same-length c = search needs
 
 returns : tie.Need-returns
 returns c = λ j e. part-appends (c .before .before .tree-text .ensures j e)
@@ -32,10 +17,10 @@ pub put-tree-spec : {M : Type 1} → statement M
 put-tree-spec =
     tie.close
     (tie.spec
-    sub-tree-text
-    part-tree-text-start
-    part-tree-text-end
+    (λ c. search needs)
+    (λ c. search needs)
+    (λ c. search needs)
     tree-text-requires
     add-result
-    same-length
+    (λ c. search needs)
     returns)

@@ -6,32 +6,9 @@ use Rattle.list_fields.proofs.Telling.{tells-empty, tells-full, tells-k
 use borrow.Author.Needs.{needs}
 use Rattle.list_fields.proofs.put_fields.Statement.{statement}
 use Rattle.list_fields.proofs.put_fields.Tie as tie
-use Rattle.list_fields.proofs.put_fields.Reads as reads
-use Rattle.list_fields.proofs.put_fields.Lts as lts
-use Rattle.list_fields.proofs.put_kept.Reads as put-kept-reads
-use Rattle.list_fields.proofs.put_refused.Reads as put-refused-reads
-use Rattle.list_bytes.proofs.put.Reads as put-reads
-
-slice-aggregate-put : tie.Need-slice-aggregate-put
-slice-aggregate-put c = search needs
-
-put-requires : tie.Need-put-requires
-put-requires c κs = search needs
-
-same-length : tie.Need-same-length
-same-length c = search needs
 
 returns : tie.Need-returns
 returns c = (omega (arith, c .before .before .put .ensures .past), λ f s k toks m q h. appends-as (tells-empty (f .ns) (now (c .before .before .before .before .before .before .before .before .before .before .before .before .args .order)) (c .before .before .before .before .before .before .before .before .before .before .before .before .args .names) s (now (c .before .before .before .before .before .before .before .before .before .before .before .before .args .list)) (c .before .before .before .before .before .if1 .taken)) (c .before .before .put .ensures))
-
-slice-aggregate-put-2 : tie.Need-slice-aggregate-put-2
-slice-aggregate-put-2 c = search needs
-
-put-requires-2 : tie.Need-put-requires-2
-put-requires-2 c κs = search needs
-
-same-length-2 : tie.Need-same-length-2
-same-length-2 c = search needs
 
 returns-2 : tie.Need-returns-2
 returns-2 c = (omega (arith, c .before .before .put2 .ensures .past), λ f s k toks m q h. appends-as (tells-full (f .ns) (now (c .before .before .before .before .before .before .before .before .before .before .before .before .before .args .order)) (c .before .before .before .before .before .before .before .before .before .before .before .before .before .args .names) s (now (c .before .before .before .before .before .before .before .before .before .before .before .before .before .args .list)) (c .before .before .before .before .before .before .if1 .left) (sym q ∙ c .before .before .before .before .before .if2 .taken)) (c .before .before .put2 .ensures))
@@ -39,17 +16,11 @@ returns-2 c = (omega (arith, c .before .before .put2 .ensures .past), λ f s k t
 put-kept-requires : tie.Need-put-kept-requires
 put-kept-requires c κs = (c .before .before .before .before .before .before .before .before .before .before .pre .0, c .before .before .before .before .before .before .before .before .before .before .pre .1 .group (omega (arith, c .before .before .before .if1 .left)), c .before .before .before .before .before .before .before .before .before .before .pre .2, omega (arith, c .before .before .before .before .before .before .before .before .before .before .pre .6))
 
-same-length-3 : tie.Need-same-length-3
-same-length-3 c = search needs
-
 returns-3 : tie.Need-returns-3
 returns-3 c = (c .before .before .put-kept .ensures .0, λ f s k toks m q h. appends-as (tells-kept (f .ns) (now (c .before .before .before .before .before .before .before .before .before .before .before .before .before .args .order)) (c .before .before .before .before .before .before .before .before .before .before .before .before .before .args .names) s (now (c .before .before .before .before .before .before .before .before .before .before .before .before .before .args .list)) k toks m (now (c .before .before .before .before .before .before .before .before .before .before .before .before .before .args .book)) (now (c .before .before .before .before .before .before .before .before .before .before .before .before .before .args .table)) (c .before .before .before .before .before .before .before .before .before .before .before .before .before .args .after) (c .before .before .before .before .before .before .if1 .left) (λ z. c .before .before .before .before .before .if2 .left (q ∙ z)) h (omega (arith, q, c .before .before .before .before .if3 .taken))) (c .before .before .put-kept .ensures .1 f))
 
 put-refused-requires : tie.Need-put-refused-requires
 put-refused-requires c κs = (c .before .before .before .before .before .before .before .before .before .before .pre .1 .few-leaves, c .before .before .before .before .before .before .before .before .before .before .pre .3, c .before .before .before .before .before .before .before .before .before .before .pre .5, c .before .before .before .before .before .before .before .before .before .before .pre .1 .group (omega (arith, c .before .before .before .if1 .left)), omega (arith, c .before .before .before .before .before .before .before .before .before .before .pre .4, c .before .before .before .before .before .before .before .before .before .before .pre .5), omega (arith, c .before .before .before .before .before .before .before .before .before .before .pre .6))
-
-same-length-4 : tie.Need-same-length-4
-same-length-4 c = search needs
 
 returns-4 : tie.Need-returns-4
 returns-4 c = (c .before .before .put-refused .ensures .0, λ f s k toks m q h. appends-as (tells-refused (f .ns) (now (c .before .before .before .before .before .before .before .before .before .before .before .before .before .args .order)) (c .before .before .before .before .before .before .before .before .before .before .before .before .before .args .names) s (now (c .before .before .before .before .before .before .before .before .before .before .before .before .before .args .list)) k toks m (now (c .before .before .before .before .before .before .before .before .before .before .before .before .before .args .book)) (now (c .before .before .before .before .before .before .before .before .before .before .before .before .before .args .table)) (c .before .before .before .before .before .before .before .before .before .before .before .before .before .args .after) (c .before .before .before .before .before .before .if1 .left) (λ z. c .before .before .before .before .before .if2 .left (q ∙ z)) h q (omega (arith, q, c .before .before .before .before .if3 .left))) (c .before .before .put-refused .ensures .1))
@@ -58,17 +29,17 @@ pub put-fields-spec : {M : Type 1} → statement M
 put-fields-spec =
     tie.close
     (tie.spec
-    slice-aggregate-put
-    put-requires
-    same-length
+    (λ c. search needs)
+    (λ c κs. search needs)
+    (λ c. search needs)
     returns
-    slice-aggregate-put-2
-    put-requires-2
-    same-length-2
+    (λ c. search needs)
+    (λ c κs. search needs)
+    (λ c. search needs)
     returns-2
     put-kept-requires
-    same-length-3
+    (λ c. search needs)
     returns-3
     put-refused-requires
-    same-length-4
+    (λ c. search needs)
     returns-4)

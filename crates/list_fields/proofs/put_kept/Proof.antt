@@ -15,12 +15,6 @@ use Rattle.list_fields.proofs.Aiming.{same-group, aim-range, kept-withi
 use borrow.Author.Needs.{needs}
 use Rattle.list_fields.proofs.put_kept.Statement.{statement}
 use Rattle.list_fields.proofs.put_kept.Tie as tie
-use Rattle.list_fields.proofs.put_kept.Reads as reads
-use Rattle.list_fields.proofs.put_kept.Lts as lts
-use Rattle.call_order.proofs.middle.Reads as middle-reads
-use Rattle.mark_words.proofs.mark_list.Reads as mark-list-reads
-use Rattle.list_bytes.proofs.put.Reads as put-reads
-use Rattle.file_read.proofs.name_of.Reads as name-of-reads
 
 -- The leaf that is aimed at, and its name.
 aimed : (c : tie.After-middle) → c .middle .result ≡ aim-of (elem (now (c .before .before .before .before .before .before .before .before .before .args .list))) (now (c .before .before .before .before .before .before .before .before .before .args .order))
@@ -41,41 +35,17 @@ few c =
     rw (c .name-of .ensures .0 ∙ name-held f (c .before .before .before .before .before .before .middle .result - 1))
     (name-few f (c .before .before .before .before .before .before .middle .result - 1) (omega (arith, leaf (c .before .before .before .before .before .before))))
 
-slice-aggregate-mark-list : tie.Need-slice-aggregate-mark-list
-slice-aggregate-mark-list c = search needs
-
-mark-list-requires : tie.Need-mark-list-requires
-mark-list-requires c κs = search needs
-
-slice-aggregate-middle : tie.Need-slice-aggregate-middle
-slice-aggregate-middle c = search needs
-
 middle-requires : tie.Need-middle-requires
 middle-requires c κs = kept-within (c .before .before .before .before .before .before .before .before .pre .2) (now (c .before .before .before .before .before .before .before .before .args .list)) _ (c .before .before .before .before .before .before .before .before .pre .1) (c .before .before .mark-list .ensures)
-
-slice-aggregate-put : tie.Need-slice-aggregate-put
-slice-aggregate-put c = search needs
-
-put-requires : tie.Need-put-requires
-put-requires c κs = search needs
 
 sub-name-of : tie.Need-sub-name-of
 sub-name-of c = leaf (c .before .before .before .before .before) .0
 
-name-of-requires : tie.Need-name-of-requires
-name-of-requires c κs = search needs
-
 put-requires-2 : tie.Need-put-requires-2
 put-requires-2 c κs = omega (arith, few (c .before), c .before .before .before .before .before .before .before .before .before .before .before .before .before .before .before .before .pre .3, c .before .before .before .before .put .ensures .past, c .before .before .before .before .put .kept .1 .0)
 
-slice-aggregate-put-2 : tie.Need-slice-aggregate-put-2
-slice-aggregate-put-2 c = search needs
-
 put-requires-3 : tie.Need-put-requires-3
 put-requires-3 c κs = omega (arith, few (c .before .before .before .before .before .before), c .before .before .before .before .before .before .before .before .before .before .before .before .before .before .before .before .before .before .before .before .before .pre .3, c .before .before .before .before .before .before .before .before .before .put .ensures .past, c .before .before .before .before .before .before .before .before .before .put .kept .1 .0, c .before .before .before .before .put2 .ensures .past, c .before .before .before .before .put2 .kept .1 .0)
-
-same-length : tie.Need-same-length
-same-length c = search needs
 
 returns : tie.Need-returns
 returns c = (omega (arith, few (c .before .before .before .before .before .before .before .before .before), c .before .before .before .before .before .before .before .before .before .before .before .before .put .ensures .past, c .before .before .before .before .before .before .before .put2 .ensures .past, c .before .before .put3 .ensures .past), λ f. appends-then (c .before .before .before .before .before .before .before .before .before .before .before .before .put .ensures) (appends-then (appends-as (named (c .before .before .before .before .before .before .before .before .before) f) (c .before .before .before .before .before .before .before .put2 .ensures)) (c .before .before .put3 .ensures)))
@@ -84,16 +54,16 @@ pub put-kept-spec : {M : Type 1} → statement M
 put-kept-spec =
     tie.close
     (tie.spec
-    slice-aggregate-mark-list
-    mark-list-requires
-    slice-aggregate-middle
+    (λ c. search needs)
+    (λ c κs. search needs)
+    (λ c. search needs)
     middle-requires
-    slice-aggregate-put
-    put-requires
+    (λ c. search needs)
+    (λ c κs. search needs)
     sub-name-of
-    name-of-requires
+    (λ c κs. search needs)
     put-requires-2
-    slice-aggregate-put-2
+    (λ c. search needs)
     put-requires-3
-    same-length
+    (λ c. search needs)
     returns)

@@ -13,11 +13,6 @@ use Rattle.list_fields.proofs.Conflicting.{conflicts-all}
 use borrow.Author.Needs.{needs}
 use Rattle.list_fields.proofs.put_refused.Statement.{statement}
 use Rattle.list_fields.proofs.put_refused.Tie as tie
-use Rattle.list_fields.proofs.put_refused.Reads as reads
-use Rattle.list_fields.proofs.put_refused.Lts as lts
-use Rattle.call_conflict.proofs.find.Reads as find-reads
-use Rattle.list_series.proofs.put_conflicts.Reads as put-conflicts-reads
-use Rattle.list_bytes.proofs.put.Reads as put-reads
 
 -- The numbers that were found.
 found : (c : tie.After-find) → take (c .find .result - 0) (drop 0 (c .find .last .1 .1 .1 .1 .0)) ≡ conflicts-of (c .before .before .before .before .before .before .args .n) (now (c .before .before .before .before .before .before .args .book)) (c .before .before .before .before .before .before .args .count) (now (c .before .before .before .before .before .before .args .list))
@@ -26,35 +21,8 @@ found c = read-part (c .find .ensures)
 few : (c : tie.After-find) → c .find .result ≤ c .before .before .before .before .before .before .args .count
 few c = omega (arith, c .find .ensures .many, list-few (c .before .before .before .before .before .before .args .n) (now (c .before .before .before .before .before .before .args .book)) (c .before .before .before .before .before .before .args .count) (now (c .before .before .before .before .before .before .args .list)))
 
-slice-aggregate-find : tie.Need-slice-aggregate-find
-slice-aggregate-find c = search needs
-
-find-requires : tie.Need-find-requires
-find-requires c κs = search needs
-
-slice-aggregate-put : tie.Need-slice-aggregate-put
-slice-aggregate-put c = search needs
-
-put-requires : tie.Need-put-requires
-put-requires c κs = search needs
-
-sub-put-conflicts : tie.Need-sub-put-conflicts
-sub-put-conflicts c = search needs
-
-part-put-conflicts-start : tie.Need-part-put-conflicts-start
-part-put-conflicts-start c = search needs
-
 part-put-conflicts-end : tie.Need-part-put-conflicts-end
 part-put-conflicts-end c = omega (arith, wrote-most (c .before .before .before .before .before .before .before .find .ensures))
-
-sub-put-conflicts-2 : tie.Need-sub-put-conflicts-2
-sub-put-conflicts-2 c = search needs
-
-part-put-conflicts-start-2 : tie.Need-part-put-conflicts-start-2
-part-put-conflicts-start-2 c = search needs
-
-part-put-conflicts-end-2 : tie.Need-part-put-conflicts-end-2
-part-put-conflicts-end-2 c = search needs
 
 put-conflicts-requires : tie.Need-put-conflicts-requires
 put-conflicts-requires c κs = (
@@ -63,9 +31,6 @@ put-conflicts-requires c κs = (
   omega (arith, c .before .before .before .before .before .before .before .before .before .before .before .before .before .before .before .before .pre .5, c .before .before .put-conflicts-arg .given, few (c .before .before .before .before .before .before .before .before .before .before), c .before .before .before .before .before .before .before .before .before .before .before .before .before .before .before .before .pre .2, c .before .before .before .before .before .before .put .ensures .past, c .before .before .before .before .before .before .put .kept .1 .0),
 )
 
-same-length : tie.Need-same-length
-same-length c = search needs
-
 returns : tie.Need-returns
 returns c = (omega (arith, c .before .before .put-conflicts .ensures .0, c .before .before .before .before .before .put-conflicts-arg .given, few (c .before .before .before .before .before .before .before .before .before .before .before .before .before), c .before .before .before .before .before .before .before .before .before .before .before .before .before .before .before .before .before .before .before .pre .2, c .before .before .before .before .before .before .before .before .before .put .ensures .past), appends-then (c .before .before .before .before .before .before .before .before .before .put .ensures) (appends-as (ap (commas (take (c .before .before .before .before .before .before .before .before .before .before .before .before .before .before .before .before .before .before .before .args .count - 0) (now (c .before .before .before .before .before .before .before .before .before .before .before .before .before .before .before .before .before .before .before .args .table)))) (found (c .before .before .before .before .before .before .before .before .before .before .before .before .before))) (c .before .before .put-conflicts .ensures .1)))
 
@@ -73,16 +38,16 @@ pub put-refused-spec : {M : Type 1} → statement M
 put-refused-spec =
     tie.close
     (tie.spec
-    slice-aggregate-find
-    find-requires
-    slice-aggregate-put
-    put-requires
-    sub-put-conflicts
-    part-put-conflicts-start
+    (λ c. search needs)
+    (λ c κs. search needs)
+    (λ c. search needs)
+    (λ c κs. search needs)
+    (λ c. search needs)
+    (λ c. search needs)
     part-put-conflicts-end
-    sub-put-conflicts-2
-    part-put-conflicts-start-2
-    part-put-conflicts-end-2
+    (λ c. search needs)
+    (λ c. search needs)
+    (λ c. search needs)
     put-conflicts-requires
-    same-length
+    (λ c. search needs)
     returns)

@@ -7,20 +7,6 @@ use Rattle.list_line.proofs.Printing.{end-order, end-names, end-tree, e
 use borrow.Author.Needs.{needs}
 use Rattle.list_line.proofs.print_end.Statement.{statement}
 use Rattle.list_line.proofs.print_end.Tie as tie
-use Rattle.list_line.proofs.print_end.Reads as reads
-use Rattle.list_line.proofs.print_end.Lts as lts
-use Rattle.list_series.proofs.put_names.Reads as put-names-reads
-use Rattle.list_bytes.proofs.put.Reads as put-reads
-use Rattle.list_bytes.proofs.put_tree.Reads as put-tree-reads
-
-slice-aggregate-put : tie.Need-slice-aggregate-put
-slice-aggregate-put c = search needs
-
-put-requires : tie.Need-put-requires
-put-requires c κs = search needs
-
-same-length : tie.Need-same-length
-same-length c = search needs
 
 returns : tie.Need-returns
 returns c = (omega (arith, c .before .before .put .ensures .past), λ f t e g h. appends-as (end-order (f .ns) t (c .before .before .before .before .before .if1 .taken)) (c .before .before .put .ensures))
@@ -28,29 +14,14 @@ returns c = (omega (arith, c .before .before .put .ensures .past), λ f t e g h.
 put-names-requires : tie.Need-put-names-requires
 put-names-requires c κs = (c .before .before .before .before .before .before .before .pre .0, order-all (c .before .before .before .before .before .before .before .pre .2), omega (arith, c .before .before .before .before .before .before .before .pre .3, order-length (c .before .before .before .before .before .before .before .pre .2), c .before .before .before .before .before .before .before .pre .2 .few-leaves))
 
-same-length-2 : tie.Need-same-length-2
-same-length-2 c = search needs
-
 returns-2 : tie.Need-returns-2
 returns-2 c = (omega (arith, c .before .before .put-names .ensures .0, order-length (c .before .before .before .before .before .before .before .before .before .before .pre .2), c .before .before .before .before .before .before .before .before .before .before .pre .2 .few-leaves), λ f t e g h. appends-as (end-names (f .ns) t (c .before .before .before .before .if2 .taken) g) (c .before .before .put-names .ensures .1 f))
-
-slice-aggregate-put-2 : tie.Need-slice-aggregate-put-2
-slice-aggregate-put-2 c = search needs
-
-put-requires-2 : tie.Need-put-requires-2
-put-requires-2 c κs = search needs
-
-same-length-3 : tie.Need-same-length-3
-same-length-3 c = search needs
 
 returns-3 : tie.Need-returns-3
 returns-3 c = (omega (arith, c .before .before .put2 .ensures .past), λ f t e g h. appends-as (end-tree (f .ns) t (c .before .before .before .before .before .if3 .taken)) (c .before .before .put2 .ensures))
 
 put-tree-requires : tie.Need-put-tree-requires
 put-tree-requires c κs = let p = c .before .before .before .before .before .before .before .before .pre .1 in (plain (p .0), flat-tree (p .0) (p .1), omega (arith, c .before .before .before .before .before .before .before .before .pre .3, short-text p))
-
-same-length-4 : tie.Need-same-length-4
-same-length-4 c = search needs
 
 returns-4 : tie.Need-returns-4
 returns-4 c = (
@@ -62,17 +33,17 @@ pub print-end-spec : {M : Type 1} → statement M
 print-end-spec =
     tie.close
     (tie.spec
-    slice-aggregate-put
-    put-requires
-    same-length
+    (λ c. search needs)
+    (λ c κs. search needs)
+    (λ c. search needs)
     returns
     put-names-requires
-    same-length-2
+    (λ c. search needs)
     returns-2
-    slice-aggregate-put-2
-    put-requires-2
-    same-length-3
+    (λ c. search needs)
+    (λ c κs. search needs)
+    (λ c. search needs)
     returns-3
     put-tree-requires
-    same-length-4
+    (λ c. search needs)
     returns-4)

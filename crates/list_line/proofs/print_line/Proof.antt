@@ -6,20 +6,6 @@ use Rattle.list_line.proofs.Printing.{stands-at, listed-head, listed-gr
 use borrow.Author.Needs.{needs}
 use Rattle.list_line.proofs.print_line.Statement.{statement}
 use Rattle.list_line.proofs.print_line.Tie as tie
-use Rattle.list_line.proofs.print_line.Reads as reads
-use Rattle.list_line.proofs.print_line.Lts as lts
-use Rattle.list_line.proofs.print_end.Reads as print-end-reads
-use Rattle.list_line.proofs.print_group.Reads as print-group-reads
-use Rattle.list_bytes.proofs.put.Reads as put-reads
-
-slice-aggregate-put : tie.Need-slice-aggregate-put
-slice-aggregate-put c = search needs
-
-put-requires : tie.Need-put-requires
-put-requires c κs = search needs
-
-same-length : tie.Need-same-length
-same-length c = search needs
 
 returns : tie.Need-returns
 returns c = (
@@ -30,23 +16,8 @@ returns c = (
   ),
 )
 
-sub-print-group : tie.Need-sub-print-group
-sub-print-group c = search needs
-
 print-group-requires : tie.Need-print-group-requires
 print-group-requires c κs = (c .before .before .before .before .before .before .before .before .before .before .before .before .before .pre .0, c .before .before .before .before .before .before .before .before .before .before .before .before .before .pre .1 (c .before .before .before .before .if2 .taken), omega (arith, c .before .before .before .before .before .if1 .left, c .before .before .before .before .if2 .taken), c .before .before .before .before .before .before .before .before .before .before .before .before .before .pre .2, c .before .before .before .before .before .before .before .before .before .before .before .before .before .pre .4, c .before .before .before .before .before .before .before .before .before .before .before .before .before .pre .5)
-
-same-length-2 : tie.Need-same-length-2
-same-length-2 c = search needs
-
-same-length-3 : tie.Need-same-length-3
-same-length-3 c = search needs
-
-same-length-4 : tie.Need-same-length-4
-same-length-4 c = search needs
-
-same-length-5 : tie.Need-same-length-5
-same-length-5 c = search needs
 
 returns-2 : tie.Need-returns-2
 returns-2 c = (
@@ -57,18 +28,6 @@ returns-2 c = (
         appends-as (listed-group f (e .standard-order) (c .before .before .before .before .before .before .before .before .before .before .before .before .before .before .before .before .before .before .before .before .before .before .args .i) (omega (arith, c .before .before .before .before .before .before .before .before .before .before .before .before .before .before .if1 .left)) (c .before .before .before .before .before .before .before .before .before .before .before .before .before .if2 .taken)) (p .1),
       ),
 )
-
-sub-print-end : tie.Need-sub-print-end
-sub-print-end c = search needs
-
-sub-print-end-2 : tie.Need-sub-print-end-2
-sub-print-end-2 c = search needs
-
-print-end-requires : tie.Need-print-end-requires
-print-end-requires c κs = search needs
-
-same-length-6 : tie.Need-same-length-6
-same-length-6 c = search needs
 
 returns-3 : tie.Need-returns-3
 returns-3 c = (
@@ -84,19 +43,19 @@ pub print-line-spec : {M : Type 1} → statement M
 print-line-spec =
     tie.close
     (tie.spec
-    slice-aggregate-put
-    put-requires
-    same-length
+    (λ c. search needs)
+    (λ c κs. search needs)
+    (λ c. search needs)
     returns
-    sub-print-group
+    (λ c. search needs)
     print-group-requires
-    same-length-2
-    same-length-3
-    same-length-4
-    same-length-5
+    (λ c. search needs)
+    (λ c. search needs)
+    (λ c. search needs)
+    (λ c. search needs)
     returns-2
-    sub-print-end
-    sub-print-end-2
-    print-end-requires
-    same-length-6
+    (λ c. search needs)
+    (λ c. search needs)
+    (λ c κs. search needs)
+    (λ c. search needs)
     returns-3)

@@ -10,10 +10,6 @@ use Rattle.list_line.proofs.Printing.{listed-length}
 use Rattle.list_part.proofs.Parts.{lines-few, Shown, shown-none, shown-more, short-part, whole-part}
 use Rattle.list_part.proofs.print_lines.Statement.{statement}
 use Rattle.list_part.proofs.print_lines.Tie as tie
-use Rattle.list_part.proofs.print_lines.Reads as reads
-use Rattle.list_part.proofs.print_lines.Lts as lts
-use Rattle.list_line.proofs.print_line.Reads as print-line-reads
-use Rattle.list_bytes.proofs.put.Reads as put-reads
 
 abbrev Inv-loop : tie.InvT-loop
 Inv-loop file names head lines from tree order toks₀ book₀ table₀ out₀ end ring₀ at₀ i₀ t18 toks book table out ring at i =

@@ -13,58 +13,20 @@ use Rattle.list_part.proofs.Answers.{final-tokens, final-published, ord
 use borrow.Author.Needs.{needs}
 use Rattle.list_part.proofs.print_listing.Statement.{statement}
 use Rattle.list_part.proofs.print_listing.Tie as tie
-use Rattle.list_part.proofs.print_listing.Reads as reads
-use Rattle.list_part.proofs.print_listing.Lts as lts
-use Rattle.list_ring.proofs.replay.Reads as replay-reads
-use Rattle.list_part.proofs.print_from.Reads as print-from-reads
-use Rattle.tree_order.proofs.standard_order.Reads as standard-order-reads
 
 -- The order that was written.
 written : (c : tie.After-standard-order) (f : FileHolds (now (c .before .before .before .before .before .before .before .before .before .before .before .before .before .args .file)) (c .before .before .before .before .before .before .before .before .before .before .before .before .before .args .names) (c .before .before .before .before .before .before .before .before .before .before .before .before .before .args .head) (c .before .before .before .before .before .before .before .before .before .before .before .before .before .args .lines))
     → (old : List ℕ) × Wrote (standard (tree (plain (final (f .ns) (lists-of f))))) old (c .standard-order .last .1 .0) (c .standard-order .result)
 written c f = (_, c .standard-order .ensures (plain (final (f .ns) (lists-of f))) (flat-tree _ (final-tokens f (c .before .before .before .before .before .before .before .replay .ensures f))))
 
-slice-aggregate-replay : tie.Need-slice-aggregate-replay
-slice-aggregate-replay c = search needs
-
-slice-aggregate-replay-2 : tie.Need-slice-aggregate-replay-2
-slice-aggregate-replay-2 c = search needs
-
-slice-aggregate-replay-3 : tie.Need-slice-aggregate-replay-3
-slice-aggregate-replay-3 c = search needs
-
-replay-requires : tie.Need-replay-requires
-replay-requires c κs = search needs
-
-sub-standard-order : tie.Need-sub-standard-order
-sub-standard-order c = search needs
-
-part-standard-order-start : tie.Need-part-standard-order-start
-part-standard-order-start c = search needs
-
 part-standard-order-end : tie.Need-part-standard-order-end
 part-standard-order-end c = omega (arith, c .before .before .before .before .replay .ensures (c .before .before .before .before .before .before .before .before .before .before .pre) .all-tokens)
-
-slice-aggregate-standard-order : tie.Need-slice-aggregate-standard-order
-slice-aggregate-standard-order c = search needs
 
 standard-order-requires : tie.Need-standard-order-requires
 standard-order-requires c κs = (plain (final (c .before .before .before .before .before .before .before .before .before .before .before .before .pre .ns) (lists-of (c .before .before .before .before .before .before .before .before .before .before .before .before .pre))), flat-tree _ (final-tokens (c .before .before .before .before .before .before .before .before .before .before .before .before .pre) (c .before .before .before .before .before .before .replay .ensures (c .before .before .before .before .before .before .before .before .before .before .before .before .pre))), order-room (c .before .before .before .before .before .before .before .before .before .before .before .before .pre) (c .before .before .before .before .before .before .replay .ensures (c .before .before .before .before .before .before .before .before .before .before .before .before .pre)))
 
-sub-print-from : tie.Need-sub-print-from
-sub-print-from c = search needs
-
-part-print-from-start : tie.Need-part-print-from-start
-part-print-from-start c = search needs
-
 part-print-from-end : tie.Need-part-print-from-end
 part-print-from-end c = omega (arith, c .before .before .before .before .before .before .before .before .before .replay .ensures (c .before .before .before .before .before .before .before .before .before .before .before .before .before .before .before .pre) .all-tokens)
-
-sub-print-from-2 : tie.Need-sub-print-from-2
-sub-print-from-2 c = search needs
-
-part-print-from-start-2 : tie.Need-part-print-from-start-2
-part-print-from-start-2 c = search needs
 
 part-print-from-end-2 : tie.Need-part-print-from-end-2
 part-print-from-end-2 c = omega (arith, wrote-most (written (c .before .before .before .before) (c .before .before .before .before .before .before .before .before .before .before .before .before .before .before .before .before .before .pre) .1))
@@ -77,9 +39,6 @@ print-from-requires c κs = (
   is-ordered (c .before .before .before .before .before .before .before .before .before .before .before .before .before .before .before .before .before .before .before .pre) (c .before .before .before .before .before .before .before .before .before .before .before .before .before .replay .ensures (c .before .before .before .before .before .before .before .before .before .before .before .before .before .before .before .before .before .before .before .pre)) (written (c .before .before .before .before .before .before) (c .before .before .before .before .before .before .before .before .before .before .before .before .before .before .before .before .before .before .before .pre) .1),
 )
 
-same-length : tie.Need-same-length
-same-length c = search needs
-
 returns : tie.Need-returns
 returns c = λ f. c .before .before .print-from .ensures f (is-final f (c .before .before .before .before .before .before .before .before .before .before .before .before .before .before .before .before .replay .ensures f) (written (c .before .before .before .before .before .before .before .before .before) f .1))
 
@@ -87,21 +46,21 @@ pub print-listing-spec : {M : Type 1} → statement M
 print-listing-spec =
     tie.close
     (tie.spec
-    slice-aggregate-replay
-    slice-aggregate-replay-2
-    slice-aggregate-replay-3
-    replay-requires
-    sub-standard-order
-    part-standard-order-start
+    (λ c. search needs)
+    (λ c. search needs)
+    (λ c. search needs)
+    (λ c κs. search needs)
+    (λ c. search needs)
+    (λ c. search needs)
     part-standard-order-end
-    slice-aggregate-standard-order
+    (λ c. search needs)
     standard-order-requires
-    sub-print-from
-    part-print-from-start
+    (λ c. search needs)
+    (λ c. search needs)
     part-print-from-end
-    sub-print-from-2
-    part-print-from-start-2
+    (λ c. search needs)
+    (λ c. search needs)
     part-print-from-end-2
     print-from-requires
-    same-length
+    (λ c. search needs)
     returns)

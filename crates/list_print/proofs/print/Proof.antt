@@ -5,11 +5,6 @@ use lib.ListN.{length, length-take}
 use Rattle.tree_tokens.proofs.Writes.{wrote-most}
 use Rattle.list_print.proofs.print.Statement.{statement}
 use Rattle.list_print.proofs.print.Tie as tie
-use Rattle.list_print.proofs.print.Reads as reads
-use Rattle.list_print.proofs.print.Lts as lts
-use Rattle.io.proofs.large_buffer.Reads as large-buffer-reads
-use Rattle.io.proofs.write_all.Reads as write-all-reads
-use Rattle.list_part.proofs.part.Reads as part-reads
 
 abbrev Inv-loop : tie.InvT-loop
 Inv-loop file out₀ from₀ parts₀ out from parts = 65536 ≡ length out

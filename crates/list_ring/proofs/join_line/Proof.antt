@@ -13,28 +13,6 @@ use Rattle.list_ring.specs.Stands.{lists-of}
 use Rattle.list_ring.proofs.Files.{few-names, file-line, stands-more}
 use Rattle.list_ring.proofs.join_line.Statement.{statement}
 use Rattle.list_ring.proofs.join_line.Tie as tie
-use Rattle.list_ring.proofs.join_line.Reads as reads
-use Rattle.list_ring.proofs.join_line.Lts as lts
-use Rattle.list_ring.proofs.advance.Reads as advance-reads
-use Rattle.file_read.proofs.group_of.Reads as group-of-reads
-
-slice-aggregate-group-of : tie.Need-slice-aggregate-group-of
-slice-aggregate-group-of c = search needs
-
-group-of-requires : tie.Need-group-of-requires
-group-of-requires c κs = search needs
-
-add-advance : tie.Need-add-advance
-add-advance c = search needs
-
-sub-advance : tie.Need-sub-advance
-sub-advance c = search needs
-
-part-advance-start : tie.Need-part-advance-start
-part-advance-start c = search needs
-
-part-advance-end : tie.Need-part-advance-end
-part-advance-end c = search needs
 
 -- The leaves that were read.
 leaves : (c : tie.After-group-of) (f : FileHolds (now (c .before .before .before .before .before .before .args .file)) (c .before .before .before .before .before .before .args .names) (c .before .before .before .before .before .before .args .head) (c .before .before .before .before .before .before .args .lines))
@@ -44,15 +22,6 @@ leaves c f = read-part (group-file f (c .before .before .before .before .before 
 advance-requires : tie.Need-advance-requires
 advance-requires c κs = (state-at (c .before .before .before .before .before .before .before .before .before .before .before .before .args .names) (lists-of (c .before .before .before .before .before .before .before .before .before .before .before .before .pre .0)) (c .before .before .before .before .before .before .before .before .before .before .before .before .args .l), c .before .before .before .before .before .before .before .before .before .before .before .before .pre .3, rw (leaves (c .before .before .before .before .before .before) (c .before .before .before .before .before .before .before .before .before .before .before .before .pre .0)) (file-line (c .before .before .before .before .before .before .before .before .before .before .before .before .pre .0) (c .before .before .before .before .before .before .before .before .before .before .before .before .args .l) (c .before .before .before .before .before .before .before .before .before .before .before .before .pre .1)), c .before .before .before .before .before .before .before .before .before .before .before .before .pre .2)
 
-same-length : tie.Need-same-length
-same-length c = search needs
-
-same-length-2 : tie.Need-same-length-2
-same-length-2 c = search needs
-
-same-length-3 : tie.Need-same-length-3
-same-length-3 c = search needs
-
 returns : tie.Need-returns
 returns c = λ f h. stands-more f (c .before .before .before .before .before .before .before .before .before .before .before .before .before .before .before .before .before .before .before .args .l) (c .before .before .before .before .before .before .before .before .before .before .before .before .before .before .before .before .before .before .before .pre .1) (leaves (c .before .before .before .before .before .before .before .before .before .before .before .before .before) f) (c .before .before .before .before .before .before .advance .ensures (state-at (c .before .before .before .before .before .before .before .before .before .before .before .before .before .before .before .before .before .before .before .args .names) (lists-of f) (c .before .before .before .before .before .before .before .before .before .before .before .before .before .before .before .before .before .before .before .args .l)) h)
 
@@ -60,14 +29,14 @@ pub join-line-spec : {M : Type 1} → statement M
 join-line-spec =
     tie.close
     (tie.spec
-    slice-aggregate-group-of
-    group-of-requires
-    add-advance
-    sub-advance
-    part-advance-start
-    part-advance-end
+    (λ c. search needs)
+    (λ c κs. search needs)
+    (λ c. search needs)
+    (λ c. search needs)
+    (λ c. search needs)
+    (λ c. search needs)
     advance-requires
-    same-length
-    same-length-2
-    same-length-3
+    (λ c. search needs)
+    (λ c. search needs)
+    (λ c. search needs)
     returns)

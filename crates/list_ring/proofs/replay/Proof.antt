@@ -7,10 +7,6 @@ use Rattle.list_ring.specs.Stands.{StandsAt}
 use Rattle.list_ring.proofs.Files.{few-names, stands-none}
 use Rattle.list_ring.proofs.replay.Statement.{statement}
 use Rattle.list_ring.proofs.replay.Tie as tie
-use Rattle.list_ring.proofs.replay.Reads as reads
-use Rattle.list_ring.proofs.replay.Lts as lts
-use Rattle.list_ring.proofs.fresh_ring.Reads as fresh-ring-reads
-use Rattle.list_ring.proofs.join_line.Reads as join-line-reads
 
 abbrev Inv-loop : tie.InvT-loop
 Inv-loop file names head lines upto toks₀ book₀ table₀ ring₀ l₀ toks book table ring l =

@@ -6,7 +6,7 @@ use lib.ListN.{length, getD}
 use Rattle.spec_orders.specs.TreeText.{digits}
 use Rattle.list_bytes.proofs.Laws.{appends-none, appends-then}
 use Rattle.list_series.proofs.Words.{words-none, words-one, words-more, all-first, all-tail}
-use Prim.Native.Nat.{ℕ, _+_, _-_, _≤_, _<_}
+use Prim.Native.Nat.{ℕ, _-_, _≤_, _<_}
 use borrow.Fn.Kinds.{In}
 use borrow.Fn.PlainCycle.{Measures, is, falls, and}
 use Rattle.list_series.proofs.put_conflicts.Reads as put-conflicts

@@ -9,7 +9,7 @@ use Rattle.file_read.specs.RingFile.{FileHolds}
 use Rattle.file_read.proofs.Values.{name-held}
 use Rattle.list_series.specs.Series.{name}
 use Rattle.list_series.proofs.Words.{words-none, words-one, words-more, all-first, all-tail, name-few}
-use Prim.Native.Nat.{ℕ, _+_, _-_, _≤_, _<_}
+use Prim.Native.Nat.{ℕ, _-_, _≤_, _<_}
 use borrow.Fn.Kinds.{In}
 use borrow.Fn.PlainCycle.{Measures, is, falls, and}
 use Rattle.list_series.proofs.put_names.Reads as put-names

@@ -18,30 +18,6 @@ abbrev μ-loop : tie.MeasureT-loop
 loop-holds : tie.Need-loop-holds Inv-loop μ-loop
 loop-holds c = (written-none (outside (c .before .args .n) (marked (c .before .args .words .now))) (c .before .args .words .now), omega arith)
 
-low-marks-requires : tie.Need-low-marks-requires Inv-loop μ-loop
-low-marks-requires c κs = omega arith
-
-mul-words : tie.Need-mul-words Inv-loop μ-loop
-mul-words c = omega arith
-
-slice-read-words : tie.Need-slice-read-words Inv-loop μ-loop
-slice-read-words c = omega arith
-
-mul-words-2 : tie.Need-mul-words-2 Inv-loop μ-loop
-mul-words-2 c = omega arith
-
-slice-write-words : tie.Need-slice-write-words Inv-loop μ-loop
-slice-write-words c = omega arith
-
-after-word-requires : tie.Need-after-word-requires Inv-loop μ-loop
-after-word-requires c κs = omega arith
-
-add-i : tie.Need-add-i Inv-loop μ-loop
-add-i c = omega arith
-
-loop-less : tie.Need-loop-less Inv-loop μ-loop
-loop-less c = omega arith
-
 loop-again : tie.Need-loop-again Inv-loop μ-loop
 loop-again c =
     let G = outside (c .before .before .before .before .before .before .args .n) (marked (c .before .before .before .before .before .before .args .words .now)) in (
@@ -64,14 +40,14 @@ complement-spec =
     Inv-loop
     μ-loop
     loop-holds
-    low-marks-requires
-    mul-words
-    slice-read-words
-    mul-words-2
-    slice-write-words
-    after-word-requires
-    add-i
-    loop-less
+    (λ c κs. omega arith)
+    (λ c. omega arith)
+    (λ c. omega arith)
+    (λ c. omega arith)
+    (λ c. omega arith)
+    (λ c κs. omega arith)
+    (λ c. omega arith)
+    (λ c. omega arith)
     loop-again
     same-length
     returns)

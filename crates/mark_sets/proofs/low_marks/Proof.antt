@@ -11,9 +11,6 @@ use Rattle.mark_sets.proofs.low_marks.Tie as tie
 returns : tie.Need-returns
 returns c = let e : 64 ≡ min (c .before .args .k) 64 = omega arith in ap (λ (x : ℕ). 2 ^ x - 1) e
 
-shl-result : tie.Need-shl-result
-shl-result c = search needs
-
 sub-result : tie.Need-sub-result
 sub-result c = rw (one-shifted (c .before .args .k) (omega arith)) (pow-pos (c .before .args .k))
 
@@ -21,4 +18,4 @@ returns-2 : tie.Need-returns-2
 returns-2 c = let e : min (c .before .args .k) 64 ≡ c .before .args .k = omega arith in rw (one-shifted (c .before .args .k) (omega arith), e)
 
 pub low-marks-spec : {M : Type 1} → statement M
-low-marks-spec = tie.close (tie.spec returns shl-result sub-result returns-2)
+low-marks-spec = tie.close (tie.spec returns (λ c. search needs) sub-result returns-2)

@@ -18,32 +18,8 @@ abbrev μ-loop : tie.MeasureT-loop
 loop-holds : tie.Need-loop-holds Inv-loop μ-loop
 loop-holds c = (omega arith, omega arith, λ k l. absurd (omega arith))
 
-mul-if1 : tie.Need-mul-if1 Inv-loop μ-loop
-mul-if1 c = omega arith
-
-shared-slice-read-if1 : tie.Need-shared-slice-read-if1 Inv-loop μ-loop
-shared-slice-read-if1 c = omega arith
-
-low-marks-requires : tie.Need-low-marks-requires Inv-loop μ-loop
-low-marks-requires c κs = omega arith
-
-mul-if1-2 : tie.Need-mul-if1-2 Inv-loop μ-loop
-mul-if1-2 c = omega arith
-
-shared-slice-read-if1-2 : tie.Need-shared-slice-read-if1-2 Inv-loop μ-loop
-shared-slice-read-if1-2 c = omega arith
-
 returns : tie.Need-returns Inv-loop μ-loop
 returns c = sym (within-not (c .before .before .before .before .before .before .before .args .words .now) (c .before .before .before .before .before .before .before .args .n) (c .before .before .before .before .before .loop .i) (λ k. c .before .before .before .before .before .before .shared-slice-known .given k .fits) (rw (c .before .before .low-marks .ensures ∙ ap (λ (k : ℕ). 2 ^ min k 64 - 1) (c .before .before .before .before .before .loop .inv .1)) at (c .if1 .taken)))
-
-after-word-requires : tie.Need-after-word-requires Inv-loop μ-loop
-after-word-requires c κs = omega arith
-
-add-i : tie.Need-add-i Inv-loop μ-loop
-add-i c = omega arith
-
-loop-less : tie.Need-loop-less Inv-loop μ-loop
-loop-less c = omega arith
 
 loop-again : tie.Need-loop-again Inv-loop μ-loop
 loop-again c = (omega arith, omega (arith, c .after-word .ensures), below-more _ _ (c .before .before .before .before .before .before .loop .inv .2) (rw (c .before .before .before .low-marks .ensures ∙ ap (λ (k : ℕ). 2 ^ min k 64 - 1) (c .before .before .before .before .before .before .loop .inv .1)) at (c .before .if1 .left)))
@@ -58,14 +34,14 @@ within-spec =
     Inv-loop
     μ-loop
     loop-holds
-    mul-if1
-    shared-slice-read-if1
-    low-marks-requires
-    mul-if1-2
-    shared-slice-read-if1-2
+    (λ c. omega arith)
+    (λ c. omega arith)
+    (λ c κs. omega arith)
+    (λ c. omega arith)
+    (λ c. omega arith)
     returns
-    after-word-requires
-    add-i
-    loop-less
+    (λ c κs. omega arith)
+    (λ c. omega arith)
+    (λ c. omega arith)
     loop-again
     returns-2)

@@ -17,26 +17,8 @@ Inv-loop list words₀ at₀ words at = (at ≤ length list) × (length words �
 abbrev μ-loop : tie.MeasureT-loop
 μ-loop list words₀ at₀ words at = length list - at
 
-clear-requires : tie.Need-clear-requires Inv-loop μ-loop
-clear-requires c κs = omega arith
-
 loop-holds : tie.Need-loop-holds Inv-loop μ-loop
 loop-holds c = (omega arith, refl, rw (c .before .before .clear .kept .0) (c .before .before .clear .ensures))
-
-mul-set : tie.Need-mul-set Inv-loop μ-loop
-mul-set c = omega arith
-
-shared-slice-read-set : tie.Need-shared-slice-read-set Inv-loop μ-loop
-shared-slice-read-set c = omega arith
-
-set-requires : tie.Need-set-requires Inv-loop μ-loop
-set-requires c κs = omega arith
-
-add-at : tie.Need-add-at Inv-loop μ-loop
-add-at c = omega arith
-
-loop-less : tie.Need-loop-less Inv-loop μ-loop
-loop-less c = omega arith
 
 loop-again : tie.Need-loop-again Inv-loop μ-loop
 loop-again c = (omega arith, c .before .before .set .kept .0 ∙ c .before .before .before .before .before .before .loop .inv .1, c .before .before .set .ensures ∙ list-more _ (c .before .before .before .before .before .before .before .before .before .before .before .before .before .args .list .now) (c .before .before .before .before .before .before .loop .at) (c .before .before .before .before .before .before .loop .words) (omega arith) (c .before .before .before .before .before .before .loop .inv .2))
@@ -53,13 +35,13 @@ mark-list-spec =
     (tie.spec
     Inv-loop
     μ-loop
-    clear-requires
+    (λ c κs. omega arith)
     loop-holds
-    mul-set
-    shared-slice-read-set
-    set-requires
-    add-at
-    loop-less
+    (λ c. omega arith)
+    (λ c. omega arith)
+    (λ c κs. omega arith)
+    (λ c. omega arith)
+    (λ c. omega arith)
     loop-again
     same-length
     returns)

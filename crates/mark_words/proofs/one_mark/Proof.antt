@@ -7,14 +7,8 @@ use borrow.Author.Needs.{needs}
 use Rattle.mark_words.proofs.one_mark.Statement.{statement}
 use Rattle.mark_words.proofs.one_mark.Tie as tie
 
-cast-result : tie.Need-cast-result
-cast-result c = search needs
-
-shl-result : tie.Need-shl-result
-shl-result c = search needs
-
 returns : tie.Need-returns
 returns c = one-shifted (c .args .i % 64) (mod-lt (c .args .i) (omega arith))
 
 pub one-mark-spec : {M : Type 1} → statement M
-one-mark-spec = tie.close (tie.spec cast-result shl-result returns)
+one-mark-spec = tie.close (tie.spec (λ c. search needs) (λ c. search needs) returns)

@@ -13,32 +13,8 @@ use Rattle.mark_words.proofs.set.Tie as tie
 returns : tie.Need-returns
 returns c = set-none (c .before .before .args .words .now) (c .before .before .args .leaf) (λ k. c .before .slice-known .given k .fits) (λ x l m e. omega arith)
 
-sub-m : tie.Need-sub-m
-sub-m c = search needs
-
-cast-w : tie.Need-cast-w
-cast-w c = search needs
-
 returns-2 : tie.Need-returns-2
 returns-2 c = set-none (c .before .before .before .args .words .now) (c .before .before .before .args .leaf) (λ k. c .before .before .slice-known .given k .fits) (λ x l m e. omega (arith, div-add-mod (c .before .before .before .args .leaf - 1) 64))
-
-mul-words : tie.Need-mul-words
-mul-words c = search needs
-
-slice-read-words : tie.Need-slice-read-words
-slice-read-words c = search needs
-
-one-mark-requires : tie.Need-one-mark-requires
-one-mark-requires c κs = search needs
-
-mul-words-2 : tie.Need-mul-words-2
-mul-words-2 c = search needs
-
-slice-write-words : tie.Need-slice-write-words
-slice-write-words c = search needs
-
-same-length : tie.Need-same-length
-same-length c = search needs
 
 returns-3 : tie.Need-returns-3
 returns-3 c =
@@ -52,13 +28,13 @@ set-spec =
     tie.close
     (tie.spec
     returns
-    sub-m
-    cast-w
+    (λ c. search needs)
+    (λ c. search needs)
     returns-2
-    mul-words
-    slice-read-words
-    one-mark-requires
-    mul-words-2
-    slice-write-words
-    same-length
+    (λ c. search needs)
+    (λ c. search needs)
+    (λ c κs. search needs)
+    (λ c. search needs)
+    (λ c. search needs)
+    (λ c. search needs)
     returns-3)

@@ -13,20 +13,8 @@ returns : tie.Need-returns
 unfolding marked
 returns c = rw (c .if1 .taken)
 
-sub-i : tie.Need-sub-i
-sub-i c = search needs
-
 returns-2 : tie.Need-returns-2
 returns-2 c = sym (marked-past (c .before .before .args .words .now) (c .before .before .args .leaf) (omega (arith, div-add-mod (c .before .before .args .leaf - 1) 64)))
-
-mul-result : tie.Need-mul-result
-mul-result c = search needs
-
-shared-slice-read-result : tie.Need-shared-slice-read-result
-shared-slice-read-result c = search needs
-
-shr-result : tie.Need-shr-result
-shr-result c = search needs
 
 returns-3 : tie.Need-returns-3
 returns-3 c = sym (marked-is (c .before .before .before .args .words .now) (c .before .before .before .args .leaf) (omega arith))
@@ -36,9 +24,9 @@ test-spec =
     tie.close
     (tie.spec
     returns
-    sub-i
+    (λ c. search needs)
     returns-2
-    mul-result
-    shared-slice-read-result
-    shr-result
+    (λ c. search needs)
+    (λ c. search needs)
+    (λ c. search needs)
     returns-3)

@@ -3,8 +3,6 @@ use mathlib.Core.Logic.{inl, inr}
 use native.Mathlib.Omega.{arith}
 use Rattle.record_copy.proofs.cap.Statement.{statement}
 use Rattle.record_copy.proofs.cap.Tie as tie
-use Rattle.record_copy.proofs.cap.Reads as reads
-use Rattle.record_copy.proofs.cap.Lts as lts
 
 returns : tie.Need-returns
 returns c = (omega arith, (omega arith, inl refl))

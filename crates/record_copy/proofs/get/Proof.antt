@@ -1,6 +1,6 @@
 -- `lent::get` meets its contract: a walk of its MIR, by hand. The slice is looked into, element i is taken out of the row, read whole, and put back.
 -- Assumes nothing.
-use mathlib.Core.Path.{_≡_, refl, sym}
+use mathlib.Core.Path.{refl, sym}
 use Prim.Native.Nat.{ℕ, _<_, _^_}
 use mathlib.Core.List.{List, [], _∷_}
 use lib.ListN.{length, getD}
@@ -16,7 +16,7 @@ use prog.Wp.{Heap, Calls, Loops, WpFn, Tables}
 use ghost.Atoms.{Atoms}
 use contract.Monad.{Fun}
 use contract.Running.{givenOf, tables, tablesOf}
-use types.Kit.{Given, ‵, _⊛_, _$_, _∵_, !, qed, by, move, split, join, rewrite, fsplit, fjoin, suffices, frame, done}
+use types.Kit.{Given, ‵, _⊛_, _$_, _∵_, !, qed, move, split, join, rewrite, fsplit, fjoin, suffices, frame, done}
 use types.Part.{whole, sub, look-in}
 use types.Run.{look, look-raw, init, forget, stop, hop, fld, from, load, lit, of-opd, bin, assigns, returns, enter, alloc1, alloc0, params1, pass1, pass0, free1, free0}
 use sound.WpLaws.{WpFn-mono}

@@ -5,21 +5,12 @@ use Rattle.table_book.proofs.Lists.{seen-none, checks-empty, checks-lea
 use borrow.Author.Needs.{needs}
 use Rattle.table_book.proofs.check_list.Statement.{statement}
 use Rattle.table_book.proofs.check_list.Tie as tie
-use Rattle.table_book.proofs.check_list.Reads as reads
-use Rattle.table_book.proofs.check_list.Lts as lts
-use Rattle.table_book.proofs.bad_leaf.Reads as bad-leaf-reads
 
 returns : tie.Need-returns
 returns c = checks-empty (c .before .before .args .n) (now (c .before .before .args .list)) (c .if1 .taken)
-
-slice-aggregate-bad-leaf : tie.Need-slice-aggregate-bad-leaf
-slice-aggregate-bad-leaf c = search needs
-
-bad-leaf-requires : tie.Need-bad-leaf-requires
-bad-leaf-requires c κs = search needs
 
 returns-2 : tie.Need-returns-2
 returns-2 c = c .before .bad-leaf .ensures [] (seen-none 4 (c .before .before .before .before .before .args .n) (c .before .before .before .before .before .pre)) ∙ checks-leaves (c .before .before .before .before .before .args .n) (now (c .before .before .before .before .before .args .list)) (c .before .before .before .if1 .left)
 
 pub check-list-spec : {M : Type 1} → statement M
-check-list-spec = tie.close (tie.spec returns slice-aggregate-bad-leaf bad-leaf-requires returns-2)
+check-list-spec = tie.close (tie.spec returns (λ c. search needs) (λ c κs. search needs) returns-2)

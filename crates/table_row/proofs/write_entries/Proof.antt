@@ -8,10 +8,6 @@ use Rattle.tree_tokens.proofs.Writes.{written-end}
 use Rattle.table_row.proofs.Entering.{Entered, entered-start, entered-leaf, entered-node, entered-room, entered-after}
 use Rattle.table_row.proofs.write_entries.Statement.{statement}
 use Rattle.table_row.proofs.write_entries.Tie as tie
-use Rattle.table_row.proofs.write_entries.Reads as reads
-use Rattle.table_row.proofs.write_entries.Lts as lts
-use Rattle.tree_tokens.proofs.first.Reads as first-reads
-use Rattle.tree_tokens.proofs.node_count.Reads as node-count-reads
 
 abbrev Inv-loop : tie.InvT-loop
 Inv-loop toks r out₀ next₀ k₀ i₀ out next k i = (i ≤ length toks) × (length out ≡ length out₀) × Left toks i (Entered r out₀ out next k)
@@ -22,12 +18,6 @@ abbrev μ-loop : tie.MeasureT-loop
 loop-holds : tie.Need-loop-holds Inv-loop μ-loop
 loop-holds c = (omega arith, refl, from-start _ (entered-start _ _))
 
-mul-t : tie.Need-mul-t Inv-loop μ-loop
-mul-t c = omega arith
-
-shared-slice-read-t : tie.Need-shared-slice-read-t Inv-loop μ-loop
-shared-slice-read-t c = omega arith
-
 mul-out : tie.Need-mul-out Inv-loop μ-loop
 mul-out c = omega (arith, entered-room (c .before .before .before .before .before .before .pre) (c .before .before .before .loop .inv .2) (c .before .before .loop-test .taken))
 
@@ -37,26 +27,8 @@ slice-write-out c = omega (arith, entered-room (c .before .before .before .befor
 add-k : tie.Need-add-k Inv-loop μ-loop
 add-k c = omega (arith, entered-room (c .before .before .before .before .before .before .pre) (c .before .before .before .loop .inv .2) (c .before .before .loop-test .taken))
 
-add-i : tie.Need-add-i Inv-loop μ-loop
-add-i c = omega arith
-
-loop-less : tie.Need-loop-less Inv-loop μ-loop
-loop-less c = omega arith
-
 loop-again : tie.Need-loop-again Inv-loop μ-loop
 loop-again c = (omega arith, simp length-set (c .before .before .before .loop .inv .1), next-token (c .before .before .before .loop .inv .2) (omega arith) (λ j h p g. entered-leaf p (c .if1 .taken) (entered-room (c .before .before .before .before .before .before .pre) (c .before .before .before .loop .inv .2) (c .before .before .loop-test .taken) .0) g))
-
-mul-first : tie.Need-mul-first Inv-loop μ-loop
-mul-first c = omega arith
-
-sub-first : tie.Need-sub-first Inv-loop μ-loop
-sub-first c = omega arith
-
-part-first-start : tie.Need-part-first-start Inv-loop μ-loop
-part-first-start c = omega arith
-
-part-first-end : tie.Need-part-first-end Inv-loop μ-loop
-part-first-end c = omega arith
 
 first-requires : tie.Need-first-requires Inv-loop μ-loop
 first-requires c κs = (part-left (c .before .before .before .before .loop .inv .2) (c .before .before .before .before .before .before .before .pre .seq, c .before .before .before .before .before .before .before .pre .is), omega arith)
@@ -104,18 +76,18 @@ write-entries-spec =
     Inv-loop
     μ-loop
     loop-holds
-    mul-t
-    shared-slice-read-t
+    (λ c. omega arith)
+    (λ c. omega arith)
     mul-out
     slice-write-out
     add-k
-    add-i
-    loop-less
+    (λ c. omega arith)
+    (λ c. omega arith)
     loop-again
-    mul-first
-    sub-first
-    part-first-start
-    part-first-end
+    (λ c. omega arith)
+    (λ c. omega arith)
+    (λ c. omega arith)
+    (λ c. omega arith)
     first-requires
     add-out
     cast-out

@@ -30,17 +30,8 @@ sub-zeros-2 c = omega (arith, few c, c .before .before .write-entries .kept .1 .
 part-zeros-start : tie.Need-part-zeros-start
 part-zeros-start c = omega (arith, few c, c .before .before .write-entries .kept .1 .1 .0)
 
-part-zeros-end : tie.Need-part-zeros-end
-part-zeros-end c = search needs
-
-zeros-requires : tie.Need-zeros-requires
-zeros-requires c κs = search needs
-
 add-result : tie.Need-add-result
 add-result c = omega (arith, few (c .before .before .before .before), c .before .before .zeros .ensures .many, length-replicate {A = ℕ} (255 - c .before .before .before .before .before .before .write-entries .result) 0)
-
-same-length : tie.Need-same-length
-same-length c = search needs
 
 returns : tie.Need-returns
 returns c =
@@ -57,8 +48,8 @@ write-places-spec =
     mul-zeros
     sub-zeros-2
     part-zeros-start
-    part-zeros-end
-    zeros-requires
+    (λ c. search needs)
+    (λ c κs. search needs)
     add-result
-    same-length
+    (λ c. search needs)
     returns)

@@ -10,12 +10,6 @@ use borrow.Author.Needs.{needs}
 use Rattle.table_row.proofs.write_row.Statement.{statement}
 use Rattle.table_row.proofs.write_row.Tie as tie
 
-slice-write-out : tie.Need-slice-write-out
-slice-write-out c = search needs
-
-item-count-requires : tie.Need-item-count-requires
-item-count-requires c κs = search needs
-
 cast-out : tie.Need-cast-out
 cast-out c = let p = c .before .before .before .pre .0 in omega (arith, c .item-count .ensures .1 (p .seq) (p .is), p .few)
 
@@ -27,9 +21,6 @@ sub-write-places c = simp length-set (omega arith)
 
 part-write-places-start : tie.Need-part-write-places-start
 part-write-places-start c = simp length-set (omega arith)
-
-part-write-places-end : tie.Need-part-write-places-end
-part-write-places-end c = search needs
 
 write-places-requires : tie.Need-write-places-requires
 write-places-requires c κs =
@@ -56,13 +47,13 @@ pub write-row-spec : {M : Type 1} → statement M
 write-row-spec =
     tie.close
     (tie.spec
-    slice-write-out
-    item-count-requires
+    (λ c. search needs)
+    (λ c κs. search needs)
     cast-out
     slice-write-out-2
     sub-write-places
     part-write-places-start
-    part-write-places-end
+    (λ c. search needs)
     write-places-requires
     add-result
     same-length

@@ -22,18 +22,6 @@ loop-holds c =
     let n : length l - 0 ≡ length l = omega arith in
     (omega arith, rw n)
 
-mul-any : tie.Need-mul-any Inv-loop μ-loop
-mul-any c = omega arith
-
-shared-slice-read-any : tie.Need-shared-slice-read-any Inv-loop μ-loop
-shared-slice-read-any c = omega arith
-
-add-i : tie.Need-add-i Inv-loop μ-loop
-add-i c = omega arith
-
-loop-less : tie.Need-loop-less Inv-loop μ-loop
-loop-less c = omega arith
-
 loop-again : tie.Need-loop-again Inv-loop μ-loop
 loop-again c = (omega arith, c .before .before .loop .inv .1 ∙ zero-next (c .before .before .before .args .part .now) (c .before .before .loop .any) (c .before .before .loop .i) (omega arith))
 
@@ -47,9 +35,9 @@ all-zero-spec =
     Inv-loop
     μ-loop
     loop-holds
-    mul-any
-    shared-slice-read-any
-    add-i
-    loop-less
+    (λ c. omega arith)
+    (λ c. omega arith)
+    (λ c. omega arith)
+    (λ c. omega arith)
     loop-again
     returns)

@@ -14,28 +14,10 @@ use borrow.Author.Needs.{needs}
 use Rattle.table_store.proofs.load.Statement.{statement}
 use Rattle.table_store.proofs.load.Tie as tie
 
-walk-requires : tie.Need-walk-requires
-walk-requires c κs = search needs
-
-enum-known-k : tie.Need-enum-known-k
-enum-known-k c = search needs
-
-enum-told : tie.Need-enum-told
-enum-told c = search needs
-
-same-length : tie.Need-same-length
-same-length c = search needs
-
 returns : tie.Need-returns
 returns c =
     tree-in-none (c .before .before .before .before .before .before .before .before .args .n) (c .before .before .before .before .before .before .before .before .args .table .now) (c .before .before .before .before .before .before .before .before .pre .0) .1
     (spells-bad (c .before .before .before .before .before .before .before .before .args .n) (c .before .before .before .before .before .before .before .before .args .table .now) (c .before .before .before .before .before .before .before .before .args .out .now) (c .before .before .before .before .walk .last .1 .1 .0) (c .enum-told .given .1) (c .before .before .before .before .walk .ensures))
-
-sub-in-form : tie.Need-sub-in-form
-sub-in-form c = search needs
-
-part-in-form-start : tie.Need-part-in-form-start
-part-in-form-start c = search needs
 
 -- The tokens that the walk wrote.
 written : (c : tie.After-known-told) → Wrote (encode (plain (spelled-tree (c .before .before .before .before .before .before .before .before .before .args .n) (c .before .before .before .before .before .before .before .before .before .args .table .now)))) (c .before .before .before .before .before .before .before .before .before .args .out .now) (c .before .before .before .before .before .walk .last .1 .1 .0) (c .before .k .given .0 .0)
@@ -47,9 +29,6 @@ part-in-form-end c = omega (arith, wrote-most (written (c .before)))
 in-form-requires : tie.Need-in-form-requires
 in-form-requires c κs = ((_, read-part (written (c .before .before))), omega arith)
 
-same-length-2 : tie.Need-same-length-2
-same-length-2 c = search needs
-
 checked : (c : tie.After-in-form) → c .in-form .result ≡ in-form? (c .before .before .before .before .before .before .before .before .before .before .before .before .args .n) (spelled-tree (c .before .before .before .before .before .before .before .before .before .before .before .before .args .n) (c .before .before .before .before .before .before .before .before .before .before .before .before .args .table .now))
 checked c =
     c .in-form .ensures _ (read-part (written (c .before .before .before)))
@@ -57,12 +36,6 @@ checked c =
 
 returns-2 : tie.Need-returns-2
 returns-2 c = not-in-form (c .before .before .before .before .before .before .before .before .before .before .before .before .before .args .n) (c .before .before .before .before .before .before .before .before .before .before .before .before .before .args .table .now) (sym (checked (c .before)) ∙ not-true _ (c .if1 .taken))
-
-sub-matches : tie.Need-sub-matches
-sub-matches c = search needs
-
-part-matches-start : tie.Need-part-matches-start
-part-matches-start c = search needs
 
 in-form : (c : tie.Else1) → in-form? (c .before .before .before .before .before .before .before .before .before .before .before .before .before .args .n) (spelled-tree (c .before .before .before .before .before .before .before .before .before .before .before .before .before .args .n) (c .before .before .before .before .before .before .before .before .before .before .before .before .before .args .table .now)) ≡ true
 in-form c = sym (checked (c .before)) ∙ not-false _ (c .if1 .left)
@@ -84,16 +57,10 @@ matches-requires c κs =
       c .before .before .before .before .before .before .before .before .before .before .before .before .before .before .before .pre .1,
     )
 
-same-length-3 : tie.Need-same-length-3
-same-length-3 c = search needs
-
 returns-3 : tie.Need-returns-3
 returns-3 c =
     not-the-table (c .before .before .before .before .before .before .before .before .before .before .before .before .before .before .before .before .before .args .n) (c .before .before .before .before .before .before .before .before .before .before .before .before .before .before .before .before .before .args .table .now) (in-form (c .before .before .before .before))
     (sym (c .before .matches .ensures _ (read-part (written (c .before .before .before .before .before .before .before .before)))) ∙ not-true _ (c .if2 .taken))
-
-same-length-4 : tie.Need-same-length-4
-same-length-4 c = search needs
 
 returns-4 : tie.Need-returns-4
 returns-4 c =
@@ -105,22 +72,22 @@ pub load-spec : {M : Type 1} → statement M
 load-spec =
     tie.close
     (tie.spec
-    walk-requires
-    enum-known-k
-    enum-told
-    same-length
+    (λ c κs. search needs)
+    (λ c. search needs)
+    (λ c. search needs)
+    (λ c. search needs)
     returns
-    sub-in-form
-    part-in-form-start
+    (λ c. search needs)
+    (λ c. search needs)
     part-in-form-end
     in-form-requires
-    same-length-2
+    (λ c. search needs)
     returns-2
-    sub-matches
-    part-matches-start
+    (λ c. search needs)
+    (λ c. search needs)
     part-matches-end
     matches-requires
-    same-length-3
+    (λ c. search needs)
     returns-3
-    same-length-4
+    (λ c. search needs)
     returns-4)

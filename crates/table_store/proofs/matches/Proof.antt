@@ -16,9 +16,6 @@ rows-match-requires c κs = formed-rowed (c .before .before .pre .0) _ (c .befor
 returns : tie.Need-returns
 returns c = λ t e. sym (table-not (c .before .before .before .before .pre .0) t e (c .before .before .before .before .args .table .now) (sym (c .before .rows-match .ensures (plain t) e) ∙ not-true _ (c .if1 .taken)))
 
-node-count-requires : tie.Need-node-count-requires
-node-count-requires c κs = search needs
-
 few : (c : tie.After-node-count) → 257 * c .node-count .result ≤ 65792
 few c =
     let f = c .before .before .before .before .before .pre .0 in
@@ -37,12 +34,6 @@ sub-all-zero c = few c
 part-all-zero-start : tie.Need-part-all-zero-start
 part-all-zero-start c = few c
 
-part-all-zero-end : tie.Need-part-all-zero-end
-part-all-zero-end c = search needs
-
-all-zero-requires : tie.Need-all-zero-requires
-all-zero-requires c κs = search needs
-
 returns-2 : tie.Need-returns-2
 returns-2 c =
     λ t e.
@@ -55,11 +46,11 @@ matches-spec =
     (tie.spec
     rows-match-requires
     returns
-    node-count-requires
+    (λ c κs. search needs)
     mul-all-zero
     mul-all-zero-2
     sub-all-zero
     part-all-zero-start
-    part-all-zero-end
-    all-zero-requires
+    (λ c. search needs)
+    (λ c κs. search needs)
     returns-2)

@@ -11,18 +11,6 @@ use borrow.Author.Needs.{needs}
 use Rattle.table_store.proofs.row_matches.Statement.{statement}
 use Rattle.table_store.proofs.row_matches.Tie as tie
 
-slice-aggregate-write-row : tie.Need-slice-aggregate-write-row
-slice-aggregate-write-row c = search needs
-
-write-row-requires : tie.Need-write-row-requires
-write-row-requires c κs = search needs
-
-slice-aggregate-equal : tie.Need-slice-aggregate-equal
-slice-aggregate-equal c = search needs
-
-equal-requires : tie.Need-equal-requires
-equal-requires c κs = search needs
-
 returns : tie.Need-returns
 returns c =
     λ i e.
@@ -35,8 +23,8 @@ pub row-matches-spec : {M : Type 1} → statement M
 row-matches-spec =
     tie.close
     (tie.spec
-    slice-aggregate-write-row
-    write-row-requires
-    slice-aggregate-equal
-    equal-requires
+    (λ c. search needs)
+    (λ c κs. search needs)
+    (λ c. search needs)
+    (λ c κs. search needs)
     returns)

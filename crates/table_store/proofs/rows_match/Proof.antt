@@ -24,32 +24,11 @@ abbrev μ-loop : tie.MeasureT-loop
 loop-holds : tie.Need-loop-holds Inv-loop μ-loop
 loop-holds c = (omega arith, omega arith, from-start _ (matching-start _ _))
 
-mul-shape : tie.Need-mul-shape Inv-loop μ-loop
-mul-shape c = omega arith
-
-sub-shape : tie.Need-sub-shape Inv-loop μ-loop
-sub-shape c = omega arith
-
-part-shape-start : tie.Need-part-shape-start Inv-loop μ-loop
-part-shape-start c = omega arith
-
-part-shape-end : tie.Need-part-shape-end Inv-loop μ-loop
-part-shape-end c = omega arith
-
 shape-requires : tie.Need-shape-requires Inv-loop μ-loop
 shape-requires c κs = (part-left (c .before .before .loop .inv .2) (c .before .before .before .before .before .pre .seq, c .before .before .before .before .before .pre .is), omega arith)
 
-add-i : tie.Need-add-i Inv-loop μ-loop
-add-i c = omega arith
-
-loop-less : tie.Need-loop-less Inv-loop μ-loop
-loop-less c = omega arith
-
 loop-again : tie.Need-loop-again Inv-loop μ-loop
 loop-again c = (omega arith, c .before .before .before .before .loop .inv .1, next-token (c .before .before .before .before .loop .inv .2) (omega arith) (λ j h p g. matching-leaf (sym (c .before .shape .ensures h (p .part)) ∙ c .if1 .taken) g))
-
-sub-at : tie.Need-sub-at Inv-loop μ-loop
-sub-at c = omega arith
 
 -- A node is next: there is a record for it, and its row.
 room : (c : lts.Else1 (shape-reads.Asked, shape-reads.Learnt, items-reads.Asked, items-reads.Learnt, row-matches-reads.Asked, row-matches-reads.Learnt) reads.Pre reads.Post Inv-loop μ-loop)
@@ -64,21 +43,6 @@ mul-at c = omega (arith, room c)
 sub-row-matches : tie.Need-sub-row-matches Inv-loop μ-loop
 sub-row-matches c = let q = here (c .before .before .before .before .loop .inv .2) (omega arith) (c .before .before .before .before .before .before .before .pre .seq) (c .before .before .before .before .before .before .before .pre .is) in omega (arith, c .before .shape .ensures (q .0) (q .1 .part), shape-some (q .0) (q .1 .some))
 
-cast-row-matches : tie.Need-cast-row-matches Inv-loop μ-loop
-cast-row-matches c = omega arith
-
-mul-items : tie.Need-mul-items Inv-loop μ-loop
-mul-items c = omega arith
-
-sub-items : tie.Need-sub-items Inv-loop μ-loop
-sub-items c = omega arith
-
-part-items-start : tie.Need-part-items-start Inv-loop μ-loop
-part-items-start c = omega arith
-
-part-items-end : tie.Need-part-items-end Inv-loop μ-loop
-part-items-end c = omega arith
-
 items-requires : tie.Need-items-requires Inv-loop μ-loop
 items-requires c κs = (part-left (c .before .before .before .before .before .loop .inv .2) (c .before .before .before .before .before .before .before .before .pre .seq, c .before .before .before .before .before .before .before .before .pre .is), omega arith)
 
@@ -90,12 +54,6 @@ add-row-matches-2 c = omega (arith, room (c .before .before))
 
 mul-row-matches : tie.Need-mul-row-matches Inv-loop μ-loop
 mul-row-matches c = omega (arith, room (c .before .before))
-
-sub-row-matches-2 : tie.Need-sub-row-matches-2 Inv-loop μ-loop
-sub-row-matches-2 c = omega arith
-
-part-row-matches-start : tie.Need-part-row-matches-start Inv-loop μ-loop
-part-row-matches-start c = omega arith
 
 part-row-matches-end : tie.Need-part-row-matches-end Inv-loop μ-loop
 part-row-matches-end c = omega (arith, room (c .before .before))
@@ -111,12 +69,6 @@ returns c = λ j e. let q = here (c .before .before .before .before .before .bef
 add-next : tie.Need-add-next Inv-loop μ-loop
 add-next c = omega (arith, room (c .before .before .before .before .before))
 
-add-i-2 : tie.Need-add-i-2 Inv-loop μ-loop
-add-i-2 c = omega arith
-
-loop-less-2 : tie.Need-loop-less-2 Inv-loop μ-loop
-loop-less-2 c = omega arith
-
 loop-again-2 : tie.Need-loop-again-2 Inv-loop μ-loop
 loop-again-2 c = (omega arith, omega arith, next-token (c .before .before .before .before .before .before .before .before .before .loop .inv .2) (omega arith) (λ j h p g. matching-node (c .before .before .before .before .before .before .shape .result) (c .before .before .before .before .before .before .before .before .before .loop .inv .1) (p .some) (c .before .before .before .before .before .before .shape .ensures h (p .part)) (c .before .before .before .before .before .if1 .left) (c .before .row-matches .ensures (items-of h) (c .before .before .before .items .ensures .1 h (p .part))) (not-false (c .before .row-matches .result) (c .if2 .left)) g))
 
@@ -130,33 +82,33 @@ rows-match-spec =
     Inv-loop
     μ-loop
     loop-holds
-    mul-shape
-    sub-shape
-    part-shape-start
-    part-shape-end
+    (λ c. omega arith)
+    (λ c. omega arith)
+    (λ c. omega arith)
+    (λ c. omega arith)
     shape-requires
-    add-i
-    loop-less
+    (λ c. omega arith)
+    (λ c. omega arith)
     loop-again
-    sub-at
+    (λ c. omega arith)
     mul-at
     sub-row-matches
-    cast-row-matches
-    mul-items
-    sub-items
-    part-items-start
-    part-items-end
+    (λ c. omega arith)
+    (λ c. omega arith)
+    (λ c. omega arith)
+    (λ c. omega arith)
+    (λ c. omega arith)
     items-requires
     add-row-matches
     add-row-matches-2
     mul-row-matches
-    sub-row-matches-2
-    part-row-matches-start
+    (λ c. omega arith)
+    (λ c. omega arith)
     part-row-matches-end
     row-matches-requires
     returns
     add-next
-    add-i-2
-    loop-less-2
+    (λ c. omega arith)
+    (λ c. omega arith)
     loop-again-2
     returns-2)

@@ -37,15 +37,6 @@ sub-zeros-2 c = omega (arith, few c, c .before .before .write-rows .kept .1 .1 .
 part-zeros-start : tie.Need-part-zeros-start
 part-zeros-start c = omega (arith, few c, c .before .before .write-rows .kept .1 .1 .0)
 
-part-zeros-end : tie.Need-part-zeros-end
-part-zeros-end c = search needs
-
-zeros-requires : tie.Need-zeros-requires
-zeros-requires c κs = search needs
-
-same-length : tie.Need-same-length
-same-length c = search needs
-
 returns : tie.Need-returns
 returns c =
     λ t e.
@@ -61,7 +52,7 @@ store-spec =
     mul-zeros
     sub-zeros-2
     part-zeros-start
-    part-zeros-end
-    zeros-requires
-    same-length
+    (λ c. search needs)
+    (λ c κs. search needs)
+    (λ c. search needs)
     returns)

@@ -23,47 +23,14 @@ abbrev μ-loop : tie.MeasureT-loop
 loop-holds : tie.Need-loop-holds Inv-loop μ-loop
 loop-holds c = (omega arith, refl, omega arith, omega arith, from-start _ (rowing-start _ _))
 
-mul-shape : tie.Need-mul-shape Inv-loop μ-loop
-mul-shape c = omega arith
-
-sub-shape : tie.Need-sub-shape Inv-loop μ-loop
-sub-shape c = omega arith
-
-part-shape-start : tie.Need-part-shape-start Inv-loop μ-loop
-part-shape-start c = omega arith
-
-part-shape-end : tie.Need-part-shape-end Inv-loop μ-loop
-part-shape-end c = omega arith
-
 shape-requires : tie.Need-shape-requires Inv-loop μ-loop
 shape-requires c κs = (part-left (c .before .before .loop .inv .4) (c .before .before .before .before .before .pre .seq, c .before .before .before .before .before .pre .is), omega arith)
-
-add-i : tie.Need-add-i Inv-loop μ-loop
-add-i c = omega arith
-
-loop-less : tie.Need-loop-less Inv-loop μ-loop
-loop-less c = omega arith
 
 loop-again : tie.Need-loop-again Inv-loop μ-loop
 loop-again c = (omega arith, c .before .before .before .before .loop .inv .1, c .before .before .before .before .loop .inv .2, c .before .before .before .before .loop .inv .3, next-token (c .before .before .before .before .loop .inv .4) (omega arith) (λ j h p g. rowing-leaf (sym (c .before .shape .ensures h (p .part)) ∙ c .if1 .taken) g))
 
 sub-write-row : tie.Need-sub-write-row Inv-loop μ-loop
 sub-write-row c = let q = here (c .before .before .before .before .loop .inv .4) (c .before .before .before .loop-test .taken) (c .before .before .before .before .before .before .before .pre .seq) (c .before .before .before .before .before .before .before .pre .is) in omega (arith, c .before .shape .ensures (q .0) (q .1 .part), shape-some (q .0) (q .1 .some))
-
-cast-write-row : tie.Need-cast-write-row Inv-loop μ-loop
-cast-write-row c = omega arith
-
-mul-items : tie.Need-mul-items Inv-loop μ-loop
-mul-items c = omega arith
-
-sub-items : tie.Need-sub-items Inv-loop μ-loop
-sub-items c = omega arith
-
-part-items-start : tie.Need-part-items-start Inv-loop μ-loop
-part-items-start c = omega arith
-
-part-items-end : tie.Need-part-items-end Inv-loop μ-loop
-part-items-end c = omega arith
 
 items-requires : tie.Need-items-requires Inv-loop μ-loop
 items-requires c κs = (part-left (c .before .before .before .before .before .loop .inv .4) (c .before .before .before .before .before .before .before .before .pre .seq, c .before .before .before .before .before .before .before .before .pre .is), omega arith)
@@ -104,12 +71,6 @@ add-k c = omega (arith, room (c .before .before .before .before .before .before)
 add-next : tie.Need-add-next Inv-loop μ-loop
 add-next c = omega (arith, room (c .before .before .before .before .before .before))
 
-add-i-2 : tie.Need-add-i-2 Inv-loop μ-loop
-add-i-2 c = omega arith
-
-loop-less-2 : tie.Need-loop-less-2 Inv-loop μ-loop
-loop-less-2 c = omega arith
-
 loop-again-2 : tie.Need-loop-again-2 Inv-loop μ-loop
 loop-again-2 c = (omega arith, c .before .out .given .1 ∙ c .before .before .before .before .before .before .before .before .before .before .loop .inv .1, omega arith, omega (arith, long (c .before .before)), next-token (c .before .before .before .before .before .before .before .before .before .before .loop .inv .4) (omega arith) (λ j h p g. rowing-node (c .before .before .before .before .before .before .before .shape .result) (p .some) (c .before .before .before .before .before .before .before .shape .ensures h (p .part)) (c .before .before .before .before .before .before .if1 .left) (c .before .before .write-row .ensures _ (c .before .before .before .before .items .ensures .1 h (p .part))) g))
 
@@ -126,20 +87,20 @@ write-rows-spec =
     Inv-loop
     μ-loop
     loop-holds
-    mul-shape
-    sub-shape
-    part-shape-start
-    part-shape-end
+    (λ c. omega arith)
+    (λ c. omega arith)
+    (λ c. omega arith)
+    (λ c. omega arith)
     shape-requires
-    add-i
-    loop-less
+    (λ c. omega arith)
+    (λ c. omega arith)
     loop-again
     sub-write-row
-    cast-write-row
-    mul-items
-    sub-items
-    part-items-start
-    part-items-end
+    (λ c. omega arith)
+    (λ c. omega arith)
+    (λ c. omega arith)
+    (λ c. omega arith)
+    (λ c. omega arith)
     items-requires
     add-write-row
     mul-write-row
@@ -149,8 +110,8 @@ write-rows-spec =
     write-row-requires
     add-k
     add-next
-    add-i-2
-    loop-less-2
+    (λ c. omega arith)
+    (λ c. omega arith)
     loop-again-2
     same-length
     returns)

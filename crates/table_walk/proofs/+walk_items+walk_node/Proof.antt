@@ -1,8 +1,8 @@
 use mathlib.Core.Path.{_≡_, refl, _∙_}
 use native.Mathlib.Omega.{arith}
-use lib.ListN.{length, take, drop, getD, set, length-set}
+use lib.ListN.{length, take, drop, getD, length-set}
 use borrow.Author.Needs.{needs}
-use Rattle.spec_calls.specs.NodeTable.{kind-of, spelled}
+use Rattle.spec_calls.specs.NodeTable.{kind-of}
 use Rattle.table_walk.specs.Walks.{PlacesStand}
 use Rattle.table_walk.proofs.Standing.{node-record, node-count, part-few, inner-places}
 use Rattle.table_walk.proofs.Walking.{part-length, spelled-here, walks-not, walks-node, Walking, walking-start, walking-end, walking-leaf, walking-full, walking-node, walking-gone}

@@ -24,8 +24,8 @@ use denote.Laws.{Is, shows}
 use denote.Plain.{uint-makes, uint-lawful, uint-vals, uint-tells}
 use denote.Builtin.{u64, u8, usize}
 use denote.Ref.{RefT, MutRef, ptr-vals, mut-tells}
-use denote.Signature.{plain, shrSliceOf}
-use denote.Slice.{sliceVal, MutSlice, ShrSlice, Room, finally, slice-vals, mut-slice-tells, shr-slice-tells}
+use denote.Signature.{plain}
+use denote.Slice.{sliceVal, MutSlice, Room, finally, slice-vals, mut-slice-tells}
 use denote.Enum.Laws as EL
 use denote.Steps.{owned, facts, heard, nothing}
 use denote.Triple.Statement.{Contract, Triple}

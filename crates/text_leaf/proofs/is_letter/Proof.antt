@@ -1,9 +1,6 @@
-use mathlib.Core.Path.{refl}
 use borrow.Author.Tests.{eq-eqb, ne-eqb}
 use Rattle.text_leaf.proofs.is_letter.Statement.{statement}
 use Rattle.text_leaf.proofs.is_letter.Tie as tie
-use Rattle.text_leaf.proofs.is_letter.Reads as reads
-use Rattle.text_leaf.proofs.is_letter.Lts as lts
 
 returns : tie.Need-returns
 returns c = simp (eq-eqb _ _ (c .if1 .taken))

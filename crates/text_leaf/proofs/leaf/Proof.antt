@@ -5,13 +5,6 @@ use Rattle.text_leaf.proofs.Leaves.{leaf-other, leaf-none, leaf-stops, 
 use borrow.Author.Needs.{needs}
 use Rattle.text_leaf.proofs.leaf.Statement.{statement}
 use Rattle.text_leaf.proofs.leaf.Tie as tie
-use Rattle.text_leaf.proofs.leaf.Reads as reads
-use Rattle.text_leaf.proofs.leaf.Lts as lts
-use Rattle.text_number.proofs.any_start.Reads as any-start-reads
-use Rattle.text_number.proofs.number.Reads as number-reads
-
-shared-slice-read-b : tie.Need-shared-slice-read-b
-shared-slice-read-b c = search needs
 
 returns : tie.Need-returns
 returns c = λ i w e. leaf-other (c .before .before .before .before .before .args .text .now) (c .before .before .before .before .before .args .at) (c .before .before .before .before .before .args .many) (c .before .before .before .before .before .args .used .now) (c .before .before .before .before .before .pre .0) (c .before .before .before .before .before .pre .1) (c .before .before .before .before .before .pre .2) i w (λ l h. omega arith)
@@ -19,29 +12,11 @@ returns c = λ i w e. leaf-other (c .before .before .before .before .before .arg
 returns-2 : tie.Need-returns-2
 returns-2 c = λ i w e. leaf-other (c .before .before .before .before .before .before .args .text .now) (c .before .before .before .before .before .before .args .at) (c .before .before .before .before .before .before .args .many) (c .before .before .before .before .before .before .args .used .now) (c .before .before .before .before .before .before .pre .0) (c .before .before .before .before .before .before .pre .1) (c .before .before .before .before .before .before .pre .2) i w (λ l h. omega arith)
 
-sub-v : tie.Need-sub-v
-sub-v c = search needs
-
-cast-v : tie.Need-cast-v
-cast-v c = search needs
-
-any-start-requires : tie.Need-any-start-requires
-any-start-requires c κs = search needs
-
-same-length : tie.Need-same-length
-same-length c = search needs
-
 returns-3 : tie.Need-returns-3
 returns-3 c = λ i w e. leaf-none (c .before .before .before .before .before .before .before .before .before .args .text .now) (c .before .before .before .before .before .before .before .before .before .args .at) (c .before .before .before .before .before .before .before .before .before .args .many) (c .before .before .before .before .before .before .before .before .before .args .used .now) (c .before .before .before .before .before .before .before .before .before .pre .0) (c .before .before .before .before .before .before .before .before .before .pre .1) (c .before .before .before .before .before .before .before .before .before .pre .2) i w (omega arith) (c .before .before .before .if2 .left) (sym (c .before .any-start .ensures) ∙ not-true _ (c .if3 .taken))
 
-add-number : tie.Need-add-number
-add-number c = search needs
-
 number-requires : tie.Need-number-requires
 number-requires c κs = (omega arith, omega arith, c .before .before .before .before .before .before .before .before .before .before .pre .2 .wide, sym (c .before .before .any-start .ensures) ∙ not-false _ (c .before .if3 .left))
-
-same-length-2 : tie.Need-same-length-2
-same-length-2 c = search needs
 
 returns-4 : tie.Need-returns-4
 returns-4 c = λ i w e. leaf-stops (c .before .before .before .before .before .before .before .before .before .before .before .before .before .args .text .now) (c .before .before .before .before .before .before .before .before .before .before .before .before .before .args .at) (c .before .before .before .before .before .before .before .before .before .before .before .before .before .args .many) (c .before .before .before .before .before .before .before .before .before .before .before .before .before .args .used .now) (c .before .before .before .before .before .before .before .before .before .before .before .before .before .pre .0) (c .before .before .before .before .before .before .before .before .before .before .before .before .before .pre .1) (c .before .before .before .before .before .before .before .before .before .before .before .before .before .pre .2) i w (omega arith) (c .before .before .before .before .before .before .before .if2 .left) (sym (c .before .before .before .before .before .any-start .ensures) ∙ not-false _ (c .before .before .before .before .if3 .left)) _ (c .before .before .number .ensures) (not-true _ (c .if4 .taken))
@@ -55,18 +30,6 @@ mul-out c = omega (arith, c .before .before .number .ensures .goes (not-false _ 
 cast-out : tie.Need-cast-out
 cast-out c = omega (arith, c .before .before .number .ensures .goes (not-false _ (c .if4 .left)) .marked, c .before .before .before .before .before .before .before .before .before .before .before .before .before .pre .2 .wide)
 
-slice-write-out : tie.Need-slice-write-out
-slice-write-out c = search needs
-
-sub-t16 : tie.Need-sub-t16
-sub-t16 c = search needs
-
-same-length-3 : tie.Need-same-length-3
-same-length-3 c = search needs
-
-same-length-4 : tie.Need-same-length-4
-same-length-4 c = search needs
-
 returns-5 : tie.Need-returns-5
 returns-5 c = λ i w e. leaf-read (c .before .before .before .before .before .before .before .before .before .before .before .before .before .args .text .now) (c .before .before .before .before .before .before .before .before .before .before .before .before .before .args .at) (c .before .before .before .before .before .before .before .before .before .before .before .before .before .args .many) (c .before .before .before .before .before .before .before .before .before .before .before .before .before .args .used .now) (c .before .before .before .before .before .before .before .before .before .before .before .before .before .pre .0) (c .before .before .before .before .before .before .before .before .before .before .before .before .before .pre .1) (c .before .before .before .before .before .before .before .before .before .before .before .before .before .pre .2) i w (omega arith) (c .before .before .before .before .before .before .before .if2 .left) (sym (c .before .before .before .before .before .any-start .ensures) ∙ not-false _ (c .before .before .before .before .if3 .left)) _ (c .before .before .number .ensures) _ (c .before .before .before .before .before .before .before .before .before .before .before .before .before .pre .3) e (c .before .before .before .before .before .before .before .before .before .before .before .before .before .pre .4) (not-false _ (c .if4 .left))
 
@@ -74,23 +37,23 @@ pub leaf-spec : {M : Type 1} → statement M
 leaf-spec =
     tie.close
     (tie.spec
-    shared-slice-read-b
+    (λ c. search needs)
     returns
     returns-2
-    sub-v
-    cast-v
-    any-start-requires
-    same-length
+    (λ c. search needs)
+    (λ c. search needs)
+    (λ c κs. search needs)
+    (λ c. search needs)
     returns-3
-    add-number
+    (λ c. search needs)
     number-requires
-    same-length-2
+    (λ c. search needs)
     returns-4
     slice-write-used
     mul-out
     cast-out
-    slice-write-out
-    sub-t16
-    same-length-3
-    same-length-4
+    (λ c. search needs)
+    (λ c. search needs)
+    (λ c. search needs)
+    (λ c. search needs)
     returns-5)

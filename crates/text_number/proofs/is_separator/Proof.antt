@@ -1,9 +1,6 @@
-use mathlib.Core.Path.{refl}
 use borrow.Author.Tests.{eq-eqb, ne-eqb}
 use Rattle.text_number.proofs.is_separator.Statement.{statement}
 use Rattle.text_number.proofs.is_separator.Tie as tie
-use Rattle.text_number.proofs.is_separator.Reads as reads
-use Rattle.text_number.proofs.is_separator.Lts as lts
 
 returns : tie.Need-returns
 returns c = simp (eq-eqb _ _ (c .if1 .taken))

@@ -12,10 +12,6 @@ use Rattle.text_number.proofs.Starting.{has-mark}
 use Rattle.text_number.proofs.Numerals.{number-ends, number-used, number-free, number-other, number-none, number-on}
 use Rattle.text_number.proofs.number.Statement.{statement}
 use Rattle.text_number.proofs.number.Tie as tie
-use Rattle.text_number.proofs.number.Reads as reads
-use Rattle.text_number.proofs.number.Lts as lts
-use Rattle.text_number.proofs.any_start.Reads as any-start-reads
-use Rattle.text_number.proofs.is_separator.Reads as is-separator-reads
 
 abbrev Inv-loop : tie.InvT-loop
 Inv-loop text at v used to₀ w₀ to w = (to ≤ length text) × (1 ≤ w) × (any-start w 0 used ≡ true) × ((r : Numeral) → NumberRead text to w used r → NumberRead text at v used r)
@@ -25,9 +21,6 @@ abbrev μ-loop : tie.MeasureT-loop
 
 loop-holds : tie.Need-loop-holds Inv-loop μ-loop
 loop-holds c = (c .before .before .pre .0, c .before .before .pre .1, c .before .before .pre .3, (λ r n. n))
-
-shared-slice-read-b : tie.Need-shared-slice-read-b Inv-loop μ-loop
-shared-slice-read-b c = omega arith
 
 is-separator-requires : tie.Need-is-separator-requires Inv-loop μ-loop
 is-separator-requires c κs = tt
@@ -50,9 +43,6 @@ returns-4 c = c .before .before .before .before .before .before .loop .inv .3 _ 
 mul-next : tie.Need-mul-next Inv-loop μ-loop
 mul-next c = omega (arith, c .before .before .before .before .before .before .before .before .before .pre .2, has-mark (c .before .before .before .before .before .before .loop .w) (c .before .before .before .before .before .before .before .before .before .args .used .now) (c .before .before .before .before .before .before .loop .inv .2))
 
-cast-next : tie.Need-cast-next Inv-loop μ-loop
-cast-next c = omega arith
-
 add-next : tie.Need-add-next Inv-loop μ-loop
 add-next c = omega (arith, c .before .before .before .before .before .before .before .before .before .pre .2, has-mark (c .before .before .before .before .before .before .loop .w) (c .before .before .before .before .before .before .before .before .before .args .used .now) (c .before .before .before .before .before .before .loop .inv .2))
 
@@ -61,12 +51,6 @@ any-start-requires c κs = tt
 
 returns-5 : tie.Need-returns-5 Inv-loop μ-loop
 returns-5 c = c .before .before .before .before .before .before .before .before .loop .inv .3 _ (number-none (c .before .before .before .before .before .before .before .before .before .before .before .args .text .now) (c .before .before .before .before .before .before .before .before .loop .to) (c .before .before .before .before .before .before .before .before .loop .w) (c .before .before .before .before .before .before .before .before .before .before .before .args .used .now) (c .before .before .before .before .before .before .before .loop-test .taken) (sym (c .before .before .before .before .before .is-separator .ensures) ∙ c .before .before .before .before .if1 .left) (c .before .before .before .if3 .left) (c .before .before .if4 .left) (c .before .before .before .before .before .before .before .before .loop .inv .1) (c .before .before .before .before .before .before .before .before .before .before .before .pre .2) (sym (c .before .any-start .ensures) ∙ not-true _ (c .if5 .taken)))
-
-add-to : tie.Need-add-to Inv-loop μ-loop
-add-to c = omega arith
-
-loop-less : tie.Need-loop-less Inv-loop μ-loop
-loop-less c = omega arith
 
 loop-again : tie.Need-loop-again Inv-loop μ-loop
 loop-again c = (omega arith, omega arith, sym (c .before .any-start .ensures) ∙ not-false _ (c .if5 .left), (λ r n. c .before .before .before .before .before .before .before .before .loop .inv .3 r (number-on (c .before .before .before .before .before .before .before .before .before .before .before .args .text .now) (c .before .before .before .before .before .before .before .before .loop .to) (c .before .before .before .before .before .before .before .before .loop .w) (c .before .before .before .before .before .before .before .before .before .before .before .args .used .now) (c .before .before .before .before .before .before .before .loop-test .taken) (sym (c .before .before .before .before .before .is-separator .ensures) ∙ c .before .before .before .before .if1 .left) (c .before .before .before .if3 .left) (c .before .before .if4 .left) (c .before .before .before .before .before .before .before .before .loop .inv .1) (c .before .before .before .before .before .before .before .before .before .before .before .pre .2) (sym (c .before .any-start .ensures) ∙ not-false _ (c .if5 .left)) r n)))
@@ -81,7 +65,7 @@ number-spec =
     Inv-loop
     μ-loop
     loop-holds
-    shared-slice-read-b
+    (λ c. omega arith)
     is-separator-requires
     shared-slice-read-if2
     returns
@@ -89,11 +73,11 @@ number-spec =
     returns-3
     returns-4
     mul-next
-    cast-next
+    (λ c. omega arith)
     add-next
     any-start-requires
     returns-5
-    add-to
-    loop-less
+    (λ c. omega arith)
+    (λ c. omega arith)
     loop-again
     returns-6)

@@ -8,8 +8,6 @@ use Rattle.text_number.specs.Numbers.{FreeIn}
 use Rattle.text_number.proofs.Starting.{before}
 use Rattle.text_number.proofs.unused_within.Statement.{statement}
 use Rattle.text_number.proofs.unused_within.Tie as tie
-use Rattle.text_number.proofs.unused_within.Reads as reads
-use Rattle.text_number.proofs.unused_within.Lts as lts
 
 abbrev Inv-loop : tie.InvT-loop
 Inv-loop used from to found₀ a₀ found a = (from ≤ a) × (found ≡ true → FreeIn used from to) × ((m : ℕ) → from ≤ m → m < a → getD used m 0 ≡ 0 → found ≡ true)
@@ -19,15 +17,6 @@ abbrev μ-loop : tie.MeasureT-loop
 
 loop-holds : tie.Need-loop-holds Inv-loop μ-loop
 loop-holds c = (omega arith, (λ e. absurd (true≢false (sym e))), (λ m h l z. absurd (omega arith)))
-
-shared-slice-read-if1 : tie.Need-shared-slice-read-if1 Inv-loop μ-loop
-shared-slice-read-if1 c = omega arith
-
-add-a : tie.Need-add-a Inv-loop μ-loop
-add-a c = omega arith
-
-loop-less : tie.Need-loop-less Inv-loop μ-loop
-loop-less c = omega arith
 
 loop-again : tie.Need-loop-again Inv-loop μ-loop
 loop-again c = (
@@ -42,4 +31,4 @@ returns c = (c .before .loop .inv .1, (λ f. c .before .loop .inv .2 (f .0) (f .
 pub unused-within-spec : {M : Type 1} → statement M
 unused-within-spec =
     tie.close
-    (tie.spec Inv-loop μ-loop loop-holds shared-slice-read-if1 add-a loop-less loop-again returns)
+    (tie.spec Inv-loop μ-loop loop-holds (λ c. omega arith) (λ c. omega arith) (λ c. omega arith) loop-again returns)

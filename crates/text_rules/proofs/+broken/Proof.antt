@@ -1,5 +1,5 @@
 -- The least byte at which a rule is broken.
-use mathlib.Core.Path.{refl, sym, _∙_, ap, ap₂}
+use mathlib.Core.Path.{sym, _∙_, ap, ap₂}
 use mathlib.Core.Bool.{_&&_}
 use Prim.Native.Nat.{_+_}
 use native.Mathlib.Omega.{arith}

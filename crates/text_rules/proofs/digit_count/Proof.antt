@@ -4,8 +4,6 @@ use native.Mathlib.Omega.{arith}
 use Rattle.text_rules.proofs.Lengths.{one-digit, more-digits}
 use Rattle.text_rules.proofs.digit_count.Statement.{statement}
 use Rattle.text_rules.proofs.digit_count.Tie as tie
-use Rattle.text_rules.proofs.digit_count.Reads as reads
-use Rattle.text_rules.proofs.digit_count.Lts as lts
 
 returns : tie.Need-returns
 returns c = (omega arith, sym (one-digit _ (c .if1 .taken)))

@@ -9,9 +9,6 @@ use Rattle.tree_tokens.proofs.Steps.{Left, from-start, at-last, next-token}
 use Rattle.text_rules.proofs.Lengths.{bytes-more, bytes-all}
 use Rattle.text_rules.proofs.text_length.Statement.{statement}
 use Rattle.text_rules.proofs.text_length.Tie as tie
-use Rattle.text_rules.proofs.text_length.Reads as reads
-use Rattle.text_rules.proofs.text_length.Lts as lts
-use Rattle.text_rules.proofs.token_length.Reads as token-length-reads
 
 abbrev Inv-loop : tie.InvT-loop
 Inv-loop toks k₀ i₀ k i = (i ≤ length toks) × (i ≤ k) × (k ≤ 6 * i) × Left toks i (λ j h. length (more (tree j)) ≡ k + length (more (tree h)))
@@ -22,32 +19,17 @@ abbrev μ-loop : tie.MeasureT-loop
 loop-holds : tie.Need-loop-holds Inv-loop μ-loop
 loop-holds c = (omega arith, omega arith, omega arith, from-start _ (λ j. omega arith))
 
-mul-token-length : tie.Need-mul-token-length Inv-loop μ-loop
-mul-token-length c = omega arith
-
-shared-slice-read-token-length : tie.Need-shared-slice-read-token-length Inv-loop μ-loop
-shared-slice-read-token-length c = omega arith
-
 token-length-requires : tie.Need-token-length-requires Inv-loop μ-loop
 token-length-requires c κs = tt
 
 add-k : tie.Need-add-k Inv-loop μ-loop
 add-k c = omega (arith, c .before .before .before .before .before .pre .1)
 
-add-i : tie.Need-add-i Inv-loop μ-loop
-add-i c = omega arith
-
-loop-less : tie.Need-loop-less Inv-loop μ-loop
-loop-less c = omega arith
-
 loop-again : tie.Need-loop-again Inv-loop μ-loop
 loop-again c = (omega arith, omega arith, omega arith, next-token (c .before .before .before .loop .inv .3) (omega arith) (λ j h p g. bytes-more (c .before .before .before .loop .k) j p (c .token-length .ensures .2) (c .token-length .ensures .3) g))
 
 returns : tie.Need-returns Inv-loop μ-loop
 returns c = (omega arith, λ j e. rw (at-end j e (omega arith)))
-
-sub-result : tie.Need-sub-result Inv-loop μ-loop
-sub-result c = omega arith
 
 returns-2 : tie.Need-returns-2 Inv-loop μ-loop
 returns-2 c = (omega arith, λ j e. omega (arith, at-last (c .before .before .loop .inv .3) (omega arith) j e, bytes-all j e (omega arith)))
@@ -59,13 +41,13 @@ text-length-spec =
     Inv-loop
     μ-loop
     loop-holds
-    mul-token-length
-    shared-slice-read-token-length
+    (λ c. omega arith)
+    (λ c. omega arith)
     token-length-requires
     add-k
-    add-i
-    loop-less
+    (λ c. omega arith)
+    (λ c. omega arith)
     loop-again
     returns
-    sub-result
+    (λ c. omega arith)
     returns-2)

@@ -5,15 +5,9 @@ use Rattle.text_shape.proofs.Wholes.{opening-0, not-one, opening-1, not
 use borrow.Author.Needs.{needs}
 use Rattle.text_shape.proofs.opening.Statement.{statement}
 use Rattle.text_shape.proofs.opening.Tie as tie
-use Rattle.text_shape.proofs.opening.Reads as reads
-use Rattle.text_shape.proofs.opening.Lts as lts
-use Rattle.text_leaf.proofs.is_letter.Reads as is-letter-reads
 
 returns : tie.Need-returns
 returns c = opening-0 _ (omega arith)
-
-shared-slice-read-if2 : tie.Need-shared-slice-read-if2
-shared-slice-read-if2 c = search needs
 
 returns-2 : tie.Need-returns-2
 returns-2 c = not-one _ (omega arith) (c .if2 .taken)
@@ -21,20 +15,11 @@ returns-2 c = not-one _ (omega arith) (c .if2 .taken)
 returns-3 : tie.Need-returns-3
 returns-3 c = opening-1 _ (omega arith) (c .before .if2 .left) (omega arith)
 
-shared-slice-read-if4 : tie.Need-shared-slice-read-if4
-shared-slice-read-if4 c = search needs
-
 returns-4 : tie.Need-returns-4
 returns-4 c = not-space _ (omega arith) (c .before .before .before .if2 .left) (omega arith) (c .if4 .taken)
 
 returns-5 : tie.Need-returns-5
 returns-5 c = opening-2 _ (omega arith) (c .before .before .before .before .if2 .left) (omega arith) (c .before .if4 .left) (omega arith)
-
-shared-slice-read-b : tie.Need-shared-slice-read-b
-shared-slice-read-b c = search needs
-
-is-letter-requires : tie.Need-is-letter-requires
-is-letter-requires c κs = search needs
 
 returns-6 : tie.Need-returns-6
 returns-6 c = not-letter _ (omega arith) (c .before .before .before .before .before .before .before .if2 .left) (omega arith) (c .before .before .before .before .if4 .left) (omega arith) (sym (c .before .is-letter .ensures) ∙ not-true _ (c .if6 .taken))
@@ -47,13 +32,13 @@ opening-spec =
     tie.close
     (tie.spec
     returns
-    shared-slice-read-if2
+    (λ c. search needs)
     returns-2
     returns-3
-    shared-slice-read-if4
+    (λ c. search needs)
     returns-4
     returns-5
-    shared-slice-read-b
-    is-letter-requires
+    (λ c. search needs)
+    (λ c κs. search needs)
     returns-6
     returns-7)

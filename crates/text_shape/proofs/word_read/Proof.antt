@@ -6,8 +6,6 @@ use Rattle.text_scanner.specs.Scan.{lit, run-at}
 use Rattle.text_shape.proofs.Wholes.{word-ends, word-differs, word-goes, word-longer, word-whole}
 use Rattle.text_shape.proofs.word_read.Statement.{statement}
 use Rattle.text_shape.proofs.word_read.Tie as tie
-use Rattle.text_shape.proofs.word_read.Reads as reads
-use Rattle.text_shape.proofs.word_read.Lts as lts
 
 abbrev Inv-loop : tie.InvT-loop
 Inv-loop text word i₀ i = (i ≤ length word) × (run-at text 0 (lit word) ≡ run-at text i (lit (drop i word)))
@@ -21,20 +19,8 @@ loop-holds c = (omega arith, refl)
 returns : tie.Need-returns Inv-loop μ-loop
 returns c = word-ends _ _ _ (c .before .before .loop .inv .1) (c .before .loop-test .taken) (c .if1 .taken)
 
-shared-slice-read-if2 : tie.Need-shared-slice-read-if2 Inv-loop μ-loop
-shared-slice-read-if2 c = omega arith
-
-shared-slice-read-if2-2 : tie.Need-shared-slice-read-if2-2 Inv-loop μ-loop
-shared-slice-read-if2-2 c = omega arith
-
 returns-2 : tie.Need-returns-2 Inv-loop μ-loop
 returns-2 c = word-differs _ _ _ (c .before .before .before .before .before .loop .inv .1) (c .before .before .before .before .loop-test .taken) (c .before .before .before .if1 .left) (c .if2 .taken)
-
-add-i : tie.Need-add-i Inv-loop μ-loop
-add-i c = omega arith
-
-loop-less : tie.Need-loop-less Inv-loop μ-loop
-loop-less c = omega arith
 
 loop-again : tie.Need-loop-again Inv-loop μ-loop
 loop-again c = (omega arith, word-goes _ _ _ (c .before .before .before .before .before .loop .inv .1) (c .before .before .before .before .loop-test .taken) (c .before .before .before .if1 .left) (c .if2 .left))
@@ -53,11 +39,11 @@ word-read-spec =
     μ-loop
     loop-holds
     returns
-    shared-slice-read-if2
-    shared-slice-read-if2-2
+    (λ c. omega arith)
+    (λ c. omega arith)
     returns-2
-    add-i
-    loop-less
+    (λ c. omega arith)
+    (λ c. omega arith)
     loop-again
     returns-3
     returns-4)

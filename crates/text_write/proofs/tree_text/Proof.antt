@@ -24,9 +24,6 @@ sub-write-gap c = simp length-set (omega (arith, tree-text-room (c .before .befo
 part-write-gap-start : tie.Need-part-write-gap-start
 part-write-gap-start c = simp length-set (omega (arith, tree-text-room (c .before .before .pre .0) (c .before .before .pre .2)))
 
-part-write-gap-end : tie.Need-part-write-gap-end
-part-write-gap-end c = search needs
-
 write-gap-requires : tie.Need-write-gap-requires
 write-gap-requires c κs = (c .before .before .before .pre .0, c .before .before .before .pre .1, simp (length-take, length-drop, length-set) (omega (arith, tree-text-room (c .before .before .before .pre .0) (c .before .before .before .pre .2))))
 
@@ -51,9 +48,6 @@ sub-write-p c = omega (arith, room c)
 part-write-p-start : tie.Need-part-write-p-start
 part-write-p-start c = omega (arith, room c)
 
-part-write-p-end : tie.Need-part-write-p-end
-part-write-p-end c = search needs
-
 write-p-requires : tie.Need-write-p-requires
 write-p-requires c κs = (c .before .before .before .before .before .before .before .pre .0, c .before .before .before .before .before .before .before .pre .1, omega (arith, room (c .before), c .write-p-arg .given))
 
@@ -73,12 +67,12 @@ tree-text-spec =
     slice-write-out
     sub-write-gap
     part-write-gap-start
-    part-write-gap-end
+    (λ c. search needs)
     write-gap-requires
     add-k
     sub-write-p
     part-write-p-start
-    part-write-p-end
+    (λ c. search needs)
     write-p-requires
     add-result
     same-length

@@ -8,19 +8,10 @@ use Rattle.text_write.proofs.Laws.{closing-leaf, closing-node}
 use Rattle.text_write.proofs.write_closing.Statement.{statement}
 use Rattle.text_write.proofs.write_closing.Tie as tie
 
-shape-requires : tie.Need-shape-requires
-shape-requires c κs = search needs
-
-rest-requires : tie.Need-rest-requires
-rest-requires c κs = search needs
-
 write-gap-requires : tie.Need-write-gap-requires
 write-gap-requires c κs =
     let p = c .before .before .before .before .before .before .pre .0 in
     (_, c .before .rest .ensures .1 (p .0) (p .1), omega (arith, p .2, ap length (closing-leaf (p .0) (sym (c .before .before .before .shape .ensures (p .0) (p .1)) ∙ c .before .before .if1 .taken))))
-
-same-length : tie.Need-same-length
-same-length c = search needs
 
 returns : tie.Need-returns
 returns c = λ j e. rw (closing-leaf j (sym (c .before .before .before .before .before .before .shape .ensures j e) ∙ c .before .before .before .before .before .if1 .taken)) (c .before .before .write-gap .ensures _ (c .before .before .before .before .rest .ensures .1 j e))
@@ -30,17 +21,11 @@ slice-write-out c =
     let p = c .before .before .before .before .pre .0 in
     omega (arith, p .2, ap length (closing-node (p .0) (p .1) (c .before .before .before .before .pre .1) (λ h. c .if1 .left (c .before .shape .ensures (p .0) (p .1) ∙ h))))
 
-rest-requires-2 : tie.Need-rest-requires-2
-rest-requires-2 c κs = search needs
-
 sub-write-gap : tie.Need-sub-write-gap
 sub-write-gap c = simp length-set (omega (arith, slice-write-out (c .before)))
 
 part-write-gap-start : tie.Need-part-write-gap-start
 part-write-gap-start c = simp length-set (omega (arith, slice-write-out (c .before)))
-
-part-write-gap-end : tie.Need-part-write-gap-end
-part-write-gap-end c = search needs
 
 write-gap-requires-2 : tie.Need-write-gap-requires-2
 write-gap-requires-2 c κs =
@@ -63,16 +48,16 @@ pub write-closing-spec : {M : Type 1} → statement M
 write-closing-spec =
     tie.close
     (tie.spec
-    shape-requires
-    rest-requires
+    (λ c κs. search needs)
+    (λ c κs. search needs)
     write-gap-requires
-    same-length
+    (λ c. search needs)
     returns
     slice-write-out
-    rest-requires-2
+    (λ c κs. search needs)
     sub-write-gap
     part-write-gap-start
-    part-write-gap-end
+    (λ c. search needs)
     write-gap-requires-2
     add-result
     same-length-2

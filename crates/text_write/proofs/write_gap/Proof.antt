@@ -17,11 +17,8 @@ returns c = λ j e. rw (at-end j e (c .if1 .taken), gap) (wrote-none _)
 slice-write-out : tie.Need-slice-write-out
 slice-write-out c = omega (arith, c .before .pre .2, ap length (gap-some (c .before .pre .0) (c .before .pre .1) (c .if1 .left)))
 
-same-length : tie.Need-same-length
-same-length c = search needs
-
 returns-2 : tie.Need-returns-2
 returns-2 c = λ j e. rw (gap-some j e (c .if1 .left)) (wrote-one 32 _ (slice-write-out c))
 
 pub write-gap-spec : {M : Type 1} → statement M
-write-gap-spec = tie.close (tie.spec returns slice-write-out same-length returns-2)
+write-gap-spec = tie.close (tie.spec returns slice-write-out (λ c. search needs) returns-2)

@@ -13,26 +13,14 @@ use Rattle.text_write.proofs.Laws.{opening-leaf, opening-p, opening-c, 
 use Rattle.text_write.proofs.write_opening.Statement.{statement}
 use Rattle.text_write.proofs.write_opening.Tie as tie
 
-shape-requires : tie.Need-shape-requires
-shape-requires c κs = search needs
-
-leaf-requires : tie.Need-leaf-requires
-leaf-requires c κs = search needs
-
 is-leaf : (c : tie.Then1) (j : Judged) → now (c .before .before .before .before .args .toks) ≡ encode j → shape-of j ≡ 1
 is-leaf c j e = sym (c .before .shape .ensures j e) ∙ c .if1 .taken
-
-cast-write-number : tie.Need-cast-write-number
-cast-write-number c = search needs
 
 write-number-requires : tie.Need-write-number-requires
 write-number-requires c κs =
     let p = c .before .before .before .before .before .before .pre .0 in
     let one = is-leaf (c .before .before) (p .0) (p .1) in
     rw (c .before .leaf .ensures (p .0) (p .1) one) (omega (arith, p .2, ap length (opening-leaf (p .0) one)))
-
-same-length : tie.Need-same-length
-same-length c = search needs
 
 returns : tie.Need-returns
 returns c = λ j e.
@@ -53,9 +41,6 @@ slice-write-out c = omega (arith, room-p c)
 slice-write-out-2 : tie.Need-slice-write-out-2
 slice-write-out-2 c = simp length-set (omega (arith, room-p c))
 
-same-length-2 : tie.Need-same-length-2
-same-length-2 c = search needs
-
 returns-2 : tie.Need-returns-2
 returns-2 c = λ j e. rw (opening-p j (is-p c j e)) (wrote-byte 40 (wrote-one 80 _ (slice-write-out c)) (room-p c))
 
@@ -73,9 +58,6 @@ slice-write-out-3 c = omega (arith, room-c c)
 slice-write-out-4 : tie.Need-slice-write-out-4
 slice-write-out-4 c = simp length-set (omega (arith, room-c c))
 
-same-length-3 : tie.Need-same-length-3
-same-length-3 c = search needs
-
 returns-3 : tie.Need-returns-3
 returns-3 c = λ j e. rw (opening-c j (is-c c j e)) (wrote-byte 40 (wrote-one 67 _ (slice-write-out-3 c)) (room-c c))
 
@@ -83,17 +65,17 @@ pub write-opening-spec : {M : Type 1} → statement M
 write-opening-spec =
     tie.close
     (tie.spec
-    shape-requires
-    leaf-requires
-    cast-write-number
+    (λ c κs. search needs)
+    (λ c κs. search needs)
+    (λ c. search needs)
     write-number-requires
-    same-length
+    (λ c. search needs)
     returns
     slice-write-out
     slice-write-out-2
-    same-length-2
+    (λ c. search needs)
     returns-2
     slice-write-out-3
     slice-write-out-4
-    same-length-3
+    (λ c. search needs)
     returns-3)

@@ -10,23 +10,11 @@ use borrow.Author.Needs.{needs}
 use Rattle.tree_form.proofs.all_leaves.Statement.{statement}
 use Rattle.tree_form.proofs.all_leaves.Tie as tie
 
-leaf-count-requires : tie.Need-leaf-count-requires
-leaf-count-requires c κs = search needs
-
 returns : tie.Need-returns
 returns c = λ j e. rw (c .if1 .taken, c .before .leaf-count .ensures .1 j e) (no-leaves (frontier (tree j)))
 
-sub-if2 : tie.Need-sub-if2
-sub-if2 c = search needs
-
 returns-2 : tie.Need-returns-2
 returns-2 c = λ j e. sym (wrong-number (c .before .before .before .before .args .n) (frontier (tree j)) (omega arith) (λ h. omega (arith, c .before .before .leaf-count .ensures .1 j e)))
-
-slice-aggregate-new-leaves : tie.Need-slice-aggregate-new-leaves
-slice-aggregate-new-leaves c = search needs
-
-new-leaves-requires : tie.Need-new-leaves-requires
-new-leaves-requires c κs = search needs
 
 returns-3 : tie.Need-returns-3
 returns-3 c = λ j e.
@@ -37,10 +25,10 @@ pub all-leaves-spec : {M : Type 1} → statement M
 all-leaves-spec =
     tie.close
     (tie.spec
-    leaf-count-requires
+    (λ c κs. search needs)
     returns
-    sub-if2
+    (λ c. search needs)
     returns-2
-    slice-aggregate-new-leaves
-    new-leaves-requires
+    (λ c. search needs)
+    (λ c κs. search needs)
     returns-3)

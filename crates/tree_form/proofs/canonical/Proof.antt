@@ -10,9 +10,6 @@ use Rattle.tree_tokens.proofs.Steps.{Left, from-start, part-left, here, at-last
 use Rattle.tree_form.proofs.Sorting.{canonical-open}
 use Rattle.tree_form.proofs.canonical.Statement.{statement}
 use Rattle.tree_form.proofs.canonical.Tie as tie
-use Rattle.tree_form.proofs.canonical.Reads as reads
-use Rattle.tree_form.proofs.canonical.Lts as lts
-use Rattle.tree_form.proofs.sorted.Reads as sorted-reads
 
 abbrev Inv-loop : tie.InvT-loop
 Inv-loop toks i₀ i = (i ≤ length toks) × Left toks i (λ j k. canonical? (tree j) ≡ canonical? (tree k))
@@ -23,29 +20,11 @@ abbrev μ-loop : tie.MeasureT-loop
 loop-holds : tie.Need-loop-holds Inv-loop μ-loop
 loop-holds c = (omega arith, from-start _ (λ j. refl))
 
-mul-sorted : tie.Need-mul-sorted Inv-loop μ-loop
-mul-sorted c = omega arith
-
-sub-sorted : tie.Need-sub-sorted Inv-loop μ-loop
-sub-sorted c = omega arith
-
-part-sorted-start : tie.Need-part-sorted-start Inv-loop μ-loop
-part-sorted-start c = omega arith
-
-part-sorted-end : tie.Need-part-sorted-end Inv-loop μ-loop
-part-sorted-end c = omega arith
-
 sorted-requires : tie.Need-sorted-requires Inv-loop μ-loop
 sorted-requires c κs = (part-left (c .before .before .loop .inv .1) (c .before .before .before .before .pre), omega arith)
 
 returns : tie.Need-returns Inv-loop μ-loop
 returns c = λ j e. let r = here (c .before .before .before .before .loop .inv .1) (omega arith) j e in sym (r .2 ∙ canonical-open (r .0) ∙ rw (← c .before .sorted .ensures (r .0) (r .1 .part), not-true (c .before .sorted .result) (c .if1 .taken)))
-
-add-i : tie.Need-add-i Inv-loop μ-loop
-add-i c = omega arith
-
-loop-less : tie.Need-loop-less Inv-loop μ-loop
-loop-less c = omega arith
 
 loop-again : tie.Need-loop-again Inv-loop μ-loop
 loop-again c = (omega arith, next-token (c .before .before .before .before .loop .inv .1) (omega arith) (λ j k p q. q ∙ canonical-open k ∙ rw (← c .before .sorted .ensures k (p .part), not-false (c .before .sorted .result) (c .if1 .left))))
@@ -60,13 +39,13 @@ canonical-spec =
     Inv-loop
     μ-loop
     loop-holds
-    mul-sorted
-    sub-sorted
-    part-sorted-start
-    part-sorted-end
+    (λ c. omega arith)
+    (λ c. omega arith)
+    (λ c. omega arith)
+    (λ c. omega arith)
     sorted-requires
     returns
-    add-i
-    loop-less
+    (λ c. omega arith)
+    (λ c. omega arith)
     loop-again
     returns-2)

@@ -9,22 +9,13 @@ use borrow.Author.Needs.{needs}
 use Rattle.tree_form.proofs.in_form.Statement.{statement}
 use Rattle.tree_form.proofs.in_form.Tie as tie
 
-item-count-requires : tie.Need-item-count-requires
-item-count-requires c κs = search needs
-
 returns : tie.Need-returns
 unfolding in-form?
 returns c = λ j e. rw (lt-leb (length (items (tree j))) 1 (omega (arith, c .before .item-count .ensures .1 j e)))
 
-canonical-requires : tie.Need-canonical-requires
-canonical-requires c κs = search needs
-
 returns-2 : tie.Need-returns-2
 unfolding in-form?
 returns-2 c = λ j e. rw (le-leb (length (items (tree j))) 1 (omega (arith, c .before .before .before .item-count .ensures .1 j e)), ← c .before .canonical .ensures j e, not-true (c .before .canonical .result) (c .if2 .taken))
-
-all-leaves-requires : tie.Need-all-leaves-requires
-all-leaves-requires c κs = search needs
 
 returns-3 : tie.Need-returns-3
 unfolding in-form?
@@ -34,9 +25,9 @@ pub in-form-spec : {M : Type 1} → statement M
 in-form-spec =
     tie.close
     (tie.spec
-    item-count-requires
+    (λ c κs. search needs)
     returns
-    canonical-requires
+    (λ c κs. search needs)
     returns-2
-    all-leaves-requires
+    (λ c κs. search needs)
     returns-3)

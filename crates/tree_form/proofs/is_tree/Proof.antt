@@ -13,9 +13,6 @@ use Rattle.tree_form.proofs.is_tree.Tie as tie
 returns : tie.Need-returns
 returns c = refuted (λ p. omega arith)
 
-is-plain-requires : tie.Need-is-plain-requires
-is-plain-requires c κs = search needs
-
 returns-2 : tie.Need-returns-2
 returns-2 c = refuted (λ p. absurd (true≢false (sym (c .before .is-plain .ensures .1 (p .1 .0, p .1 .2)) ∙ not-true (c .before .is-plain .result) (c .if2 .taken))))
 
@@ -26,4 +23,4 @@ returns-3 : tie.Need-returns-3
 returns-3 c = tree-is _ _ _ (omega arith) (c .before .before .is-plain .ensures .0 (not-false (c .before .before .is-plain .result) (c .before .if2 .left))) (c .in-form .ensures)
 
 pub is-tree-spec : {M : Type 1} → statement M
-is-tree-spec = tie.close (tie.spec returns is-plain-requires returns-2 in-form-requires returns-3)
+is-tree-spec = tie.close (tie.spec returns (λ c κs. search needs) returns-2 in-form-requires returns-3)

@@ -13,11 +13,8 @@ returns c = λ G e. sym (leaf-low (c .before .before .args .n) G (c .before .bef
 returns-2 : tie.Need-returns-2
 returns-2 c = λ G e. sym (leaf-high (c .before .before .before .args .n) G (c .before .before .before .args .leaf) (omega arith) (omega arith))
 
-test-requires : tie.Need-test-requires
-test-requires c κs = search needs
-
 returns-3 : tie.Need-returns-3
 returns-3 c = λ G e. ap not (c .test .ensures) ∙ leaf-within 4 (c .before .before .before .before .args .n) G (c .before .before .before .before .args .leaf) (omega arith) (omega arith) (c .before .before .before .before .pre) e
 
 pub new-leaf-spec : {M : Type 1} → statement M
-new-leaf-spec = tie.close (tie.spec returns returns-2 test-requires returns-3)
+new-leaf-spec = tie.close (tie.spec returns returns-2 (λ c κs. search needs) returns-3)

@@ -13,10 +13,6 @@ use Rattle.tree_tokens.proofs.Steps.{Left, from-start, here, at-last, next-toke
 use Rattle.tree_form.proofs.Leaves.{Going, going-start, going-leaf, going-same, going-marked, marked-none, marked-old}
 use Rattle.tree_form.proofs.new_leaves.Statement.{statement}
 use Rattle.tree_form.proofs.new_leaves.Tie as tie
-use Rattle.tree_form.proofs.new_leaves.Reads as reads
-use Rattle.tree_form.proofs.new_leaves.Lts as lts
-use Rattle.tree_form.proofs.new_leaf.Reads as new-leaf-reads
-use Rattle.mark_words.proofs.set.Reads as set-reads
 
 abbrev Inv-loop : tie.InvT-loop
 Inv-loop toks n words₀ i₀ words i = (i ≤ length toks) × (length words ≡ length words₀) × Left toks i (λ j k. (G : Restriction) → words₀ ≡ words-of 4 G → Going n G (frontier (tree j)) words (frontier (tree k)))
@@ -26,12 +22,6 @@ abbrev μ-loop : tie.MeasureT-loop
 
 loop-holds : tie.Need-loop-holds Inv-loop μ-loop
 loop-holds c = (omega arith, refl, from-start _ (λ j G w. going-start _ G _ w))
-
-mul-t : tie.Need-mul-t Inv-loop μ-loop
-mul-t c = omega arith
-
-shared-slice-read-t : tie.Need-shared-slice-read-t Inv-loop μ-loop
-shared-slice-read-t c = omega arith
 
 new-leaf-requires : tie.Need-new-leaf-requires Inv-loop μ-loop
 new-leaf-requires c κs = c .before .before .before .before .before .before .before .pre .1
@@ -44,12 +34,6 @@ returns c = λ j G e w. let r = here (c .before .before .before .before .before 
 
 set-requires : tie.Need-set-requires Inv-loop μ-loop
 set-requires c κs = tt
-
-add-i : tie.Need-add-i Inv-loop μ-loop
-add-i c = omega arith
-
-loop-less : tie.Need-loop-less Inv-loop μ-loop
-loop-less c = omega arith
 
 loop-again : tie.Need-loop-again Inv-loop μ-loop
 loop-again c = (
@@ -74,14 +58,14 @@ new-leaves-spec =
     Inv-loop
     μ-loop
     loop-holds
-    mul-t
-    shared-slice-read-t
+    (λ c. omega arith)
+    (λ c. omega arith)
     new-leaf-requires
     same-length
     returns
     set-requires
-    add-i
-    loop-less
+    (λ c. omega arith)
+    (λ c. omega arith)
     loop-again
     same-length-2
     returns-2)

@@ -10,10 +10,6 @@ use Rattle.tree_tokens.proofs.Steps.{Left, from-start, part-left, here, at-last
 use Rattle.tree_form.proofs.Sorting.{rises-not, rises-on}
 use Rattle.tree_form.proofs.rises.Statement.{statement}
 use Rattle.tree_form.proofs.rises.Tie as tie
-use Rattle.tree_form.proofs.rises.Reads as reads
-use Rattle.tree_form.proofs.rises.Lts as lts
-use Rattle.tree_tokens.proofs.first_leaf.Reads as first-leaf-reads
-use Rattle.tree_tokens.proofs.size.Reads as size-reads
 
 abbrev Inv-loop : tie.InvT-loop
 Inv-loop toks m least₀ i₀ least i = (i ≤ length toks) × Left toks i (λ j k. rises? m (items (tree j)) ≡ rises? least (items (tree k)))
@@ -24,44 +20,14 @@ abbrev μ-loop : tie.MeasureT-loop
 loop-holds : tie.Need-loop-holds Inv-loop μ-loop
 loop-holds c = (omega arith, from-start _ (λ j. refl))
 
-mul-first-leaf : tie.Need-mul-first-leaf Inv-loop μ-loop
-mul-first-leaf c = omega arith
-
-sub-first-leaf : tie.Need-sub-first-leaf Inv-loop μ-loop
-sub-first-leaf c = omega arith
-
-part-first-leaf-start : tie.Need-part-first-leaf-start Inv-loop μ-loop
-part-first-leaf-start c = omega arith
-
-part-first-leaf-end : tie.Need-part-first-leaf-end Inv-loop μ-loop
-part-first-leaf-end c = omega arith
-
 first-leaf-requires : tie.Need-first-leaf-requires Inv-loop μ-loop
 first-leaf-requires c κs = part-left (c .before .before .loop .inv .1) (c .before .before .before .before .pre)
 
 returns : tie.Need-returns Inv-loop μ-loop
 returns c = λ j e. let r = here (c .before .before .before .before .loop .inv .1) (omega arith) j e in sym (r .2 ∙ rises-not (r .0) (c .before .before .before .before .loop .least) (r .1 .some) (omega (arith, c .before .first-leaf .ensures (r .0) (r .1 .part))))
 
-mul-size : tie.Need-mul-size Inv-loop μ-loop
-mul-size c = omega arith
-
-sub-size : tie.Need-sub-size Inv-loop μ-loop
-sub-size c = omega arith
-
-part-size-start : tie.Need-part-size-start Inv-loop μ-loop
-part-size-start c = omega arith
-
-part-size-end : tie.Need-part-size-end Inv-loop μ-loop
-part-size-end c = omega arith
-
 size-requires : tie.Need-size-requires Inv-loop μ-loop
 size-requires c κs = (part-left (c .before .before .before .before .before .loop .inv .1) (c .before .before .before .before .before .before .before .pre), omega arith)
-
-add-i : tie.Need-add-i Inv-loop μ-loop
-add-i c = omega arith
-
-loop-less : tie.Need-loop-less Inv-loop μ-loop
-loop-less c = omega arith
 
 loop-again : tie.Need-loop-again Inv-loop μ-loop
 loop-again c = (omega arith, next-item (c .before .before .before .before .before .before .loop .inv .1) (omega arith) (c .size .ensures .2) (λ j k p q. q ∙ rises-on k (c .before .before .before .before .before .before .loop .least) (p .some) (omega (arith, c .before .before .before .first-leaf .ensures k (p .part))) ∙ rw (c .before .before .before .first-leaf .ensures k (p .part))))
@@ -76,18 +42,18 @@ rises-spec =
     Inv-loop
     μ-loop
     loop-holds
-    mul-first-leaf
-    sub-first-leaf
-    part-first-leaf-start
-    part-first-leaf-end
+    (λ c. omega arith)
+    (λ c. omega arith)
+    (λ c. omega arith)
+    (λ c. omega arith)
     first-leaf-requires
     returns
-    mul-size
-    sub-size
-    part-size-start
-    part-size-end
+    (λ c. omega arith)
+    (λ c. omega arith)
+    (λ c. omega arith)
+    (λ c. omega arith)
     size-requires
-    add-i
-    loop-less
+    (λ c. omega arith)
+    (λ c. omega arith)
     loop-again
     returns-2)

@@ -7,14 +7,8 @@ use borrow.Author.Needs.{needs}
 use Rattle.tree_form.proofs.sorted.Statement.{statement}
 use Rattle.tree_form.proofs.sorted.Tie as tie
 
-shape-requires : tie.Need-shape-requires
-shape-requires c κs = search needs
-
 returns : tie.Need-returns
 returns c = λ j e. sym (leaf-sorted j (sym (c .before .shape .ensures j e) ∙ c .if1 .taken))
-
-items-requires : tie.Need-items-requires
-items-requires c κs = search needs
 
 item-count-requires : tie.Need-item-count-requires
 item-count-requires c κs = let p = c .before .before .before .before .pre .0 in (_, c .items .ensures .1 (p .0) (p .1))
@@ -52,9 +46,9 @@ pub sorted-spec : {M : Type 1} → statement M
 sorted-spec =
     tie.close
     (tie.spec
-    shape-requires
+    (λ c κs. search needs)
     returns
-    items-requires
+    (λ c κs. search needs)
     item-count-requires
     returns-2
     first-leaf-requires

@@ -6,19 +6,13 @@ use Rattle.tree_judge.proofs.Pass.{zero-start}
 use borrow.Author.Needs.{needs}
 use Rattle.tree_judge.proofs.judge.Statement.{statement}
 use Rattle.tree_judge.proofs.judge.Tie as tie
-use Rattle.tree_judge.proofs.judge.Reads as reads
-use Rattle.tree_judge.proofs.judge.Lts as lts
-use Rattle.tree_judge.proofs.judge_items.Reads as judge-items-reads
 
 judge-items-requires : tie.Need-judge-items-requires
 unfolding code step
 judge-items-requires c κs = (c .before .before .before .before .before .pre .0, c .before .before .before .before .before .pre .1, omega arith, (moves-small, move-table))
 
-same-length : tie.Need-same-length
-same-length c = search needs
-
 returns : tie.Need-returns
 returns c = λ j e. c .before .before .judge-items .ensures .1 j p0 e zero-start .1
 
 pub judge-spec : {M : Type 1} → statement M
-judge-spec = tie.close (tie.spec judge-items-requires same-length returns)
+judge-spec = tie.close (tie.spec judge-items-requires (λ c. search needs) returns)

@@ -7,17 +7,11 @@ use borrow.Author.Needs.{needs}
 use Rattle.tree_order.proofs.standard_order.Statement.{statement}
 use Rattle.tree_order.proofs.standard_order.Tie as tie
 
-slice-write-order : tie.Need-slice-write-order
-slice-write-order c = search needs
-
 sub-collect-p : tie.Need-sub-collect-p
 sub-collect-p c = simp length-set (omega (arith, c .before .before .pre .2))
 
 part-collect-p-start : tie.Need-part-collect-p-start
 part-collect-p-start c = simp length-set (omega (arith, c .before .before .pre .2))
-
-part-collect-p-end : tie.Need-part-collect-p-end
-part-collect-p-end c = search needs
 
 collect-p-requires : tie.Need-collect-p-requires
 collect-p-requires c κs = (c .before .before .before .pre .0, c .before .before .before .pre .1, simp (length-take, length-drop, length-set) (omega (arith, c .before .before .before .pre .2)))
@@ -35,10 +29,10 @@ pub standard-order-spec : {M : Type 1} → statement M
 standard-order-spec =
     tie.close
     (tie.spec
-    slice-write-order
+    (λ c. search needs)
     sub-collect-p
     part-collect-p-start
-    part-collect-p-end
+    (λ c. search needs)
     collect-p-requires
     add-result
     same-length

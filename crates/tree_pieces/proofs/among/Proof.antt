@@ -11,12 +11,6 @@ use Rattle.tree_pieces.proofs.Laws.{flat-tree, placed, placed-few, plac
 use borrow.Author.Needs.{needs}
 use Rattle.tree_pieces.proofs.among.Statement.{statement}
 use Rattle.tree_pieces.proofs.among.Tie as tie
-use Rattle.tree_pieces.proofs.among.Reads as reads
-use Rattle.tree_pieces.proofs.among.Lts as lts
-use Rattle.tree_pieces.proofs.count.Reads as count-reads
-use Rattle.tree_pieces.proofs.insert.Reads as insert-reads
-use Rattle.tree_tokens.proofs.first_leaf.Reads as first-leaf-reads
-use Rattle.tree_tokens.proofs.item_count.Reads as item-count-reads
 
 first-leaf-requires : tie.Need-first-leaf-requires
 first-leaf-requires c κs = (_, flat-tree (c .before .before .before .pre .1) (c .before .before .before .pre .3))
@@ -26,9 +20,6 @@ count-requires c κs = (_, c .before .before .before .before .pre .2)
 
 item-count-requires : tie.Need-item-count-requires
 item-count-requires c κs = (_, flat-tree (c .before .before .before .before .before .pre .1) (c .before .before .before .before .before .pre .3))
-
-add-if1 : tie.Need-add-if1
-add-if1 c = search needs
 
 insert-requires : tie.Need-insert-requires
 insert-requires c κs =
@@ -45,9 +36,6 @@ insert-requires c κs =
       ),
     )
 
-same-length : tie.Need-same-length
-same-length c = search needs
-
 returns : tie.Need-returns
 returns c = λ j g e q. rw (placed-few g j (c .before .before .before .before .before .before .count .ensures .1 j e) (c .before .before .before .before .before .item-count .ensures .1 _ (flat-tree g q)) (c .before .before .before .before .if1 .taken)) (c .before .before .insert .ensures j g e q)
 
@@ -62,9 +50,6 @@ sub-insert c = omega (arith, room c)
 
 part-insert-start : tie.Need-part-insert-start
 part-insert-start c = omega (arith, room c)
-
-part-insert-end : tie.Need-part-insert-end
-part-insert-end c = search needs
 
 insert-requires-2 : tie.Need-insert-requires-2
 insert-requires-2 c κs =
@@ -91,9 +76,6 @@ slice-write-out c = omega (arith, room (c .before .before .before .before), c .b
 add-result : tie.Need-add-result
 add-result c = omega (arith, few c, c .before .before .before .before .before .before .before .before .before .before .before .pre .4)
 
-same-length-2 : tie.Need-same-length-2
-same-length-2 c = search needs
-
 returns-2 : tie.Need-returns-2
 returns-2 c = λ j g e q.
     let w = c .before .before .insert2 .ensures j g e q in
@@ -106,18 +88,18 @@ among-spec =
     first-leaf-requires
     count-requires
     item-count-requires
-    add-if1
+    (λ c. search needs)
     insert-requires
-    same-length
+    (λ c. search needs)
     returns
     sub-insert
     part-insert-start
-    part-insert-end
+    (λ c. search needs)
     insert-requires-2
     mul-out
     add-out
     cast-out
     slice-write-out
     add-result
-    same-length-2
+    (λ c. search needs)
     returns-2)

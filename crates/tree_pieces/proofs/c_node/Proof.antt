@@ -9,12 +9,6 @@ use Rattle.tree_pieces.proofs.Laws.{flat-tree, flat-rev, flat-turned, f
 use borrow.Author.Needs.{needs}
 use Rattle.tree_pieces.proofs.c_node.Statement.{statement}
 use Rattle.tree_pieces.proofs.c_node.Tie as tie
-use Rattle.tree_pieces.proofs.c_node.Reads as reads
-use Rattle.tree_pieces.proofs.c_node.Lts as lts
-use Rattle.tree_tokens.proofs.copy.Reads as copy-reads
-use Rattle.tree_tokens.proofs.first_leaf.Reads as first-leaf-reads
-use Rattle.tree_tokens.proofs.last_leaf.Reads as last-leaf-reads
-use Rattle.tree_tokens.proofs.reverse.Reads as reverse-reads
 
 last-leaf-requires : tie.Need-last-leaf-requires
 last-leaf-requires c κs = (_, flat-tree (c .before .before .pre .0) (c .before .before .pre .1))
@@ -22,35 +16,8 @@ last-leaf-requires c κs = (_, flat-tree (c .before .before .pre .0) (c .before 
 first-leaf-requires : tie.Need-first-leaf-requires
 first-leaf-requires c κs = (_, flat-tree (c .before .before .before .pre .0) (c .before .before .before .pre .1))
 
-sub-reverse : tie.Need-sub-reverse
-sub-reverse c = search needs
-
-part-reverse-start : tie.Need-part-reverse-start
-part-reverse-start c = search needs
-
-part-reverse-end : tie.Need-part-reverse-end
-part-reverse-end c = search needs
-
 reverse-requires : tie.Need-reverse-requires
 reverse-requires c κs = ((_, flat-tree (c .before .before .before .before .before .before .pre .0) (c .before .before .before .before .before .before .pre .1)), omega arith)
-
-mul-out : tie.Need-mul-out
-mul-out c = search needs
-
-add-out : tie.Need-add-out
-add-out c = search needs
-
-cast-out : tie.Need-cast-out
-cast-out c = search needs
-
-slice-write-out : tie.Need-slice-write-out
-slice-write-out c = search needs
-
-add-result : tie.Need-add-result
-add-result c = search needs
-
-same-length : tie.Need-same-length
-same-length c = search needs
 
 returns : tie.Need-returns
 returns c = λ f e.
@@ -65,36 +32,6 @@ returns c = λ f e.
     ) in
     let w = rw (flat-rev f) at (c .before .before .reverse .ensures .1 _ l) in
     rw (flat-turned f turned (w .many)) (wrote-head _ (c .before .before .before .before .before .before .before .before .before .args .out .now) (omega arith) w)
-
-sub-copy : tie.Need-sub-copy
-sub-copy c = search needs
-
-part-copy-start : tie.Need-part-copy-start
-part-copy-start c = search needs
-
-part-copy-end : tie.Need-part-copy-end
-part-copy-end c = search needs
-
-copy-requires : tie.Need-copy-requires
-copy-requires c κs = search needs
-
-mul-out-2 : tie.Need-mul-out-2
-mul-out-2 c = search needs
-
-add-out-2 : tie.Need-add-out-2
-add-out-2 c = search needs
-
-cast-out-2 : tie.Need-cast-out-2
-cast-out-2 c = search needs
-
-slice-write-out-2 : tie.Need-slice-write-out-2
-slice-write-out-2 c = search needs
-
-add-result-2 : tie.Need-add-result-2
-add-result-2 c = search needs
-
-same-length-2 : tie.Need-same-length-2
-same-length-2 c = search needs
 
 returns-2 : tie.Need-returns-2
 returns-2 c = λ f e.
@@ -116,25 +53,25 @@ c-node-spec =
     (tie.spec
     last-leaf-requires
     first-leaf-requires
-    sub-reverse
-    part-reverse-start
-    part-reverse-end
+    (λ c. search needs)
+    (λ c. search needs)
+    (λ c. search needs)
     reverse-requires
-    mul-out
-    add-out
-    cast-out
-    slice-write-out
-    add-result
-    same-length
+    (λ c. search needs)
+    (λ c. search needs)
+    (λ c. search needs)
+    (λ c. search needs)
+    (λ c. search needs)
+    (λ c. search needs)
     returns
-    sub-copy
-    part-copy-start
-    part-copy-end
-    copy-requires
-    mul-out-2
-    add-out-2
-    cast-out-2
-    slice-write-out-2
-    add-result-2
-    same-length-2
+    (λ c. search needs)
+    (λ c. search needs)
+    (λ c. search needs)
+    (λ c κs. search needs)
+    (λ c. search needs)
+    (λ c. search needs)
+    (λ c. search needs)
+    (λ c. search needs)
+    (λ c. search needs)
+    (λ c. search needs)
     returns-2)

@@ -9,10 +9,6 @@ use Rattle.tree_pieces.proofs.Laws.{at-first, totals-none, many, with-i
 use Rattle.tree_pieces.proofs.Walks.{Left, left-all, left-part, left-some, left-next, left-none}
 use Rattle.tree_pieces.proofs.count.Statement.{statement}
 use Rattle.tree_pieces.proofs.count.Tie as tie
-use Rattle.tree_pieces.proofs.count.Reads as reads
-use Rattle.tree_pieces.proofs.count.Lts as lts
-use Rattle.tree_tokens.proofs.size.Reads as size-reads
-use Rattle.tree_tokens.proofs.state.Reads as state-reads
 
 abbrev Inv-loop : tie.InvT-loop
 Inv-loop x s n₀ i₀ n i = (i ≤ length x) × (n ≤ i) × Left (many s) (λ a. n + a) x i
@@ -23,32 +19,11 @@ abbrev μ-loop : tie.MeasureT-loop
 loop-holds : tie.Need-loop-holds Inv-loop μ-loop
 loop-holds c = (omega arith, omega arith, left-all (many (c .before .args .s)) (λ a. 0 + a) (c .before .pre) (λ a. omega arith))
 
-mul-y : tie.Need-mul-y Inv-loop μ-loop
-mul-y c = omega arith
-
-sub-y : tie.Need-sub-y Inv-loop μ-loop
-sub-y c = omega arith
-
-part-y-start : tie.Need-part-y-start Inv-loop μ-loop
-part-y-start c = omega arith
-
-part-y-end : tie.Need-part-y-end Inv-loop μ-loop
-part-y-end c = omega arith
-
 state-requires : tie.Need-state-requires Inv-loop μ-loop
 state-requires c κs = ((_, left-part (many (c .before .before .before .before .args .s)) (c .before .before .loop .inv .2)), omega (arith, length-drop (c .before .before .loop .i) (c .before .before .before .before .args .x .now)))
 
-add-n : tie.Need-add-n Inv-loop μ-loop
-add-n c = omega arith
-
 size-requires : tie.Need-size-requires Inv-loop μ-loop
 size-requires c κs = ((_, left-part (many (c .before .before .before .before .before .before .args .s)) (c .before .before .before .before .loop .inv .2)), omega (arith, length-drop (c .before .before .before .before .loop .i) (c .before .before .before .before .before .before .args .x .now)))
-
-add-i : tie.Need-add-i Inv-loop μ-loop
-add-i c = omega arith
-
-loop-less : tie.Need-loop-less Inv-loop μ-loop
-loop-less c = omega arith
 
 loop-again : tie.Need-loop-again Inv-loop μ-loop
 loop-again c =
@@ -70,14 +45,14 @@ count-spec =
     Inv-loop
     μ-loop
     loop-holds
-    mul-y
-    sub-y
-    part-y-start
-    part-y-end
+    (λ c. omega arith)
+    (λ c. omega arith)
+    (λ c. omega arith)
+    (λ c. omega arith)
     state-requires
-    add-n
+    (λ c. omega arith)
     size-requires
-    add-i
-    loop-less
+    (λ c. omega arith)
+    (λ c. omega arith)
     loop-again
     returns)

@@ -10,10 +10,6 @@ use Rattle.tree_pieces.proofs.Walks.{Left, left-all, left-part, left-so
 use Rattle.tree_pieces.proofs.Laws.{from-none, from-here, from-on}
 use Rattle.tree_pieces.proofs.find_partial.Statement.{statement}
 use Rattle.tree_pieces.proofs.find_partial.Tie as tie
-use Rattle.tree_pieces.proofs.find_partial.Reads as reads
-use Rattle.tree_pieces.proofs.find_partial.Lts as lts
-use Rattle.tree_tokens.proofs.size.Reads as size-reads
-use Rattle.tree_tokens.proofs.state.Reads as state-reads
 
 abbrev Inv-loop : tie.InvT-loop
 Inv-loop x i₀ i = (i ≤ length x) × Left from-partial (λ a. a) x i
@@ -24,35 +20,11 @@ abbrev μ-loop : tie.MeasureT-loop
 loop-holds : tie.Need-loop-holds Inv-loop μ-loop
 loop-holds c = (omega arith, left-all from-partial (λ a. a) (c .before .pre) (λ a. refl))
 
-mul-if1 : tie.Need-mul-if1 Inv-loop μ-loop
-mul-if1 c = omega arith
-
-shared-slice-read-if1 : tie.Need-shared-slice-read-if1 Inv-loop μ-loop
-shared-slice-read-if1 c = omega arith
-
-add-i : tie.Need-add-i Inv-loop μ-loop
-add-i c = omega arith
-
-loop-less : tie.Need-loop-less Inv-loop μ-loop
-loop-less c = omega arith
-
 loop-again : tie.Need-loop-again Inv-loop μ-loop
 loop-again c =
     let l = c .before .before .before .loop .inv .1 in
     let f = leaf-first (l .left) (left-some from-partial l (c .before .before .loop-test .taken)) (ap (λ (t : ℕ). t % 16) (left-token from-partial l (c .before .before .loop-test .taken))) (omega (arith, c .if1 .taken)) in
     (omega arith, left-next from-partial l (λ a. a) (f .1) (from-on (l .left) (λ h. omega (arith, f .0, c .if1 .taken, h))))
-
-mul-y : tie.Need-mul-y Inv-loop μ-loop
-mul-y c = omega arith
-
-sub-y : tie.Need-sub-y Inv-loop μ-loop
-sub-y c = omega arith
-
-part-y-start : tie.Need-part-y-start Inv-loop μ-loop
-part-y-start c = omega arith
-
-part-y-end : tie.Need-part-y-end Inv-loop μ-loop
-part-y-end c = omega arith
 
 state-requires : tie.Need-state-requires Inv-loop μ-loop
 state-requires c κs = ((_, left-part from-partial (c .before .before .before .before .loop .inv .1)), omega (arith, length-drop (c .before .before .before .before .loop .i) (c .before .before .before .before .before .before .args .x .now)))
@@ -68,12 +40,6 @@ returns c =
 size-requires : tie.Need-size-requires Inv-loop μ-loop
 size-requires c κs = ((_, left-part from-partial (c .before .before .before .before .before .before .loop .inv .1)), omega (arith, length-drop (c .before .before .before .before .before .before .loop .i) (c .before .before .before .before .before .before .before .before .args .x .now)))
 
-add-i-2 : tie.Need-add-i-2 Inv-loop μ-loop
-add-i-2 c = omega arith
-
-loop-less-2 : tie.Need-loop-less-2 Inv-loop μ-loop
-loop-less-2 c = omega arith
-
 loop-again-2 : tie.Need-loop-again-2 Inv-loop μ-loop
 loop-again-2 c =
     let l = c .before .before .before .before .before .before .before .loop .inv .1 in
@@ -81,18 +47,6 @@ loop-again-2 c =
       omega (arith, length-drop (c .before .before .before .before .before .before .before .loop .i) (c .before .before .before .before .before .before .before .before .before .args .x .now)),
       left-next from-partial l (λ a. a) (c .size .ensures .2 _ e) (from-on (l .left) (λ h. omega (arith, c .before .before .state .ensures _ e, c .before .if2 .left, h))),
     )
-
-mul-result : tie.Need-mul-result Inv-loop μ-loop
-mul-result c = omega arith
-
-sub-result : tie.Need-sub-result Inv-loop μ-loop
-sub-result c = omega arith
-
-part-result-start : tie.Need-part-result-start Inv-loop μ-loop
-part-result-start c = omega arith
-
-part-result-end : tie.Need-part-result-end Inv-loop μ-loop
-part-result-end c = omega arith
 
 returns-2 : tie.Need-returns-2 Inv-loop μ-loop
 returns-2 c =
@@ -109,23 +63,23 @@ find-partial-spec =
     Inv-loop
     μ-loop
     loop-holds
-    mul-if1
-    shared-slice-read-if1
-    add-i
-    loop-less
+    (λ c. omega arith)
+    (λ c. omega arith)
+    (λ c. omega arith)
+    (λ c. omega arith)
     loop-again
-    mul-y
-    sub-y
-    part-y-start
-    part-y-end
+    (λ c. omega arith)
+    (λ c. omega arith)
+    (λ c. omega arith)
+    (λ c. omega arith)
     state-requires
     returns
     size-requires
-    add-i-2
-    loop-less-2
+    (λ c. omega arith)
+    (λ c. omega arith)
     loop-again-2
-    mul-result
-    sub-result
-    part-result-start
-    part-result-end
+    (λ c. omega arith)
+    (λ c. omega arith)
+    (λ c. omega arith)
+    (λ c. omega arith)
     returns-2)

@@ -16,13 +16,6 @@ use Rattle.tree_pieces.proofs.Laws.{at-first, placed, placed-none, plac
 use Rattle.tree_pieces.proofs.Walks.{Writing, left-part, left-some, writing-none, writing-skip, writing-more, writing-last, writing-room}
 use Rattle.tree_pieces.proofs.insert.Statement.{statement}
 use Rattle.tree_pieces.proofs.insert.Tie as tie
-use Rattle.tree_pieces.proofs.insert.Reads as reads
-use Rattle.tree_pieces.proofs.insert.Lts as lts
-use Rattle.tree_pieces.proofs.only.Reads as only-reads
-use Rattle.tree_tokens.proofs.copy.Reads as copy-reads
-use Rattle.tree_tokens.proofs.first_leaf.Reads as first-leaf-reads
-use Rattle.tree_tokens.proofs.size.Reads as size-reads
-use Rattle.tree_tokens.proofs.state.Reads as state-reads
 
 -- The tokens of a tree among the empty items.
 abbrev text : Forest → Judged → List ℕ
@@ -87,29 +80,11 @@ end-room c = omega (arith, whole-room (c .before), ap length (end-text c (c .bef
 loop-holds : tie.Need-loop-holds Inv-loop μ-loop
 loop-holds c = (omega arith, refl, λ g et eb. writing-none (text g) (c .before .before .before .args .out .now) (c .before .before .before .pre .0, c .before .before .before .pre .2))
 
-mul-y : tie.Need-mul-y Inv-loop μ-loop
-mul-y c = omega arith
-
-sub-y : tie.Need-sub-y Inv-loop μ-loop
-sub-y c = omega arith
-
-part-y-start : tie.Need-part-y-start Inv-loop μ-loop
-part-y-start c = omega arith
-
-part-y-end : tie.Need-part-y-end Inv-loop μ-loop
-part-y-end c = omega arith
-
 size-requires : tie.Need-size-requires Inv-loop μ-loop
 size-requires c κs = ((_, left-part (text (c .before .before .before .before .before .before .pre .1)) (walk (c .before .before) .rest)), omega (arith, length-drop (c .before .before .loop .i) (c .before .before .before .before .before .before .args .x .now)))
 
 state-requires : tie.Need-state-requires Inv-loop μ-loop
 state-requires c κs = ((_, left-part (text (c .before .before .before .before .before .before .before .pre .1)) (walk (c .before .before .before) .rest)), omega (arith, length-drop (c .before .before .before .loop .i) (c .before .before .before .before .before .before .before .args .x .now)))
-
-add-i : tie.Need-add-i Inv-loop μ-loop
-add-i c = omega arith
-
-loop-less : tie.Need-loop-less Inv-loop μ-loop
-loop-less c = omega arith
 
 loop-again : tie.Need-loop-again Inv-loop μ-loop
 loop-again c = (
@@ -134,9 +109,6 @@ sub-copy c = omega (arith, before-room c)
 part-copy-start : tie.Need-part-copy-start Inv-loop μ-loop
 part-copy-start c = omega (arith, before-room c)
 
-part-copy-end : tie.Need-part-copy-end Inv-loop μ-loop
-part-copy-end c = search needs
-
 copy-requires : tie.Need-copy-requires Inv-loop μ-loop
 copy-requires c κs = omega (arith, before-room (c .before), c .copy-arg .given)
 
@@ -151,9 +123,6 @@ sub-only c = omega (arith, before-room (c .before .before .before .before), c .b
 
 part-only-start : tie.Need-part-only-start Inv-loop μ-loop
 part-only-start c = omega (arith, before-room (c .before .before .before .before), c .before .before .copy .ensures .many, c .before .out .given .1)
-
-part-only-end : tie.Need-part-only-end Inv-loop μ-loop
-part-only-end c = search needs
 
 only-requires : tie.Need-only-requires Inv-loop μ-loop
 only-requires c κs = ((_, left-part (text (c .before .before .before .before .before .before .before .before .before .before .before .before .before .before .before .before .pre .1)) (walk (c .before .before .before .before .before .before .before .before .before .before .before .before) .rest), omega (arith, before-room (c .before .before .before .before .before), c .before .before .before .copy .ensures .many, c .before .before .out .given .1, c .only-arg .given)), omega arith)
@@ -183,20 +152,11 @@ sub-put-first c = omega (arith, after-room c)
 part-put-first-start : tie.Need-part-put-first-start Inv-loop μ-loop
 part-put-first-start c = omega (arith, after-room c)
 
-part-put-first-end : tie.Need-part-put-first-end Inv-loop μ-loop
-part-put-first-end c = search needs
-
 put-first-requires : tie.Need-put-first-requires Inv-loop μ-loop
 put-first-requires c κs = (_, left-part (text (c .before .before .before .before .before .before .before .before .before .before .before .before .pre .1)) (walk (c .before .before .before .before .before .before .before .before) .rest), omega (arith, length-drop (c .before .before .before .before .before .before .before .before .loop .i) (c .before .before .before .before .before .before .before .before .before .before .before .before .args .x .now)), omega (arith, after-room (c .before), c .put-first-arg .given))
 
 add-k : tie.Need-add-k Inv-loop μ-loop
 add-k c = omega (arith, after-room (c .before .before .before .before), c .before .before .put-first .ensures _ (left-part (text (c .before .before .before .before .before .before .before .before .before .before .before .before .before .before .before .pre .1)) (walk (c .before .before .before .before .before .before .before .before .before .before .before) .rest)) .many, plain-length (first-of (walk (c .before .before .before .before .before .before .before .before .before .before .before) .rest .left)))
-
-add-i-2 : tie.Need-add-i-2 Inv-loop μ-loop
-add-i-2 c = omega arith
-
-loop-less-2 : tie.Need-loop-less-2 Inv-loop μ-loop
-loop-less-2 c = omega arith
 
 loop-again-2 : tie.Need-loop-again-2 Inv-loop μ-loop
 loop-again-2 c = (
@@ -216,9 +176,6 @@ sub-copy-2 c = omega (arith, end-room c)
 
 part-copy-start-2 : tie.Need-part-copy-start-2 Inv-loop μ-loop
 part-copy-start-2 c = omega (arith, end-room c)
-
-part-copy-end-2 : tie.Need-part-copy-end-2 Inv-loop μ-loop
-part-copy-end-2 c = search needs
 
 copy-requires-2 : tie.Need-copy-requires-2 Inv-loop μ-loop
 copy-requires-2 c κs = omega (arith, end-room (c .before), c .copy-arg2 .given)
@@ -242,26 +199,26 @@ insert-spec =
     Inv-loop
     μ-loop
     loop-holds
-    mul-y
-    sub-y
-    part-y-start
-    part-y-end
+    (λ c. omega arith)
+    (λ c. omega arith)
+    (λ c. omega arith)
+    (λ c. omega arith)
     size-requires
     state-requires
-    add-i
-    loop-less
+    (λ c. omega arith)
+    (λ c. omega arith)
     loop-again
     first-leaf-requires
     mul-copy
     sub-copy
     part-copy-start
-    part-copy-end
+    (λ c. search needs)
     copy-requires
     add-e
     mul-only
     sub-only
     part-only-start
-    part-only-end
+    (λ c. search needs)
     only-requires
     add-result
     same-length
@@ -269,16 +226,16 @@ insert-spec =
     mul-put-first
     sub-put-first
     part-put-first-start
-    part-put-first-end
+    (λ c. search needs)
     put-first-requires
     add-k
-    add-i-2
-    loop-less-2
+    (λ c. omega arith)
+    (λ c. omega arith)
     loop-again-2
     mul-copy-2
     sub-copy-2
     part-copy-start-2
-    part-copy-end-2
+    (λ c. search needs)
     copy-requires-2
     add-result-2
     same-length-2

@@ -14,11 +14,6 @@ use Rattle.tree_pieces.proofs.Walks.{Writing, left-part, left-some, lef
 use Rattle.tree_pieces.proofs.States.{with-until, with-span, until-span}
 use Rattle.tree_pieces.proofs.only.Statement.{statement}
 use Rattle.tree_pieces.proofs.only.Tie as tie
-use Rattle.tree_pieces.proofs.only.Reads as reads
-use Rattle.tree_pieces.proofs.only.Lts as lts
-use Rattle.tree_spans.proofs.span.Reads as span-reads
-use Rattle.tree_spans.proofs.until.Reads as until-reads
-use Rattle.tree_tokens.proofs.strip.Reads as strip-reads
 
 -- The tokens of the items of state s.
 abbrev text : ℕ → Judged → List ℕ
@@ -67,18 +62,6 @@ some c =
 loop-holds : tie.Need-loop-holds Inv-loop μ-loop
 loop-holds c = (omega arith, refl, writing-none (text (c .before .before .args .s)) (c .before .before .args .out .now) (c .before .before .pre .0 .0, c .before .before .pre .0 .1))
 
-mul-until : tie.Need-mul-until Inv-loop μ-loop
-mul-until c = omega arith
-
-sub-until : tie.Need-sub-until Inv-loop μ-loop
-sub-until c = omega arith
-
-part-until-start : tie.Need-part-until-start Inv-loop μ-loop
-part-until-start c = omega arith
-
-part-until-end : tie.Need-part-until-end Inv-loop μ-loop
-part-until-end c = omega arith
-
 until-requires : tie.Need-until-requires Inv-loop μ-loop
 until-requires c κs = ((_, left-part (text (c .before .before .before .before .before .args .s)) (c .before .before .loop .inv .2 .rest)), c .before .before .before .before .before .pre .1)
 
@@ -124,9 +107,6 @@ sub-strip-2 c = omega (arith, room (c .before))
 part-strip-start-2 : tie.Need-part-strip-start-2 Inv-loop μ-loop
 part-strip-start-2 c = omega (arith, room (c .before))
 
-part-strip-end-2 : tie.Need-part-strip-end-2 Inv-loop μ-loop
-part-strip-end-2 c = search needs
-
 strip-requires : tie.Need-strip-requires Inv-loop μ-loop
 strip-requires c κs = ((_, its (c .before .before)), omega (arith, room (c .before .before), c .before .strip-arg .given, c .strip-arg2 .given))
 
@@ -158,10 +138,10 @@ only-spec =
     Inv-loop
     μ-loop
     loop-holds
-    mul-until
-    sub-until
-    part-until-start
-    part-until-end
+    (λ c. omega arith)
+    (λ c. omega arith)
+    (λ c. omega arith)
+    (λ c. omega arith)
     until-requires
     add-a
     mul-span
@@ -177,7 +157,7 @@ only-spec =
     mul-strip-2
     sub-strip-2
     part-strip-start-2
-    part-strip-end-2
+    (λ c. search needs)
     strip-requires
     add-k
     loop-less

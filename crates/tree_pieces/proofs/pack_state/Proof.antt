@@ -13,9 +13,6 @@ use Rattle.tree_pieces.proofs.Laws.{packs-few, packs-many, with-le}
 use borrow.Author.Needs.{needs}
 use Rattle.tree_pieces.proofs.pack_state.Statement.{statement}
 use Rattle.tree_pieces.proofs.pack_state.Tie as tie
-use Rattle.tree_pieces.proofs.pack_state.Reads as reads
-use Rattle.tree_pieces.proofs.pack_state.Lts as lts
-use Rattle.tree_pieces.proofs.only.Reads as only-reads
 
 -- What the test of two or more says.
 leb-true-of : {r : Bool} {n : ℕ} → r ≡ leb 2 n → not r ≡ false → 2 ≤ n
@@ -32,9 +29,6 @@ only-requires c κs =
     let p = c .before .before .before .before .before .pre .0 in
     ((_, p .1, omega (arith, p .2, ap (λ (f : Forest). length (flat f)) (packs-few (c .before .before .before .before .before .args .s) (p .0) refl (leb-false-of (c .before .before .several .ensures (p .0) (p .1)) (c .before .if1 .taken))))), c .before .before .before .before .before .pre .2)
 
-same-length : tie.Need-same-length
-same-length c = search needs
-
 returns : tie.Need-returns
 returns c = λ j e. rw (packs-few (c .before .before .before .before .before .before .before .before .args .s) j refl (leb-false-of (c .before .before .before .before .before .several .ensures j e) (c .before .before .before .before .if1 .taken))) (c .before .before .only .ensures j e)
 
@@ -49,9 +43,6 @@ sub-only c = omega (arith, room c)
 
 part-only-start : tie.Need-part-only-start
 part-only-start c = omega (arith, room c)
-
-part-only-end : tie.Need-part-only-end
-part-only-end c = search needs
 
 only-requires-2 : tie.Need-only-requires-2
 only-requires-2 c κs = ((_, c .before .before .before .before .before .pre .0 .1, omega (arith, room (c .before), c .only-arg2 .given)), c .before .before .before .before .before .pre .2)
@@ -76,9 +67,6 @@ slice-write-out c = omega (arith, room (c .before .before .before .before), c .b
 add-result : tie.Need-add-result
 add-result c = omega (arith, few c, c .before .before .before .before .before .before .before .before .pre .1)
 
-same-length-2 : tie.Need-same-length-2
-same-length-2 c = search needs
-
 returns-2 : tie.Need-returns-2
 returns-2 c = λ j e.
     let w = c .before .before .only2 .ensures j e in
@@ -90,16 +78,16 @@ pack-state-spec =
     (tie.spec
     several-requires
     only-requires
-    same-length
+    (λ c. search needs)
     returns
     sub-only
     part-only-start
-    part-only-end
+    (λ c. search needs)
     only-requires-2
     mul-out
     add-out
     cast-out
     slice-write-out
     add-result
-    same-length-2
+    (λ c. search needs)
     returns-2)

@@ -9,34 +9,13 @@ use Rattle.tree_pieces.proofs.States.{rises-none, rises-stop, rises-go}
 use borrow.Author.Needs.{needs}
 use Rattle.tree_pieces.proofs.rises.Statement.{statement}
 use Rattle.tree_pieces.proofs.rises.Tie as tie
-use Rattle.tree_pieces.proofs.rises.Reads as reads
-use Rattle.tree_pieces.proofs.rises.Lts as lts
-use Rattle.tree_pieces.proofs.all_of_state.Reads as all-of-state-reads
-use Rattle.tree_spans.proofs.span.Reads as span-reads
-use Rattle.tree_tokens.proofs.rest.Reads as rest-reads
-use Rattle.tree_tokens.proofs.state.Reads as state-reads
 
 -- The items from the first one that is not empty.
 its : (c : tie.Else1) (j : Judged) → c .before .before .before .args .x .now ≡ encode j → take (length (c .before .before .before .args .x .now) - c .before .span .result) (drop (c .before .span .result) (c .before .before .before .args .x .now)) ≡ encode (beyond (is 0) j)
 its c j e = part-to-end (c .before .before .before .args .x .now) (c .before .span .result) ∙ c .before .span .ensures .1 j e .back
 
-span-requires : tie.Need-span-requires
-span-requires c κs = search needs
-
 returns : tie.Need-returns
 returns c = λ j e. rises-none j (c .before .span .ensures .1 j e) (c .before .span .ensures .0) (c .if1 .taken)
-
-mul-y : tie.Need-mul-y
-mul-y c = search needs
-
-sub-y : tie.Need-sub-y
-sub-y c = search needs
-
-part-y-start : tie.Need-part-y-start
-part-y-start c = search needs
-
-part-y-end : tie.Need-part-y-end
-part-y-end c = search needs
 
 state-requires : tie.Need-state-requires
 state-requires c κs = ((_, its (c .before) (c .before .before .before .before .pre .0) (c .before .before .before .before .pre .1)), omega (arith, length-drop (c .before .before .span .result) (c .before .before .before .before .args .x .now), c .before .before .span .ensures .0, c .before .if1 .left))
@@ -57,12 +36,12 @@ pub rises-spec : {M : Type 1} → statement M
 rises-spec =
     tie.close
     (tie.spec
-    span-requires
+    (λ c κs. search needs)
     returns
-    mul-y
-    sub-y
-    part-y-start
-    part-y-end
+    (λ c. search needs)
+    (λ c. search needs)
+    (λ c. search needs)
+    (λ c. search needs)
     state-requires
     returns-2
     rest-requires

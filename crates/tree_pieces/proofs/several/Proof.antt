@@ -11,32 +11,13 @@ use Rattle.tree_pieces.proofs.States.{until-none, until-any, until-two}
 use borrow.Author.Needs.{needs}
 use Rattle.tree_pieces.proofs.several.Statement.{statement}
 use Rattle.tree_pieces.proofs.several.Tie as tie
-use Rattle.tree_pieces.proofs.several.Reads as reads
-use Rattle.tree_pieces.proofs.several.Lts as lts
-use Rattle.tree_spans.proofs.until.Reads as until-reads
-use Rattle.tree_tokens.proofs.rest.Reads as rest-reads
 
 -- The items from the first one of state s.
 its : (c : tie.Else1) (j : Judged) → c .before .before .before .args .x .now ≡ encode j → take (length (c .before .before .before .args .x .now) - c .before .until .result) (drop (c .before .until .result) (c .before .before .before .args .x .now)) ≡ encode (beyond (is-not (c .before .before .before .args .s)) j)
 its c j e = part-to-end (c .before .before .before .args .x .now) (c .before .until .result) ∙ c .before .until .ensures .1 j e .back
 
-until-requires : tie.Need-until-requires
-until-requires c κs = search needs
-
 returns : tie.Need-returns
 returns c = λ j e. sym (lt-leb 2 (many (c .before .before .before .args .s) j) (omega (arith, ap length (until-none (c .before .before .before .args .s) j (c .before .until .ensures .1 j e) (c .before .until .ensures .0) (c .if1 .taken)))))
-
-mul-rest : tie.Need-mul-rest
-mul-rest c = search needs
-
-sub-rest : tie.Need-sub-rest
-sub-rest c = search needs
-
-part-rest-start : tie.Need-part-rest-start
-part-rest-start c = search needs
-
-part-rest-end : tie.Need-part-rest-end
-part-rest-end c = search needs
 
 rest-requires : tie.Need-rest-requires
 rest-requires c κs = ((_, its (c .before) (c .before .before .before .before .pre .0 .0) (c .before .before .before .before .pre .0 .1)), omega (arith, length-drop (c .before .before .until .result) (c .before .before .before .before .args .x .now), c .before .before .until .ensures .0, c .before .if1 .left))
@@ -53,12 +34,12 @@ pub several-spec : {M : Type 1} → statement M
 several-spec =
     tie.close
     (tie.spec
-    until-requires
+    (λ c κs. search needs)
     returns
-    mul-rest
-    sub-rest
-    part-rest-start
-    part-rest-end
+    (λ c. search needs)
+    (λ c. search needs)
+    (λ c. search needs)
+    (λ c. search needs)
     rest-requires
     until-requires-2
     returns-2)

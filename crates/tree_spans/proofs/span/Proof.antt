@@ -9,10 +9,6 @@ use Rattle.tree_spans.specs.Spans.{is}
 use Rattle.tree_spans.proofs.Laws.{Along, along-none, along-part, along-next, along-stop, along-end, leaf-at}
 use Rattle.tree_spans.proofs.span.Statement.{statement}
 use Rattle.tree_spans.proofs.span.Tie as tie
-use Rattle.tree_spans.proofs.span.Reads as reads
-use Rattle.tree_spans.proofs.span.Lts as lts
-use Rattle.tree_tokens.proofs.size.Reads as size-reads
-use Rattle.tree_tokens.proofs.state.Reads as state-reads
 
 abbrev Inv-loop : tie.InvT-loop
 Inv-loop toks s i₀ i = (i ≤ length toks) × Along (is s) toks i
@@ -23,34 +19,10 @@ abbrev μ-loop : tie.MeasureT-loop
 loop-holds : tie.Need-loop-holds Inv-loop μ-loop
 loop-holds c = (omega arith, along-none (is (c .before .args .s)) (c .before .pre .0))
 
-mul-if1 : tie.Need-mul-if1 Inv-loop μ-loop
-mul-if1 c = omega arith
-
-shared-slice-read-if1 : tie.Need-shared-slice-read-if1 Inv-loop μ-loop
-shared-slice-read-if1 c = omega arith
-
-add-i : tie.Need-add-i Inv-loop μ-loop
-add-i c = omega arith
-
-loop-less : tie.Need-loop-less Inv-loop μ-loop
-loop-less c = omega arith
-
 loop-again : tie.Need-loop-again Inv-loop μ-loop
 loop-again c =
     let l = leaf-at (c .before .before .before .loop .inv .1) (c .before .before .loop-test .taken) (c .if1 .taken) (c .before .before .before .before .before .pre .1) in
     (omega arith, along-next (is (c .before .before .before .before .before .args .s)) (c .before .before .before .loop .inv .1) (c .before .before .loop-test .taken) (eq-eqb (number (state-of (c .before .before .before .loop .inv .1 .left))) (c .before .before .before .before .before .args .s) (l .0)) (l .1))
-
-mul-y : tie.Need-mul-y Inv-loop μ-loop
-mul-y c = omega arith
-
-sub-y : tie.Need-sub-y Inv-loop μ-loop
-sub-y c = omega arith
-
-part-y-start : tie.Need-part-y-start Inv-loop μ-loop
-part-y-start c = omega arith
-
-part-y-end : tie.Need-part-y-end Inv-loop μ-loop
-part-y-end c = omega arith
 
 state-requires : tie.Need-state-requires Inv-loop μ-loop
 state-requires c κs = ((_, along-part (is (c .before .before .before .before .before .before .args .s)) (c .before .before .before .before .loop .inv .1)), omega (arith, length-drop (c .before .before .before .before .loop .i) (c .before .before .before .before .before .before .args .toks .now)))
@@ -60,12 +32,6 @@ returns c = (omega arith, along-stop (is (c .before .before .before .before .bef
 
 size-requires : tie.Need-size-requires Inv-loop μ-loop
 size-requires c κs = ((_, along-part (is (c .before .before .before .before .before .before .before .before .args .s)) (c .before .before .before .before .before .before .loop .inv .1)), omega (arith, length-drop (c .before .before .before .before .before .before .loop .i) (c .before .before .before .before .before .before .before .before .args .toks .now)))
-
-add-i-2 : tie.Need-add-i-2 Inv-loop μ-loop
-add-i-2 c = omega arith
-
-loop-less-2 : tie.Need-loop-less-2 Inv-loop μ-loop
-loop-less-2 c = omega arith
 
 loop-again-2 : tie.Need-loop-again-2 Inv-loop μ-loop
 loop-again-2 c =
@@ -82,19 +48,19 @@ span-spec =
     Inv-loop
     μ-loop
     loop-holds
-    mul-if1
-    shared-slice-read-if1
-    add-i
-    loop-less
+    (λ c. omega arith)
+    (λ c. omega arith)
+    (λ c. omega arith)
+    (λ c. omega arith)
     loop-again
-    mul-y
-    sub-y
-    part-y-start
-    part-y-end
+    (λ c. omega arith)
+    (λ c. omega arith)
+    (λ c. omega arith)
+    (λ c. omega arith)
     state-requires
     returns
     size-requires
-    add-i-2
-    loop-less-2
+    (λ c. omega arith)
+    (λ c. omega arith)
     loop-again-2
     returns-2)

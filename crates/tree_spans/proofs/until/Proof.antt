@@ -11,11 +11,6 @@ use Rattle.tree_spans.specs.Spans.{is-not}
 use Rattle.tree_spans.proofs.Laws.{Along, along-none, along-part, along-next, along-stop, along-end, leaf-at}
 use Rattle.tree_spans.proofs.until.Statement.{statement}
 use Rattle.tree_spans.proofs.until.Tie as tie
-use Rattle.tree_spans.proofs.until.Reads as reads
-use Rattle.tree_spans.proofs.until.Lts as lts
-use Rattle.tree_spans.proofs.common.Reads as common-reads
-use Rattle.tree_tokens.proofs.size.Reads as size-reads
-use Rattle.tree_tokens.proofs.state.Reads as state-reads
 
 abbrev Inv-loop : tie.InvT-loop
 Inv-loop toks s other i₀ i = (i ≤ length toks) × Along (is-not s) toks i
@@ -23,40 +18,13 @@ Inv-loop toks s other i₀ i = (i ≤ length toks) × Along (is-not s) toks i
 abbrev μ-loop : tie.MeasureT-loop
 μ-loop toks s other i₀ i = length toks - i
 
-common-requires : tie.Need-common-requires Inv-loop μ-loop
-common-requires c κs = search needs
-
 loop-holds : tie.Need-loop-holds Inv-loop μ-loop
 loop-holds c = (omega arith, along-none (is-not (c .before .before .args .s)) (c .before .before .pre .0))
-
-mul-if1 : tie.Need-mul-if1 Inv-loop μ-loop
-mul-if1 c = omega arith
-
-shared-slice-read-if1 : tie.Need-shared-slice-read-if1 Inv-loop μ-loop
-shared-slice-read-if1 c = omega arith
-
-add-i : tie.Need-add-i Inv-loop μ-loop
-add-i c = omega arith
-
-loop-less : tie.Need-loop-less Inv-loop μ-loop
-loop-less c = omega arith
 
 loop-again : tie.Need-loop-again Inv-loop μ-loop
 loop-again c =
     let l = leaf-at (c .before .before .before .loop .inv .1) (c .before .before .loop-test .taken) (c .if1 .taken) (omega (arith, c .before .before .before .before .common .ensures .0)) in
     (omega arith, along-next (is-not (c .before .before .before .before .before .before .args .s)) (c .before .before .before .loop .inv .1) (c .before .before .loop-test .taken) (ap not (ne-eqb (number (state-of (c .before .before .before .loop .inv .1 .left))) (c .before .before .before .before .before .before .args .s) (λ h. c .before .before .before .before .common .ensures .1 (sym (l .0) ∙ h)))) (l .1))
-
-mul-y : tie.Need-mul-y Inv-loop μ-loop
-mul-y c = omega arith
-
-sub-y : tie.Need-sub-y Inv-loop μ-loop
-sub-y c = omega arith
-
-part-y-start : tie.Need-part-y-start Inv-loop μ-loop
-part-y-start c = omega arith
-
-part-y-end : tie.Need-part-y-end Inv-loop μ-loop
-part-y-end c = omega arith
 
 state-requires : tie.Need-state-requires Inv-loop μ-loop
 state-requires c κs = ((_, along-part (is-not (c .before .before .before .before .before .before .before .args .s)) (c .before .before .before .before .loop .inv .1)), omega (arith, length-drop (c .before .before .before .before .loop .i) (c .before .before .before .before .before .before .before .args .toks .now)))
@@ -66,12 +34,6 @@ returns c = (omega arith, along-stop (is-not (c .before .before .before .before 
 
 size-requires : tie.Need-size-requires Inv-loop μ-loop
 size-requires c κs = ((_, along-part (is-not (c .before .before .before .before .before .before .before .before .before .args .s)) (c .before .before .before .before .before .before .loop .inv .1)), omega (arith, length-drop (c .before .before .before .before .before .before .loop .i) (c .before .before .before .before .before .before .before .before .before .args .toks .now)))
-
-add-i-2 : tie.Need-add-i-2 Inv-loop μ-loop
-add-i-2 c = omega arith
-
-loop-less-2 : tie.Need-loop-less-2 Inv-loop μ-loop
-loop-less-2 c = omega arith
 
 loop-again-2 : tie.Need-loop-again-2 Inv-loop μ-loop
 loop-again-2 c =
@@ -87,21 +49,21 @@ until-spec =
     (tie.spec
     Inv-loop
     μ-loop
-    common-requires
+    (λ c κs. search needs)
     loop-holds
-    mul-if1
-    shared-slice-read-if1
-    add-i
-    loop-less
+    (λ c. omega arith)
+    (λ c. omega arith)
+    (λ c. omega arith)
+    (λ c. omega arith)
     loop-again
-    mul-y
-    sub-y
-    part-y-start
-    part-y-end
+    (λ c. omega arith)
+    (λ c. omega arith)
+    (λ c. omega arith)
+    (λ c. omega arith)
     state-requires
     returns
     size-requires
-    add-i-2
-    loop-less-2
+    (λ c. omega arith)
+    (λ c. omega arith)
     loop-again-2
     returns-2)

@@ -12,8 +12,6 @@ use Rattle.spec_orders.specs.Lists.{same}
 use Rattle.tree_tokens.proofs.Bits.{differ-more}
 use Rattle.tree_tokens.proofs.equal.Statement.{statement}
 use Rattle.tree_tokens.proofs.equal.Tie as tie
-use Rattle.tree_tokens.proofs.equal.Reads as reads
-use Rattle.tree_tokens.proofs.equal.Lts as lts
 
 abbrev Inv-loop : tie.InvT-loop
 Inv-loop a b differ₀ i₀ differ i = (i ≤ length a) × (length a ≡ length b) × (same a b ≡ (eqb differ 0 && same (drop i a) (drop i b)))
@@ -46,24 +44,6 @@ returns c = sym (lengths-differ (c .before .args .a .now) (c .before .args .b .n
 loop-holds : tie.Need-loop-holds Inv-loop μ-loop
 loop-holds c = (omega arith, c .if1 .left, refl)
 
-mul-differ : tie.Need-mul-differ Inv-loop μ-loop
-mul-differ c = omega arith
-
-shared-slice-read-differ : tie.Need-shared-slice-read-differ Inv-loop μ-loop
-shared-slice-read-differ c = omega arith
-
-mul-differ-2 : tie.Need-mul-differ-2 Inv-loop μ-loop
-mul-differ-2 c = omega arith
-
-shared-slice-read-differ-2 : tie.Need-shared-slice-read-differ-2 Inv-loop μ-loop
-shared-slice-read-differ-2 c = omega arith
-
-add-i : tie.Need-add-i Inv-loop μ-loop
-add-i c = omega arith
-
-loop-less : tie.Need-loop-less Inv-loop μ-loop
-loop-less c = omega arith
-
 loop-again : tie.Need-loop-again Inv-loop μ-loop
 loop-again c = (omega arith, c .before .before .before .loop .inv .1, c .before .before .before .loop .inv .2 ∙ next (c .before .before .before .before .before .args .a .now) (c .before .before .before .before .before .args .b .now) (c .before .before .before .loop .differ) (c .before .before .before .loop .i) (omega arith) (omega arith))
 
@@ -78,11 +58,11 @@ equal-spec =
     μ-loop
     returns
     loop-holds
-    mul-differ
-    shared-slice-read-differ
-    mul-differ-2
-    shared-slice-read-differ-2
-    add-i
-    loop-less
+    (λ c. omega arith)
+    (λ c. omega arith)
+    (λ c. omega arith)
+    (λ c. omega arith)
+    (λ c. omega arith)
+    (λ c. omega arith)
     loop-again
     returns-2)

@@ -7,8 +7,6 @@ use Rattle.tree_tokens.specs.Tokens.{tree}
 use Rattle.tree_tokens.proofs.Steps.{Left, from-start, here, at-last, next-token, first-leaf-at, first-none-at, first-inside-at}
 use Rattle.tree_tokens.proofs.first_leaf.Statement.{statement}
 use Rattle.tree_tokens.proofs.first_leaf.Tie as tie
-use Rattle.tree_tokens.proofs.first_leaf.Reads as reads
-use Rattle.tree_tokens.proofs.first_leaf.Lts as lts
 
 abbrev Inv-loop : tie.InvT-loop
 Inv-loop toks i₀ i = (i ≤ length toks) × Left toks i (λ j k. first (tree j) ≡ first (tree k))
@@ -19,23 +17,11 @@ abbrev μ-loop : tie.MeasureT-loop
 loop-holds : tie.Need-loop-holds Inv-loop μ-loop
 loop-holds c = (omega arith, from-start _ (λ j. refl))
 
-mul-t : tie.Need-mul-t Inv-loop μ-loop
-mul-t c = omega arith
-
-shared-slice-read-t : tie.Need-shared-slice-read-t Inv-loop μ-loop
-shared-slice-read-t c = omega arith
-
 returns : tie.Need-returns Inv-loop μ-loop
 returns c = λ j e. let r = here (c .before .before .before .loop .inv .1) (omega arith) j e in sym (r .2 ∙ first-leaf-at (r .1) (c .if1 .taken))
 
 returns-2 : tie.Need-returns-2 Inv-loop μ-loop
 returns-2 c = λ j e. let r = here (c .before .before .before .before .loop .inv .1) (omega arith) j e in sym (r .2 ∙ first-none-at (r .1) (c .before .if1 .left) (c .if2 .taken))
-
-add-i : tie.Need-add-i Inv-loop μ-loop
-add-i c = omega arith
-
-loop-less : tie.Need-loop-less Inv-loop μ-loop
-loop-less c = omega arith
 
 loop-again : tie.Need-loop-again Inv-loop μ-loop
 loop-again c = (omega arith, next-token (c .before .before .before .before .loop .inv .1) (omega arith) (λ j k p q. q ∙ first-inside-at p (c .before .if1 .left) (c .if2 .left)))
@@ -50,11 +36,11 @@ first-leaf-spec =
     Inv-loop
     μ-loop
     loop-holds
-    mul-t
-    shared-slice-read-t
+    (λ c. omega arith)
+    (λ c. omega arith)
     returns
     returns-2
-    add-i
-    loop-less
+    (λ c. omega arith)
+    (λ c. omega arith)
     loop-again
     returns-3)

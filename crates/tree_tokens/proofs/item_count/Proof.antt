@@ -8,9 +8,6 @@ use Rattle.tree_tokens.proofs.Counts.{items-more}
 use Rattle.tree_tokens.proofs.Steps.{Left, from-start, part-left, at-last, next-item}
 use Rattle.tree_tokens.proofs.item_count.Statement.{statement}
 use Rattle.tree_tokens.proofs.item_count.Tie as tie
-use Rattle.tree_tokens.proofs.item_count.Reads as reads
-use Rattle.tree_tokens.proofs.item_count.Lts as lts
-use Rattle.tree_tokens.proofs.size.Reads as size-reads
 
 abbrev Inv-loop : tie.InvT-loop
 Inv-loop toks n₀ i₀ n i = (i ≤ length toks) × (n ≤ i) × Left toks i (λ j k. length (items (tree j)) ≡ n + length (items (tree k)))
@@ -21,29 +18,8 @@ abbrev μ-loop : tie.MeasureT-loop
 loop-holds : tie.Need-loop-holds Inv-loop μ-loop
 loop-holds c = (omega arith, omega arith, from-start _ (λ j. omega arith))
 
-mul-size : tie.Need-mul-size Inv-loop μ-loop
-mul-size c = omega arith
-
-sub-size : tie.Need-sub-size Inv-loop μ-loop
-sub-size c = omega arith
-
-part-size-start : tie.Need-part-size-start Inv-loop μ-loop
-part-size-start c = omega arith
-
-part-size-end : tie.Need-part-size-end Inv-loop μ-loop
-part-size-end c = omega arith
-
 size-requires : tie.Need-size-requires Inv-loop μ-loop
 size-requires c κs = (part-left (c .before .before .loop .inv .2) (c .before .before .before .before .pre), omega arith)
-
-add-i : tie.Need-add-i Inv-loop μ-loop
-add-i c = omega arith
-
-add-n : tie.Need-add-n Inv-loop μ-loop
-add-n c = omega arith
-
-loop-less : tie.Need-loop-less Inv-loop μ-loop
-loop-less c = omega arith
 
 loop-again : tie.Need-loop-again Inv-loop μ-loop
 loop-again c = (omega arith, omega arith, next-item (c .before .before .before .loop .inv .2) (omega arith) (c .size .ensures .2) (λ j k p q. omega (arith, items-more k (p .some))))
@@ -58,13 +34,13 @@ item-count-spec =
     Inv-loop
     μ-loop
     loop-holds
-    mul-size
-    sub-size
-    part-size-start
-    part-size-end
+    (λ c. omega arith)
+    (λ c. omega arith)
+    (λ c. omega arith)
+    (λ c. omega arith)
     size-requires
-    add-i
-    add-n
-    loop-less
+    (λ c. omega arith)
+    (λ c. omega arith)
+    (λ c. omega arith)
     loop-again
     returns)

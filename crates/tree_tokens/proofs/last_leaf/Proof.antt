@@ -9,10 +9,6 @@ use Rattle.tree_tokens.proofs.Counts.{last-or, last-start, last-next}
 use Rattle.tree_tokens.proofs.Steps.{Left, from-start, part-left, at-last, next-item, next-leaf, first-leaf-at}
 use Rattle.tree_tokens.proofs.last_leaf.Statement.{statement}
 use Rattle.tree_tokens.proofs.last_leaf.Tie as tie
-use Rattle.tree_tokens.proofs.last_leaf.Reads as reads
-use Rattle.tree_tokens.proofs.last_leaf.Lts as lts
-use Rattle.tree_tokens.proofs.first_leaf.Reads as first-leaf-reads
-use Rattle.tree_tokens.proofs.size.Reads as size-reads
 
 abbrev Inv-loop : tie.InvT-loop
 Inv-loop toks last₀ i₀ last i = (i ≤ length toks) × Left toks i (λ j k. first (rev (tree j)) ≡ last-or last k)
@@ -23,44 +19,14 @@ abbrev μ-loop : tie.MeasureT-loop
 loop-holds : tie.Need-loop-holds Inv-loop μ-loop
 loop-holds c = (omega arith, from-start _ last-start)
 
-mul-t : tie.Need-mul-t Inv-loop μ-loop
-mul-t c = omega arith
-
-shared-slice-read-t : tie.Need-shared-slice-read-t Inv-loop μ-loop
-shared-slice-read-t c = omega arith
-
-add-i : tie.Need-add-i Inv-loop μ-loop
-add-i c = omega arith
-
-loop-less : tie.Need-loop-less Inv-loop μ-loop
-loop-less c = omega arith
-
 loop-again : tie.Need-loop-again Inv-loop μ-loop
 loop-again c = (omega arith, next-leaf (c .before .before .before .loop .inv .1) (omega arith) (omega (arith, c .if1 .taken)) (λ j k p q. q ∙ last-next (c .before .before .before .loop .last) k (p .some) (sym (first-leaf-at p (omega (arith, c .if1 .taken))))))
-
-mul-y : tie.Need-mul-y Inv-loop μ-loop
-mul-y c = omega arith
-
-sub-y : tie.Need-sub-y Inv-loop μ-loop
-sub-y c = omega arith
-
-part-y-start : tie.Need-part-y-start Inv-loop μ-loop
-part-y-start c = omega arith
-
-part-y-end : tie.Need-part-y-end Inv-loop μ-loop
-part-y-end c = omega arith
 
 first-leaf-requires : tie.Need-first-leaf-requires Inv-loop μ-loop
 first-leaf-requires c κs = part-left (c .before .before .before .before .loop .inv .1) (c .before .before .before .before .before .before .pre)
 
 size-requires : tie.Need-size-requires Inv-loop μ-loop
 size-requires c κs = (part-left (c .before .before .before .before .before .loop .inv .1) (c .before .before .before .before .before .before .before .pre), omega arith)
-
-add-i-2 : tie.Need-add-i-2 Inv-loop μ-loop
-add-i-2 c = omega arith
-
-loop-less-2 : tie.Need-loop-less-2 Inv-loop μ-loop
-loop-less-2 c = omega arith
 
 loop-again-2 : tie.Need-loop-again-2 Inv-loop μ-loop
 loop-again-2 c = (omega arith, next-item (c .before .before .before .before .before .before .loop .inv .1) (omega arith) (c .size .ensures .2) (λ j k p q. q ∙ last-next (c .before .before .before .before .before .before .loop .last) k (p .some) (c .before .first-leaf .ensures k (p .part))))
@@ -75,18 +41,18 @@ last-leaf-spec =
     Inv-loop
     μ-loop
     loop-holds
-    mul-t
-    shared-slice-read-t
-    add-i
-    loop-less
+    (λ c. omega arith)
+    (λ c. omega arith)
+    (λ c. omega arith)
+    (λ c. omega arith)
     loop-again
-    mul-y
-    sub-y
-    part-y-start
-    part-y-end
+    (λ c. omega arith)
+    (λ c. omega arith)
+    (λ c. omega arith)
+    (λ c. omega arith)
     first-leaf-requires
     size-requires
-    add-i-2
-    loop-less-2
+    (λ c. omega arith)
+    (λ c. omega arith)
     loop-again-2
     returns)

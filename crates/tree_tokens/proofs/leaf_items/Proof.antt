@@ -10,8 +10,6 @@ use Rattle.tree_tokens.proofs.FreshTree.{leaves-more, leaves-length}
 use Rattle.tree_tokens.proofs.Writes.{write-step}
 use Rattle.tree_tokens.proofs.leaf_items.Statement.{statement}
 use Rattle.tree_tokens.proofs.leaf_items.Tie as tie
-use Rattle.tree_tokens.proofs.leaf_items.Reads as reads
-use Rattle.tree_tokens.proofs.leaf_items.Lts as lts
 
 abbrev Inv-loop : tie.InvT-loop
 Inv-loop k out₀ i₀ out i = (i ≤ k) × (length out ≡ length out₀) × (out ≡ encode (plain (leaf-items (numbers-from 2 i))) ++ drop i out₀)
@@ -22,27 +20,6 @@ abbrev μ-loop : tie.MeasureT-loop
 loop-holds : tie.Need-loop-holds Inv-loop μ-loop
 unfolding encode
 loop-holds c = (omega arith, refl, refl)
-
-add-out : tie.Need-add-out Inv-loop μ-loop
-add-out c = omega arith
-
-mul-out : tie.Need-mul-out Inv-loop μ-loop
-mul-out c = omega arith
-
-cast-out : tie.Need-cast-out Inv-loop μ-loop
-cast-out c = omega arith
-
-mul-out-2 : tie.Need-mul-out-2 Inv-loop μ-loop
-mul-out-2 c = omega arith
-
-slice-write-out : tie.Need-slice-write-out Inv-loop μ-loop
-slice-write-out c = omega arith
-
-add-i : tie.Need-add-i Inv-loop μ-loop
-add-i c = omega arith
-
-loop-less : tie.Need-loop-less Inv-loop μ-loop
-loop-less c = omega arith
 
 loop-again : tie.Need-loop-again Inv-loop μ-loop
 loop-again c =
@@ -68,13 +45,13 @@ leaf-items-spec =
     Inv-loop
     μ-loop
     loop-holds
-    add-out
-    mul-out
-    cast-out
-    mul-out-2
-    slice-write-out
-    add-i
-    loop-less
+    (λ c. omega arith)
+    (λ c. omega arith)
+    (λ c. omega arith)
+    (λ c. omega arith)
+    (λ c. omega arith)
+    (λ c. omega arith)
+    (λ c. omega arith)
     loop-again
     same-length
     returns)

@@ -6,8 +6,6 @@ use lib.Seq.{drop-length}
 use Rattle.tree_tokens.proofs.Counts.{node-tokens, node-tokens-drop, node-tokens-are}
 use Rattle.tree_tokens.proofs.node_count.Statement.{statement}
 use Rattle.tree_tokens.proofs.node_count.Tie as tie
-use Rattle.tree_tokens.proofs.node_count.Reads as reads
-use Rattle.tree_tokens.proofs.node_count.Lts as lts
 
 abbrev Inv-loop : tie.InvT-loop
 Inv-loop toks n₀ i₀ n i = (i ≤ length toks) × (n ≤ i) × (n + node-tokens (drop i toks) ≡ node-tokens toks)
@@ -18,23 +16,11 @@ abbrev μ-loop : tie.MeasureT-loop
 loop-holds : tie.Need-loop-holds Inv-loop μ-loop
 loop-holds c = (omega arith, omega arith, omega arith)
 
-mul-n : tie.Need-mul-n Inv-loop μ-loop
-mul-n c = omega arith
-
-shared-slice-read-n : tie.Need-shared-slice-read-n Inv-loop μ-loop
-shared-slice-read-n c = omega arith
-
 cast-n : tie.Need-cast-n Inv-loop μ-loop
 cast-n c = omega (arith, c .shared-slice-known .given (c .before .before .loop .i))
 
 add-n : tie.Need-add-n Inv-loop μ-loop
 add-n c = omega (arith, c .shared-slice-known .given (c .before .before .loop .i))
-
-add-i : tie.Need-add-i Inv-loop μ-loop
-add-i c = omega arith
-
-loop-less : tie.Need-loop-less Inv-loop μ-loop
-loop-less c = omega arith
 
 loop-again : tie.Need-loop-again Inv-loop μ-loop
 loop-again c = (omega arith, omega arith, omega (arith, node-tokens-drop (c .before .before .before .args .toks .now) (c .before .before .loop .i) (omega arith)))
@@ -54,11 +40,11 @@ node-count-spec =
     Inv-loop
     μ-loop
     loop-holds
-    mul-n
-    shared-slice-read-n
+    (λ c. omega arith)
+    (λ c. omega arith)
     cast-n
     add-n
-    add-i
-    loop-less
+    (λ c. omega arith)
+    (λ c. omega arith)
     loop-again
     returns)

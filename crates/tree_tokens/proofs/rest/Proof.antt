@@ -2,24 +2,6 @@ use Rattle.tree_tokens.proofs.Laws.{part-rest}
 use borrow.Author.Needs.{needs}
 use Rattle.tree_tokens.proofs.rest.Statement.{statement}
 use Rattle.tree_tokens.proofs.rest.Tie as tie
-use Rattle.tree_tokens.proofs.rest.Reads as reads
-use Rattle.tree_tokens.proofs.rest.Lts as lts
-use Rattle.tree_tokens.proofs.size.Reads as size-reads
-
-size-requires : tie.Need-size-requires
-size-requires c κs = search needs
-
-mul-result : tie.Need-mul-result
-mul-result c = search needs
-
-sub-result : tie.Need-sub-result
-sub-result c = search needs
-
-part-result-start : tie.Need-part-result-start
-part-result-start c = search needs
-
-part-result-end : tie.Need-part-result-end
-part-result-end c = search needs
 
 returns : tie.Need-returns
 returns c = (search needs, λ j e. part-rest j e (c .before .size .ensures .2 j e))
@@ -27,4 +9,4 @@ returns c = (search needs, λ j e. part-rest j e (c .before .size .ensures .2 j 
 pub rest-spec : {M : Type 1} → statement M
 rest-spec =
     tie.close
-    (tie.spec size-requires mul-result sub-result part-result-start part-result-end returns)
+    (tie.spec (λ c κs. search needs) (λ c. search needs) (λ c. search needs) (λ c. search needs) (λ c. search needs) returns)

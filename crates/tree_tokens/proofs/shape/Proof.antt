@@ -2,11 +2,6 @@ use Rattle.tree_tokens.proofs.Laws.{shape-leaf, shape-p, shape-c}
 use borrow.Author.Needs.{needs}
 use Rattle.tree_tokens.proofs.shape.Statement.{statement}
 use Rattle.tree_tokens.proofs.shape.Tie as tie
-use Rattle.tree_tokens.proofs.shape.Reads as reads
-use Rattle.tree_tokens.proofs.shape.Lts as lts
-
-shared-slice-read-t : tie.Need-shared-slice-read-t
-shared-slice-read-t c = search needs
 
 returns : tie.Need-returns
 returns c = λ j e. shape-leaf j e (c .before .before .pre .1) (c .if1 .taken)
@@ -18,4 +13,4 @@ returns-3 : tie.Need-returns-3
 returns-3 c = λ j e. shape-c j e (c .before .before .before .pre .1) (c .before .if1 .left) (c .if2 .left)
 
 pub shape-spec : {M : Type 1} → statement M
-shape-spec = tie.close (tie.spec shared-slice-read-t returns returns-2 returns-3)
+shape-spec = tie.close (tie.spec (λ c. search needs) returns returns-2 returns-3)

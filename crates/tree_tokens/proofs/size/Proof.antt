@@ -3,11 +3,6 @@ use Rattle.tree_tokens.proofs.Laws.{sizes, size-leaf, size-node}
 use borrow.Author.Needs.{needs}
 use Rattle.tree_tokens.proofs.size.Statement.{statement}
 use Rattle.tree_tokens.proofs.size.Tie as tie
-use Rattle.tree_tokens.proofs.size.Reads as reads
-use Rattle.tree_tokens.proofs.size.Lts as lts
-
-shared-slice-read-t : tie.Need-shared-slice-read-t
-shared-slice-read-t c = search needs
 
 cast-t : tie.Need-cast-t
 cast-t c = omega (arith, c .shared-slice-known .given 0)
@@ -24,4 +19,4 @@ returns-2 c =
     (omega arith, omega (arith, sizes (p .0) (p .1), size-node (p .0) (p .1) (c .before .before .pre .1) (c .if1 .left)), λ j e. size-node j e (c .before .before .pre .1) (c .if1 .left))
 
 pub size-spec : {M : Type 1} → statement M
-size-spec = tie.close (tie.spec shared-slice-read-t cast-t returns add-result returns-2)
+size-spec = tie.close (tie.spec (λ c. search needs) cast-t returns add-result returns-2)

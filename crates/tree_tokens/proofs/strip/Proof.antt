@@ -8,8 +8,6 @@ use Rattle.tree_tokens.proofs.Sequences.{bare, bare-is, bare-more, plai
 use Rattle.tree_tokens.proofs.Writes.{write-step}
 use Rattle.tree_tokens.proofs.strip.Statement.{statement}
 use Rattle.tree_tokens.proofs.strip.Tie as tie
-use Rattle.tree_tokens.proofs.strip.Reads as reads
-use Rattle.tree_tokens.proofs.strip.Lts as lts
 
 abbrev Inv-loop : tie.InvT-loop
 Inv-loop toks out₀ i₀ out i = (i ≤ length toks) × (length out ≡ length out₀) × (out ≡ map bare (take i toks) ++ drop i out₀)
@@ -19,27 +17,6 @@ abbrev μ-loop : tie.MeasureT-loop
 
 loop-holds : tie.Need-loop-holds Inv-loop μ-loop
 loop-holds c = (omega arith, refl, refl)
-
-mul-t : tie.Need-mul-t Inv-loop μ-loop
-mul-t c = omega arith
-
-shared-slice-read-t : tie.Need-shared-slice-read-t Inv-loop μ-loop
-shared-slice-read-t c = omega arith
-
-sub-out : tie.Need-sub-out Inv-loop μ-loop
-sub-out c = omega arith
-
-mul-out : tie.Need-mul-out Inv-loop μ-loop
-mul-out c = omega arith
-
-slice-write-out : tie.Need-slice-write-out Inv-loop μ-loop
-slice-write-out c = omega arith
-
-add-i : tie.Need-add-i Inv-loop μ-loop
-add-i c = omega arith
-
-loop-less : tie.Need-loop-less Inv-loop μ-loop
-loop-less c = omega arith
 
 loop-again : tie.Need-loop-again Inv-loop μ-loop
 loop-again c =
@@ -72,13 +49,13 @@ strip-spec =
     Inv-loop
     μ-loop
     loop-holds
-    mul-t
-    shared-slice-read-t
-    sub-out
-    mul-out
-    slice-write-out
-    add-i
-    loop-less
+    (λ c. omega arith)
+    (λ c. omega arith)
+    (λ c. omega arith)
+    (λ c. omega arith)
+    (λ c. omega arith)
+    (λ c. omega arith)
+    (λ c. omega arith)
     loop-again
     same-length
     returns)

@@ -17,19 +17,9 @@ use Rattle.tree_update.proofs.Updates.{reduce-none, reduce-no, reduce-y
 use borrow.Author.Needs.{needs}
 use Rattle.tree_update.proofs.update.Statement.{statement}
 use Rattle.tree_update.proofs.update.Tie as tie
-use Rattle.tree_update.proofs.update.Reads as reads
-use Rattle.tree_update.proofs.update.Lts as lts
-use Rattle.tree_stays.proofs.stays.Reads as stays-reads
-use Rattle.tree_judge.proofs.judge.Reads as judge-reads
-use Rattle.tree_tokens.proofs.copy.Reads as copy-reads
-use Rattle.tree_tokens.proofs.state.Reads as state-reads
-use Rattle.tree_update.proofs.reduced.Reads as reduced-reads
 
 returns : tie.Need-returns
 returns c = λ t e. rw (reduce-none (marked (c .before .before .before .before .args .marks .now)) t e (c .if1 .taken) .1) (written (wrote-as (sym flat-nil) (wrote-none _)))
-
-slice-aggregate-judge : tie.Need-slice-aggregate-judge
-slice-aggregate-judge c = search needs
 
 judge-requires : tie.Need-judge-requires
 judge-requires c κs = ((_, flat-tree (c .before .before .before .before .before .pre .1 .0) (c .before .before .before .before .before .pre .1 .1)), omega (arith, tokens-short (c .before .before .before .before .before .pre .0) (c .before .before .before .before .before .args .toks .now) (c .before .before .before .before .before .pre .1)))
@@ -38,12 +28,6 @@ judge-requires c κs = ((_, flat-tree (c .before .before .before .before .before
 text : (c : tie.After-judged2) (t : Forest) → c .before .before .before .before .before .before .before .args .toks .now ≡ flat t
     → take (length (c .before .before .before .before .before .before .before .args .toks .now) - 0) (drop 0 (c .before .judge .last .1 .1 .0)) ≡ encode (judge (marked (c .before .before .before .before .before .before .before .args .marks .now)) t)
 text c t e = judged-part (marked (c .before .before .before .before .before .before .before .args .marks .now)) t (c .before .judge .ensures (plain t) (flat-tree t e))
-
-sub-state : tie.Need-sub-state
-sub-state c = search needs
-
-part-state-start : tie.Need-part-state-start
-part-state-start c = search needs
 
 part-state-end : tie.Need-part-state-end
 part-state-end c = omega (arith, tokens-short (c .before .before .before .before .before .before .before .before .pre .0) (c .before .before .before .before .before .before .before .before .args .toks .now) (c .before .before .before .before .before .before .before .before .pre .1), c .before .before .judge .kept .1 .1 .0)
@@ -54,12 +38,6 @@ state-requires c κs = let x = text (c .before .before) (c .before .before .befo
 returns-2 : tie.Need-returns-2
 returns-2 c = λ t e. rw (reduce-no (c .before .before .before .before .before .before .before .before .before .before .before .pre .0) (marked (c .before .before .before .before .before .before .before .before .before .before .before .args .marks .now)) t (the-form (c .before .before .before .before .before .before .before .before .before .before .before .pre .0) (c .before .before .before .before .before .before .before .before .before .before .before .args .toks .now) (c .before .before .before .before .before .before .before .before .before .before .before .pre .1) t e) (sym (c .before .state .ensures _ (text (c .before .before .before .before) t e)) ∙ c .if2 .taken)) (impossible refl)
 
-sub-stays : tie.Need-sub-stays
-sub-stays c = search needs
-
-part-stays-start : tie.Need-part-stays-start
-part-stays-start c = search needs
-
 part-stays-end : tie.Need-part-stays-end
 part-stays-end c = omega (arith, tokens-short (c .before .before .before .before .before .before .before .before .before .before .before .before .pre .0) (c .before .before .before .before .before .before .before .before .before .before .before .before .args .toks .now) (c .before .before .before .before .before .before .before .before .before .before .before .before .pre .1), c .before .before .before .before .before .before .judge .kept .1 .1 .0)
 
@@ -68,9 +46,6 @@ stays-requires c κs = ((_, text (c .before .before .before .before .before .bef
 
 copy-requires : tie.Need-copy-requires
 copy-requires c κs = omega (arith, tokens-short (c .before .before .before .before .before .before .before .before .before .before .before .before .before .before .before .before .pre .0) (c .before .before .before .before .before .before .before .before .before .before .before .before .before .before .before .before .args .toks .now) (c .before .before .before .before .before .before .before .before .before .before .before .before .before .before .before .before .pre .1), c .before .before .before .before .before .before .before .before .before .before .before .before .before .before .before .before .pre .2)
-
-same-length : tie.Need-same-length
-same-length c = search needs
 
 -- The state says that there is a tree.
 yes : (c : tie.Else2) (t : Forest) → c .before .before .before .before .before .before .before .before .before .before .before .args .toks .now ≡ flat t → number (state-of (judge (marked (c .before .before .before .before .before .before .before .before .before .before .before .args .marks .now)) t)) ≡ 4 → ⊥
@@ -85,38 +60,17 @@ short c =
     reduced-short (c .before .before .before .before .before .before .before .before .before .before .before .pre .0) (marked (c .before .before .before .before .before .before .before .before .before .before .before .args .marks .now)) (c .before .before .before .before .before .before .before .before .before .before .before .pre .1 .0) (c .before .before .before .before .before .before .before .before .before .before .before .pre .1 .2) (c .before .before .before .before .before .before .before .before .before .before .before .pre .1 .3)
     (yes c (c .before .before .before .before .before .before .before .before .before .before .before .pre .1 .0) (c .before .before .before .before .before .before .before .before .before .before .before .pre .1 .1))
 
-sub-reduced : tie.Need-sub-reduced
-sub-reduced c = search needs
-
-part-reduced-start : tie.Need-part-reduced-start
-part-reduced-start c = search needs
-
 part-reduced-end : tie.Need-part-reduced-end
 part-reduced-end c = omega (arith, tokens-short (c .before .before .before .before .before .before .before .before .before .before .before .before .before .before .before .before .pre .0) (c .before .before .before .before .before .before .before .before .before .before .before .before .before .before .before .before .args .toks .now) (c .before .before .before .before .before .before .before .before .before .before .before .before .before .before .before .before .pre .1), c .before .before .before .before .before .before .before .before .before .before .judge .kept .1 .1 .0)
 
-slice-aggregate-reduced : tie.Need-slice-aggregate-reduced
-slice-aggregate-reduced c = search needs
-
-slice-aggregate-reduced-2 : tie.Need-slice-aggregate-reduced-2
-slice-aggregate-reduced-2 c = search needs
-
 reduced-requires : tie.Need-reduced-requires
 reduced-requires c κs = let x = text (c .before .before .before .before .before .before .before .before .before .before .before .before) (c .before .before .before .before .before .before .before .before .before .before .before .before .before .before .before .before .before .before .before .pre .1 .0) (c .before .before .before .before .before .before .before .before .before .before .before .before .before .before .before .before .before .before .before .pre .1 .1) in let s = short (c .before .before .before .before .before .before .before .before) in ((_, x, omega (arith, s), omega (arith, s)), omega (arith, tokens-short (c .before .before .before .before .before .before .before .before .before .before .before .before .before .before .before .before .before .before .before .pre .0) (c .before .before .before .before .before .before .before .before .before .before .before .before .before .before .before .before .before .before .before .args .toks .now) (c .before .before .before .before .before .before .before .before .before .before .before .before .before .before .before .before .before .before .before .pre .1), c .before .before .before .before .before .before .before .before .before .before .before .before .before .judge .kept .1 .1 .0, c .before .before .reduced-arg .given), omega arith, omega arith)
-
-sub-copy : tie.Need-sub-copy
-sub-copy c = search needs
-
-part-copy-start : tie.Need-part-copy-start
-part-copy-start c = search needs
 
 part-copy-end : tie.Need-part-copy-end
 part-copy-end c = omega (arith, short (c .before .before .before .before .before .before .before .before .before .before .before .before), c .before .before .before .reduced .ensures _ (text (c .before .before .before .before .before .before .before .before .before .before .before .before .before .before .before .before) (c .before .before .before .before .before .before .before .before .before .before .before .before .before .before .before .before .before .before .before .before .before .before .before .pre .1 .0) (c .before .before .before .before .before .before .before .before .before .before .before .before .before .before .before .before .before .before .before .before .before .before .before .pre .1 .1)) .many, c .before .before .before .reduced .kept .1 .0)
 
 copy-requires-2 : tie.Need-copy-requires-2
 copy-requires-2 c κs = omega (arith, ap length (read-part (c .before .before .before .before .before .reduced .ensures _ (text (c .before .before .before .before .before .before .before .before .before .before .before .before .before .before .before .before .before .before) (c .before .before .before .before .before .before .before .before .before .before .before .before .before .before .before .before .before .before .before .before .before .before .before .before .before .pre .1 .0) (c .before .before .before .before .before .before .before .before .before .before .before .before .before .before .before .before .before .before .before .before .before .before .before .before .before .pre .1 .1)))), short (c .before .before .before .before .before .before .before .before .before .before .before .before .before .before), c .before .before .before .before .before .before .before .before .before .before .before .before .before .before .before .before .before .before .before .before .before .before .before .before .before .pre .2)
-
-same-length-2 : tie.Need-same-length-2
-same-length-2 c = search needs
 
 returns-4 : tie.Need-returns-4
 returns-4 c = λ t e. rw (reduce-yes (c .before .before .before .before .before .before .before .before .before .before .before .before .before .before .before .before .before .before .before .before .before .before .before .before .before .before .before .before .pre .0) (marked (c .before .before .before .before .before .before .before .before .before .before .before .before .before .before .before .before .before .before .before .before .before .before .before .before .before .before .before .before .args .marks .now)) t (the-form (c .before .before .before .before .before .before .before .before .before .before .before .before .before .before .before .before .before .before .before .before .before .before .before .before .before .before .before .before .pre .0) (c .before .before .before .before .before .before .before .before .before .before .before .before .before .before .before .before .before .before .before .before .before .before .before .before .before .before .before .before .args .toks .now) (c .before .before .before .before .before .before .before .before .before .before .before .before .before .before .before .before .before .before .before .before .before .before .before .before .before .before .before .before .pre .1) t e) (yes (c .before .before .before .before .before .before .before .before .before .before .before .before .before .before .before .before .before) t e)) (written (wrote-as (read-part (c .before .before .before .before .before .before .before .before .reduced .ensures _ (text (c .before .before .before .before .before .before .before .before .before .before .before .before .before .before .before .before .before .before .before .before .before) t e))) (c .before .before .copy2 .ensures)))
@@ -126,29 +80,29 @@ update-spec =
     tie.close
     (tie.spec
     returns
-    slice-aggregate-judge
+    (λ c. search needs)
     judge-requires
-    sub-state
-    part-state-start
+    (λ c. search needs)
+    (λ c. search needs)
     part-state-end
     state-requires
     returns-2
-    sub-stays
-    part-stays-start
+    (λ c. search needs)
+    (λ c. search needs)
     part-stays-end
     stays-requires
     copy-requires
-    same-length
+    (λ c. search needs)
     returns-3
-    sub-reduced
-    part-reduced-start
+    (λ c. search needs)
+    (λ c. search needs)
     part-reduced-end
-    slice-aggregate-reduced
-    slice-aggregate-reduced-2
+    (λ c. search needs)
+    (λ c. search needs)
     reduced-requires
-    sub-copy
-    part-copy-start
+    (λ c. search needs)
+    (λ c. search needs)
     part-copy-end
     copy-requires-2
-    same-length-2
+    (λ c. search needs)
     returns-4)
