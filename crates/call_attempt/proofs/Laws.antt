@@ -7,7 +7,7 @@ use Prim.Native.Nat.{ℕ, _≤_, _<_}
 use native.Mathlib.Omega.{arith}
 use borrow.Author.Tests.{eq-eqb, ne-eqb}
 use lib.Dec.{eqb}
-use Rattle.spec_orders.specs.Lists.{elem}
+use Rattle.spec_orders.specs.CircularOrder.{group-of}
 use Rattle.spec_orders.specs.Tree.{Forest}
 use Rattle.spec_orders.specs.Join.{join, then}
 use Rattle.spec_orders.proofs.Joining.{join-some}
@@ -17,10 +17,10 @@ use Rattle.tree_update.specs.declared.Updated.the-variants.{Impossible, Tokens}
 use Rattle.tree_update.specs.Update.{Answers, written}
 use Rattle.spec_calls.specs.declared.Refusal.{Refusal}
 use Rattle.spec_calls.specs.declared.Refusal.the-variants.{BookFull, Impossible as Not-possible}
+use Rattle.spec_calls.specs.Tables.{Nodes, leaves, Book}
 use Rattle.spec_calls.specs.Refusals.{refuse, first-refusal, list-checks}
 use Rattle.spec_calls.specs.Calls.{is-none, ring-checks, joined-tree, join-refusal}
-use Rattle.spec_calls.proofs.NodeTables.{tree-in-holds}
-use Rattle.spec_calls.proofs.Demands.{passes-iff}
+use Rattle.spec_calls.proofs.Demands.{passes-iff, lent-held}
 use Rattle.table_book.proofs.Laws.{few-groups}
 use Rattle.call_checks.specs.Lent.{RingLent}
 use Rattle.call_checks.proofs.Laws.{first-refusal-some, first-refusal-none}
@@ -30,7 +30,7 @@ use Rattle.call_attempt.specs.Attempts.{group-refusal, JoinedTree, Attem
 
 module _ (t : Forest) (n count : ℕ) (list : List ℕ) where
   abbrev after-list : List (Option Refusal)
-  after-list = refuse (eqb count 96) BookFull ∷ refuse (is-none (join (elem list) t)) Not-possible ∷ []
+  after-list = refuse (eqb count 96) BookFull ∷ refuse (is-none (join (group-of n list) t)) Not-possible ∷ []
 
   pub list-refused : (r : Refusal) → first-refusal (list-checks n list) ≡ some r → group-refusal t n count list ≡ some r
   unfolding group-refusal
@@ -39,60 +39,60 @@ module _ (t : Forest) (n count : ℕ) (list : List ℕ) where
   module _ (e : first-refusal (list-checks n list) ≡ none) where
     pub full-refused : count ≡ 96 → group-refusal t n count list ≡ some BookFull
     unfolding group-refusal
-    full-refused q = first-refusal-none (list-checks n list) after-list e ∙ ap (λ b. first-refusal (refuse b BookFull ∷ refuse (is-none (join (elem list) t)) Not-possible ∷ [])) (eq-eqb count 96 q)
+    full-refused q = first-refusal-none (list-checks n list) after-list e ∙ ap (λ b. first-refusal (refuse b BookFull ∷ refuse (is-none (join (group-of n list) t)) Not-possible ∷ [])) (eq-eqb count 96 q)
 
-    judged : (count ≡ 96 → ⊥) → group-refusal t n count list ≡ first-refusal (refuse (is-none (join (elem list) t)) Not-possible ∷ [])
+    judged : (count ≡ 96 → ⊥) → group-refusal t n count list ≡ first-refusal (refuse (is-none (join (group-of n list) t)) Not-possible ∷ [])
     unfolding group-refusal
-    judged q = first-refusal-none (list-checks n list) after-list e ∙ ap (λ b. first-refusal (refuse b BookFull ∷ refuse (is-none (join (elem list) t)) Not-possible ∷ [])) (ne-eqb count 96 q)
+    judged q = first-refusal-none (list-checks n list) after-list e ∙ ap (λ b. first-refusal (refuse b BookFull ∷ refuse (is-none (join (group-of n list) t)) Not-possible ∷ [])) (ne-eqb count 96 q)
 
     -- The marks of the list are its leaves.
-    marks-are : (words : List ℕ) → n ≤ 256 → words ≡ words-of 4 (elem list) → marked words ≡ elem list
+    marks-are : (words : List ℕ) → n ≤ 256 → words ≡ words-of 4 (group-of n list) → marked words ≡ group-of n list
     marks-are words h w = ap marked w ∙ marked-group 4 n list h (passes-iff n list .0 e)
 
-    pub none-joined : (words old new : List ℕ) → n ≤ 256 → words ≡ words-of 4 (elem list) → (count ≡ 96 → ⊥) → Answers (join (marked words) t) old new Impossible
+    pub none-joined : (words old new : List ℕ) → n ≤ 256 → words ≡ words-of 4 (group-of n list) → (count ≡ 96 → ⊥) → Answers (join (marked words) t) old new Impossible
         → group-refusal t n count list ≡ some Not-possible
-    none-joined words old new h w q a = judged q ∙ go (join (elem list) t) (subst (λ G. Answers (join G t) old new Impossible) (marks-are words h w) a)
+    none-joined words old new h w q a = judged q ∙ go (join (group-of n list) t) (subst (λ G. Answers (join G t) old new Impossible) (marks-are words h w) a)
       where
         go : (o : Option Forest) → Answers o old new Impossible → first-refusal (refuse (is-none o) Not-possible ∷ []) ≡ some Not-possible
         go none a = refl
 
-    pub one-joined : (words old new : List ℕ) (k : ℕ) → n ≤ 256 → words ≡ words-of 4 (elem list) → (count ≡ 96 → ⊥) → Answers (join (marked words) t) old new (Tokens k)
+    pub one-joined : (words old new : List ℕ) (k : ℕ) → n ≤ 256 → words ≡ words-of 4 (group-of n list) → (count ≡ 96 → ⊥) → Answers (join (marked words) t) old new (Tokens k)
         → JoinedTree t n count list old new k
-    one-joined words old new k h w q a = go (join (elem list) t) refl (subst (λ G. Answers (join G t) old new (Tokens k)) (marks-are words h w) a)
+    one-joined words old new k h w q a = go (join (group-of n list) t) refl (subst (λ G. Answers (join G t) old new (Tokens k)) (marks-are words h w) a)
       where
-        go : (o : Option Forest) → join (elem list) t ≡ o → Answers o old new (Tokens k) → JoinedTree t n count list old new k
+        go : (o : Option Forest) → join (group-of n list) t ≡ o → Answers o old new (Tokens k) → JoinedTree t n count list old new k
         go (some u) p (written x) = record { passes = judged q ∙ ap (λ o. first-refusal (refuse (is-none o) Not-possible ∷ [])) p; not-full = q; tree = u; is = p; wrote = x }
 
 -- On lent tables.
-module _ (n have : ℕ) (nodes book : List ℕ) (count : ℕ) (list : List ℕ) where
+module _ (nodes : Nodes) (book : Book) (list : List ℕ) where
   abbrev after-ring : List (Option Refusal)
-  after-ring = list-checks n list ++ (refuse (eqb count 96) BookFull ∷ refuse (is-none (joined-tree n nodes list)) Not-possible ∷ [])
+  after-ring = list-checks (nodes .bins) list ++ (refuse (eqb (book .count) 96) BookFull ∷ refuse (is-none (joined-tree nodes list)) Not-possible ∷ [])
 
-  pub ring-refused : (r : Refusal) → first-refusal (ring-checks n have nodes book count) ≡ some r → join-refusal n have nodes book count list ≡ some r
+  pub ring-refused : (r : Refusal) → first-refusal (ring-checks nodes book) ≡ some r → join-refusal nodes book list ≡ some r
   unfolding join-refusal
-  ring-refused r e = first-refusal-some (ring-checks n have nodes book count) after-ring r e
+  ring-refused r e = first-refusal-some (ring-checks nodes book) after-ring r e
 
-  module _ (old toks : List ℕ) (m : ℕ) (h : RingLent n have nodes book count old toks m) where
-    tree-is : joined-tree n nodes list ≡ join (elem list) (h .tree)
+  module _ (old toks : List ℕ) (m : ℕ) (h : RingLent nodes book old toks m) where
+    tree-is : joined-tree nodes list ≡ join (group-of (nodes .bins) list) (h .tree)
     unfolding joined-tree
-    tree-is = ap (λ o. then o (join (elem list))) (tree-in-holds n nodes (h .tree) (h .lent .few-leaves) .1 (h .lent .tree))
+    tree-is = ap (λ o. then o (join (group-of (nodes .bins) list))) (lent-held nodes (h .tree) (h .lent))
 
-    refusal-is : join-refusal n have nodes book count list ≡ group-refusal (h .tree) n count list
+    refusal-is : join-refusal nodes book list ≡ group-refusal (h .tree) (nodes .bins) (book .count) list
     unfolding join-refusal group-refusal
     refusal-is =
-        first-refusal-none (ring-checks n have nodes book count) after-ring (h .passes)
-        ∙ ap (λ o. first-refusal (list-checks n list ++ (refuse (eqb count 96) BookFull ∷ refuse (is-none o) Not-possible ∷ []))) tree-is
+        first-refusal-none (ring-checks nodes book) after-ring (h .passes)
+        ∙ ap (λ o. first-refusal (list-checks (nodes .bins) list ++ (refuse (eqb (book .count) 96) BookFull ∷ refuse (is-none o) Not-possible ∷ []))) tree-is
 
-    pub attempt-is : (out new : List ℕ) (x : Tried) → AttemptsOn (h .tree) n count list out new x → Attempts n have nodes book count list out new x
+    pub attempt-is : (out new : List ℕ) (x : Tried) → AttemptsOn (h .tree) (nodes .bins) (book .count) list out new x → Attempts nodes book list out new x
     attempt-is out new (Refused r) a = refusal-is ∙ a
     attempt-is out new (Joined k) a = record {
       passes = refusal-is ∙ a .passes;
-      few-leaves = h .lent .few-leaves;
-      all-rows = h .lent .all-rows;
-      all-words = h .all-words;
-      place-left = below count (few-groups n book count (h .groups)) (a .not-full);
+      held = h .tree;
+      lent = h .lent;
+      groups = h .groups;
+      place-left = below (book .count) (few-groups (nodes .bins) book (h .groups .in-form)) (a .not-full);
       tree = a .tree;
-      in-form = join-some n (elem list) (h .tree) (a .tree) (h .lent .tree .in-form) (a .is) .form;
+      in-form = join-some (leaves nodes) (group-of (nodes .bins) list) (h .tree) (a .tree) (h .lent .tree .in-form) (a .is) .form;
       is = tree-is ∙ a .is;
       wrote = a .wrote;
     }

@@ -4,6 +4,7 @@ ghost use Prim.Native.Nat.{_≤_};
 ghost use lib.ListN.{length};
 ghost use Rattle.spec_orders.specs.Tree.{Forest};
 ghost use Rattle.tree_pieces.specs.Writers.{flat};
+ghost use Rattle.spec_calls.specs.Tables.{lent-nodes, lent-book};
 ghost use Rattle.tree_update.specs.Update.{Published};
 ghost use Rattle.call_attempt.specs.Attempts.{AttemptsOn, Attempts};
 use call_checks::Lent;
@@ -48,7 +49,7 @@ pub fn attempt(
     out: &mut [u16],
 ) -> Tried
     requires { ⌜ 512 ≤ length (now out) ⌝ }
-    ensures { λ r. ⌜ Attempts n have (now (nodes .entry)) (now (book .entry)) count (now (list .entry)) (now (out .entry)) (now (out .exit)) r ⌝ }
+    ensures { λ r. ⌜ Attempts (lent-nodes n have (now (nodes .entry))) (lent-book (now (book .entry)) count) (now (list .entry)) (now (out .entry)) (now (out .exit)) r ⌝ }
 {
     let mut toks = [0u16; 512];
     let found = call_checks::lent_ring(n, nodes, have, book, count, &mut toks);

@@ -2,6 +2,7 @@
 ghost use mathlib.Core.Path.{_≡_};
 ghost use Prim.Native.Nat.{_≤_};
 ghost use lib.ListN.{length};
+ghost use Rattle.spec_calls.specs.Tables.{lent-nodes, lent-book};
 ghost use Rattle.spec_calls.specs.Refusals.{first-refusal};
 ghost use Rattle.spec_calls.specs.Calls.{table-checks};
 ghost use Rattle.table_book.specs.Lists.{refusal-in};
@@ -18,7 +19,7 @@ pub enum Lent {
 
 // Checks 1 and 2 on a node table of `have` records; `other` says that another lent table is too short.
 pub fn check_tables(n: usize, nodes: &[u16], have: usize, other: bool) -> Checked
-    ensures { λ r. ⌜ refusal-in r ≡ first-refusal (table-checks n have (now (nodes .entry)) other) ⌝ }
+    ensures { λ r. ⌜ refusal-in r ≡ first-refusal (table-checks (lent-nodes n have (now (nodes .entry))) other) ⌝ }
 {
     if n == 0 {
         return Checked::Bad(Refusal::RingSize);
@@ -41,7 +42,7 @@ pub fn check_tables(n: usize, nodes: &[u16], have: usize, other: bool) -> Checke
 // Checks 1, 2 and 3 on a node table of `have` records; `other` says that another lent table is too short. Writes the tree to the start of toks.
 pub fn lent_tree(n: usize, nodes: &[u16], have: usize, other: bool, toks: &mut [u16]) -> Lent
     requires { ⌜ 512 ≤ length (now toks) ⌝ }
-    ensures { λ r. ⌜ LendsTree n have (now (nodes .entry)) other (now (toks .entry)) (now (toks .exit)) r ⌝ }
+    ensures { λ r. ⌜ LendsTree (lent-nodes n have (now (nodes .entry))) other (now (toks .entry)) (now (toks .exit)) r ⌝ }
 {
     if let Checked::Bad(refusal) = check_tables(n, nodes, have, other) {
         return Lent::Refused(refusal);
@@ -62,7 +63,7 @@ pub fn lent_ring(
     toks: &mut [u16],
 ) -> Lent
     requires { ⌜ 512 ≤ length (now toks) ⌝ }
-    ensures { λ r. ⌜ LendsRing n have (now (nodes .entry)) (now (book .entry)) count (now (toks .entry)) (now (toks .exit)) r ⌝ }
+    ensures { λ r. ⌜ LendsRing (lent-nodes n have (now (nodes .entry))) (lent-book (now (book .entry)) count) (now (toks .entry)) (now (toks .exit)) r ⌝ }
 {
     let found = lent_tree(n, nodes, have, book.len() < 384, toks);
     let Lent::Tree(k) = found else {

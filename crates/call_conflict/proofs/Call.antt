@@ -4,23 +4,24 @@ use mathlib.Core.Bool.{Bool, true, false, not, _||_}
 use mathlib.Core.Option.{none}
 use mathlib.Core.List.{List, [], _∷_, _++_}
 use Prim.Native.Nat.{ℕ, zero, suc, _+_, _-_, _≤_}
+use native.Mathlib.Nat.{pos-of-ne-zero}
 use native.Mathlib.Omega.{arith}
-use borrow.Author.Tests.{ne-eqb, le-ltb, eqb-false, ltb-false}
+use borrow.Author.Tests.{le-ltb, eqb-false, ltb-false}
 use lib.Dec.{eqb, ltb}
 use lib.ListN.{length, take, drop, replicate}
 use lib.Seq.{take-append-seam}
 use Rattle.spec_orders.specs.Lists.{elem, numbers-from}
-use Rattle.spec_orders.specs.CircularOrder.{Restriction}
+use Rattle.spec_orders.specs.CircularOrder.{Restriction, WellFormed, group-of}
 use Rattle.spec_orders.specs.Conflict.{conflict-list, Numbers}
 use Rattle.spec_orders.proofs.Conflicts.{conflict-demand-3}
 use Rattle.spec_calls.specs.declared.Refusal.{Refusal}
 use Rattle.spec_calls.specs.declared.Refusal.the-variants.{RingSize, ShortTable, NotInForm}
-use Rattle.spec_calls.specs.Tables.{padded}
+use Rattle.spec_calls.specs.Tables.{Book, lent-book, padded}
 use Rattle.spec_calls.specs.Book.{groups, book-in-form?}
 use Rattle.spec_calls.specs.Refusals.{Reply, reply, reported, refuse, first-refusal, list-checks}
 use Rattle.spec_calls.specs.Calls.{Filled, filled-as, conflict-refusal, conflicts-of, conflict-call}
 use Rattle.spec_calls.proofs.NodeTables.{padded-length}
-use Rattle.spec_calls.proofs.Demands.{passes-iff}
+use Rattle.spec_calls.proofs.Demands.{passes-iff, size-fine}
 use Rattle.table_book.specs.declared.Checked.{Checked}
 use Rattle.table_book.specs.declared.Checked.the-variants.{Bad}
 use Rattle.table_book.specs.Lists.{refusal-in}
@@ -28,49 +29,42 @@ use Rattle.table_book.proofs.Laws.{few-groups}
 use Rattle.tree_tokens.specs.Tokens.{Wrote}
 use Rattle.conflict_leaves.specs.StandIn.{group}
 use Rattle.conflict_rule.specs.LeavingOut.{conflicts-among}
-use Rattle.spec_calls.specs.Demands.{LentBook, Named}
+use Rattle.spec_calls.specs.Demands.{LentBook, Named, ConflictDemand}
 use Rattle.conflict_rule.proofs.Keeping.{rule-list}
 use Rattle.conflict_rule.proofs.Places.{groups-numbered, groups-length}
 
-module _ (n : ℕ) (book : List ℕ) (count : ℕ) (list table : List ℕ) where
-  -- What passes.
-  pub passes-lent : conflict-refusal n book count list table ≡ none → LentBook n book count list table
+module _ (n : ℕ) (book : Book) (list table : List ℕ) where
+  -- What passes: what the demand is about.
+  pub passes-lent : conflict-refusal n book list table ≡ none → (1 ≤ n) × (n ≤ 256) × LentBook n book × (96 ≤ length table) × WellFormed n list
   unfolding conflict-refusal
-  passes-lent e = go (eqb n 0) refl (ltb 256 n) refl (ltb (length book) 384) refl (ltb (length table) 96) refl (book-in-form? n book count) refl e
+  passes-lent e = go (eqb n 0) refl (ltb 256 n) refl (ltb (length (book .words)) 384) refl (ltb (length table) 96) refl (book-in-form? n book) refl e
     where
-      go : (a : Bool) → eqb n 0 ≡ a → (b : Bool) → ltb 256 n ≡ b → (c : Bool) → ltb (length book) 384 ≡ c → (d : Bool) → ltb (length table) 96 ≡ d
-          → (f : Bool) → book-in-form? n book count ≡ f
+      go : (a : Bool) → eqb n 0 ≡ a → (b : Bool) → ltb 256 n ≡ b → (c : Bool) → ltb (length (book .words)) 384 ≡ c → (d : Bool) → ltb (length table) 96 ≡ d
+          → (f : Bool) → book-in-form? n book ≡ f
           → first-refusal (refuse (a || b) RingSize ∷ (refuse (c || d) ShortTable ∷ (refuse (not f) NotInForm ∷ list-checks n list))) ≡ none
-          → LentBook n book count list table
+          → (1 ≤ n) × (n ≤ 256) × LentBook n book × (96 ≤ length table) × WellFormed n list
       go true p b q c r d s f w e = absurd (let i : _≡_ {A = ℕ} 0 1 = cc in omega arith)
       go false p true q c r d s f w e = absurd (let i : _≡_ {A = ℕ} 0 1 = cc in omega arith)
       go false p false q true r d s f w e = absurd (let i : _≡_ {A = ℕ} 0 1 = cc in omega arith)
       go false p false q false r true s f w e = absurd (let i : _≡_ {A = ℕ} 0 1 = cc in omega arith)
       go false p false q false r false s false w e = absurd (let i : _≡_ {A = ℕ} 0 1 = cc in omega arith)
-      go false p false q false r false s true w e = record {
-        some-leaf = let h = eqb-false n 0 p in omega arith;
-        few-leaves = ltb-false 256 n q;
-        all-words = ltb-false (length book) 384 r;
-        all-places = ltb-false (length table) 96 s;
-        in-form = w;
-        group = passes-iff n list .0 e;
-      }
+      go false p false q false r false s true w e =
+          (pos-of-ne-zero (eqb-false n 0 p), ltb-false 256 n q, record { all-words = ltb-false (length (book .words)) 384 r; in-form = w }, ltb-false (length table) 96 s, passes-iff n list .0 e)
 
-  pub lent-passes : LentBook n book count list table → conflict-refusal n book count list table ≡ none
+  pub lent-passes : 1 ≤ n → n ≤ 256 → LentBook n book → 96 ≤ length table → WellFormed n list → conflict-refusal n book list table ≡ none
   unfolding conflict-refusal
-  lent-passes h =
+  lent-passes l m h places w =
       rw (
-        ne-eqb n 0 (λ e. omega (arith, h .some-leaf)),
-        le-ltb 256 n (h .few-leaves),
-        le-ltb (length book) 384 (h .all-words),
-        le-ltb (length table) 96 (h .all-places),
+        size-fine n l m,
+        le-ltb (length (book .words)) 384 (h .all-words),
+        le-ltb (length table) 96 places,
         h .in-form,
       )
-      (passes-iff n list .1 (h .group))
+      (passes-iff n list .1 w)
 
 -- The whole list.
 pub list-is : (n : ℕ) (book : List ℕ) (count : ℕ) (list : List ℕ)
-    → conflicts-among n (group book) (elem list ∷ []) (numbers-from 1 count) ≡ conflicts-of n book count list
+    → conflicts-among n (group book) (elem list ∷ []) (numbers-from 1 count) ≡ conflicts-of n (lent-book book count) list
 unfolding conflicts-of
 list-is n book count list =
     rule-list n (group book) (elem list) count ∙ ap (λ (Gs : List Restriction). conflict-list n Gs (elem list)) (sym (groups-numbered book count))
@@ -80,25 +74,25 @@ numbers-few : (k m : ℕ) (ns : List ℕ) → Numbers k m ns → k ≤ m → len
 numbers-few k m [] h l = omega arith
 numbers-few k m (j ∷ ns) h l = omega (arith, h .0, h .1, numbers-few (suc j) m ns (h .2) (omega (arith, h .1)))
 
-pub list-few : (n : ℕ) (book : List ℕ) (count : ℕ) (list : List ℕ) → length (conflicts-of n book count list) ≤ count
+pub list-few : (n : ℕ) (book : Book) (list : List ℕ) → length (conflicts-of n book list) ≤ book .count
 unfolding conflicts-of
-list-few n book count list =
-    let d = conflict-demand-3 n (groups book count) (elem list) in
-    omega (arith, numbers-few 1 (suc (length (groups book count))) (conflict-list n (groups book count) (elem list)) (d .numbers) (omega arith), groups-length book count)
+list-few n book list =
+    let d = conflict-demand-3 n (groups book) (group-of n list) in
+    omega (arith, numbers-few 1 (suc (length (groups book))) (conflict-list n (groups book) (group-of n list)) (d .numbers) (omega arith), groups-length (book .words) (book .count))
 
-pub conflict-meets : (n : ℕ) (book : List ℕ) (count : ℕ) (list table : List ℕ) → LentBook n book count list table
-    → Named n book count list (conflict-call n book count list table .answer) (conflict-call n book count list table .table)
+pub conflict-meets : (n : ℕ) (book : Book) (list table : List ℕ) → 1 ≤ n → n ≤ 256 → LentBook n book → 96 ≤ length table → WellFormed n list
+    → Named n book list (conflict-call n book list table .answer) (conflict-call n book list table .table)
 unfolding conflict-call conflicts-of
-conflict-meets n book count list table h =
-    let xs = conflicts-of n book count list in
-    let few : length xs ≤ 96 = omega (arith, list-few n book count list, few-groups n book count (h .in-form)) in
-    rw (lent-passes n book count list table h)
+conflict-meets n book list table l m h places w =
+    let xs = conflicts-of n book list in
+    let few : length xs ≤ 96 = omega (arith, list-few n book list, few-groups n book (h .in-form)) in
+    rw (lent-passes n book list table l m h places w)
     (record {
       numbers = xs;
       answered = refl;
       places = subst (λ k. take k (padded 96 xs ++ drop (length (padded 96 xs)) table) ≡ padded 96 xs) (padded-length 96 xs few)
           (take-append-seam (padded 96 xs) (drop (length (padded 96 xs)) table));
-      demand = conflict-demand-3 n (groups book count) (elem list);
+      demand = conflict-demand-3 n (groups book) (group-of n list);
     })
 
 -- What the code answers: a refusal; the numbers, which were written to zeros and copied.
@@ -107,21 +101,20 @@ drop-zeros w zero = let e : w - 0 ≡ w = omega arith in rw e
 drop-zeros zero (suc k) = let e : 0 - suc k ≡ 0 = omega arith in rw e
 drop-zeros (suc w) (suc k) = let e : suc w - suc k ≡ w - k = omega arith in rw e (drop-zeros w k)
 
-module _ (n : ℕ) (book : List ℕ) (count : ℕ) (list table : List ℕ) where
-  pub call-refused : {r : Checked} {why : Refusal} → r ≡ Bad why → refusal-in r ≡ conflict-refusal n book count list table
-      → filled-as (reported why) table ≡ conflict-call n book count list table
+module _ (n : ℕ) (book : Book) (list table : List ℕ) where
+  pub call-refused : {r : Checked} {why : Refusal} → r ≡ Bad why → refusal-in r ≡ conflict-refusal n book list table
+      → filled-as (reported why) table ≡ conflict-call n book list table
   unfolding conflict-call
   call-refused e h = let q = sym h ∙ ap refusal-in e in rw q
 
-  pub call-found : {numbers new : List ℕ} {k m : ℕ} → conflict-refusal n book count list table ≡ none
-      → Wrote (conflicts-of n book count list) (replicate 96 0) numbers k → Wrote numbers table new m
-      → filled-as (reply 0 k) new ≡ conflict-call n book count list table
+  pub call-found : {numbers new : List ℕ} {k m : ℕ} → conflict-refusal n book list table ≡ none
+      → Wrote (conflicts-of n book list) (replicate 96 0) numbers k → Wrote numbers table new m
+      → filled-as (reply 0 k) new ≡ conflict-call n book list table
   unfolding conflict-call
   call-found {numbers} h a b =
-      let xs = conflicts-of n book count list in
+      let xs = conflicts-of n book list in
       let e : numbers ≡ padded 96 xs = a .text ∙ ap (λ (l : List ℕ). xs ++ l) (drop-zeros 96 (length xs)) in
       rw (h, a .many, b .text, e)
 
-  pub call-meets : {said : Reply} {new : List ℕ} → filled-as said new ≡ conflict-call n book count list table
-      → LentBook n book count list table → Named n book count list said new
-  call-meets e h = subst (λ (c : Filled). Named n book count list (c .answer) (c .table)) (sym e) (conflict-meets n book count list table h)
+  pub call-meets : {said : Reply} {new : List ℕ} → filled-as said new ≡ conflict-call n book list table → ConflictDemand n book list table said new
+  call-meets e l m h places w = subst (λ (c : Filled). Named n book list (c .answer) (c .table)) (sym e) (conflict-meets n book list table l m h places w)

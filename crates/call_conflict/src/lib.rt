@@ -6,6 +6,7 @@ ghost use lib.ListN.{length};
 ghost use Rattle.spec_orders.specs.Lists.{numbers-from};
 ghost use Rattle.spec_orders.specs.CircularOrder.{WellFormed};
 ghost use Rattle.tree_tokens.specs.Tokens.{Wrote};
+ghost use Rattle.spec_calls.specs.Tables.{lent-book};
 ghost use Rattle.spec_calls.specs.Calls.{conflict-refusal, conflicts-of};
 ghost use Rattle.spec_calls.specs.Refusals.{report};
 ghost use Rattle.table_book.specs.Lists.{refusal-in};
@@ -31,7 +32,7 @@ fn rising(count: usize, out: &mut [u16]) -> usize
 // Writes the numbers of the groups in conflict with the list's group, rising, and says how many.
 pub fn find(n: usize, book: &[u64], count: usize, list: &[u16], out: &mut [u16]) -> usize
     requires { ⌜ (n ≤ 256) × (384 ≤ length (now book)) × (count ≤ 96) × (count ≤ length (now out)) × (WellFormed n (now list)) ⌝ }
-    ensures { λ r. ⌜ Wrote (conflicts-of n (now (book .entry)) count (now (list .entry))) (now (out .entry)) (now (out .exit)) r ⌝ }
+    ensures { λ r. ⌜ Wrote (conflicts-of n (lent-book (now (book .entry)) count) (now (list .entry))) (now (out .entry)) (now (out .exit)) r ⌝ }
 {
     let mut group = [0u64; 4];
     mark_words::mark_list(list, &mut group);
@@ -53,7 +54,7 @@ pub fn find(n: usize, book: &[u64], count: usize, list: &[u16], out: &mut [u16])
 // Checks 1 to 6 down the table, for a conflict list of this many places.
 fn check(n: usize, book: &[u64], count: usize, list: &[u16], places: usize) -> Checked
     ensures { λ r. ⌜ ((conflicts : List ℕ) → length conflicts ≡ places
-        → refusal-in r ≡ conflict-refusal n (now (book .entry)) count (now (list .entry)) conflicts) ⌝ }
+        → refusal-in r ≡ conflict-refusal n (lent-book (now (book .entry)) count) (now (list .entry)) conflicts) ⌝ }
 {
     if n == 0 {
         return Checked::Bad(Refusal::RingSize);
@@ -76,7 +77,7 @@ fn check(n: usize, book: &[u64], count: usize, list: &[u16], places: usize) -> C
 // Writes the numbers of the groups in conflict with the list's group, rising, and zeros up to 96 places. Answers how many numbers there are, or
 // why the call is refused.
 pub fn conflict(n: usize, book: &[u64], count: usize, list: &[u16], conflicts: &mut [u16]) -> Answer
-    ensures { λ r. ⌜ ConflictPromise n (now (book .entry)) count (now (list .entry)) (now (conflicts .entry)) (now (conflicts .exit)) (report r) ⌝ }
+    ensures { λ r. ⌜ ConflictPromise n (lent-book (now (book .entry)) count) (now (list .entry)) (now (conflicts .entry)) (now (conflicts .exit)) (report r) ⌝ }
 {
     let checked = check(n, book, count, list, conflicts.len());
     if let Checked::Bad(why) = checked {

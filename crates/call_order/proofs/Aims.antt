@@ -2,13 +2,13 @@
 use mathlib.Core.Path.{_≡_, refl, sym, _∙_, ap}
 use mathlib.Core.Bool.{Bool, true, false, not, _||_, true≢false}
 use mathlib.Core.Option.{Option, none, some}
-use mathlib.Core.List.{List, [], _∷_}
-use Prim.Native.Nat.{ℕ, _-_, _≤_, _<_}
+use mathlib.Core.List.{[], _∷_}
+use Prim.Native.Nat.{ℕ, _-_, _<_}
 use native.Mathlib.Nat.{pos-of-ne-zero}
 use native.Mathlib.Omega.{arith}
 use borrow.Author.Tests.{ltb-false, eqb-false, not-false}
 use lib.Dec.{eqb, ltb}
-use lib.ListN.{length}
+use Rattle.spec_orders.specs.CircularOrder.{Restriction}
 use Rattle.spec_orders.specs.Tree.{Forest, frontier}
 use Rattle.spec_orders.specs.Form.{standard}
 use Rattle.spec_orders.specs.Conflict.{consecutive?}
@@ -16,12 +16,15 @@ use Rattle.spec_orders.specs.Aim.{aim-of}
 use Rattle.spec_orders.proofs.Tests.{or-neither}
 use Rattle.spec_calls.specs.declared.Refusal.{Refusal}
 use Rattle.spec_calls.specs.declared.Refusal.the-variants.{RingSize, ShortTable, NotInForm, NoSuchGroup, NotConsecutive}
+use Rattle.spec_calls.specs.Tables.{Nodes, leaves, Book}
 use Rattle.spec_calls.specs.Book.{book-in-form?}
-use Rattle.spec_calls.specs.NodeTable.{tree-in}
+use Rattle.spec_calls.specs.NodeTable.{held-tree}
 use Rattle.spec_calls.specs.Refusals.{Reply, reply, refuse, first-refusal, bad-size, short, short-nodes}
-use Rattle.spec_calls.specs.Calls.{is-none, of-tree, group-numbered, answered, aim-refusal, aim-call}
+use Rattle.spec_calls.specs.Calls.{is-none, of-tree, table-checks, group-numbered, answered, aim-refusal, aim-call}
+use Rattle.spec_calls.specs.Demands.{LentTree, LentBook}
 use Rattle.spec_calls.proofs.NodeTables.{tree-in-holds}
 use Rattle.spec_calls.proofs.Reports.{refused-number}
+use Rattle.call_checks.proofs.Laws.{room-passed, holds-lent}
 use Rattle.call_order.specs.Aims.{AimsInside}
 use Rattle.call_order.proofs.Sizes.{group-within}
 use Rattle.call_order.proofs.Runs.{aim-inside}
@@ -40,28 +43,36 @@ done-none : (r : Option Refusal) (v b : ℕ) → answered r v ≡ reply 0 b → 
 done-none none v b e = (refl, ap (λ (s : Reply). s .value) e)
 done-none (some r) v b e = absurd (refused-number r (ap (λ (s : Reply). s .number) e))
 
-module _ (n have : ℕ) (nodes book : List ℕ) (count k : ℕ) where
-  -- The ring was lent, and the group is there and consecutive.
-  inside : (t : Forest) → tree-in n nodes ≡ some t → bad-size n ≡ false → short 384 book ≡ false → book-in-form? n book count ≡ true → (eqb k 0 || ltb count k) ≡ false
-      → consecutive? (group-numbered book k) (standard t) ≡ true → group-numbered book k (aim-of (group-numbered book k) (standard t)) ≡ true
-  inside t e size long form number hangs =
-      let s = or-neither (eqb n 0) (ltb 256 n) size in
-      let few : n ≤ 256 = ltb-false 256 n (s .1) in
-      let some-leaf : 1 ≤ n = pos-of-ne-zero (eqb-false n 0 (s .0)) in
-      let m = or-neither (eqb k 0) (ltb count k) number in
-      let there : k - 1 < count = omega (arith, pos-of-ne-zero (eqb-false k 0 (m .0)), ltb-false count k (m .1)) in
-      let w = group-within n t book count (k - 1) (tree-in-holds n nodes t few .0 e .in-form) some-leaf few (ltb-false (length book) 384 long) form there in
-      aim-inside (group-numbered book k) 1 (frontier t) hangs (omega (arith, w .some-leaf, w .all-leaves))
+module _ (nodes : Nodes) (book : Book) (k : ℕ) where
+  abbrev G : Restriction
+  G = group-numbered (book .words) k
 
-  pub aims-inside : AimsInside n have nodes book count k
+  abbrev no-group : Bool
+  no-group = eqb k 0 || ltb (book .count) k
+
+  abbrev too-short : Bool
+  too-short = short-nodes nodes || short 384 (book .words)
+
+  -- The ring was lent, and the group is there and consecutive.
+  inside : (t : Forest) → LentTree nodes t → LentBook (nodes .bins) book → no-group ≡ false → consecutive? G (standard t) ≡ true → G (aim-of G (standard t)) ≡ true
+  inside t h b number hangs =
+      let m = or-neither (eqb k 0) (ltb (book .count) k) number in
+      let there : k - 1 < book .count = omega (arith, pos-of-ne-zero (eqb-false k 0 (m .0)), ltb-false (book .count) k (m .1)) in
+      let w = group-within nodes t book (k - 1) h b there in
+      aim-inside G 1 (frontier t) hangs (omega (arith, w .some-leaf, w .all-leaves))
+
+  pub aims-inside : AimsInside nodes book k
   unfolding aim-call aim-refusal
-  aims-inside b e = go (tree-in n nodes) refl (done-none (aim-refusal n have nodes book count k) (aim-of (group-numbered book k) (of-tree (tree-in n nodes) standard)) b e)
+  aims-inside b e = go (held-tree nodes) refl (done-none (aim-refusal nodes book k) (aim-of G (of-tree (held-tree nodes) standard)) b e)
     where
-      go : (o : Option Forest) → tree-in n nodes ≡ o
-          → (first-refusal (refuse (bad-size n) RingSize ∷ refuse (short-nodes have nodes || short 384 book) ShortTable ∷ refuse (is-none o || not (book-in-form? n book count)) NotInForm ∷ refuse (eqb k 0 || ltb count k) NoSuchGroup ∷ refuse (not (consecutive? (group-numbered book k) (of-tree o standard))) NotConsecutive ∷ []) ≡ none)
-          × (aim-of (group-numbered book k) (of-tree o standard) ≡ b) → group-numbered book k b ≡ true
-      go none q d = absurd (true≢false (all-passed (bad-size n) (short-nodes have nodes || short 384 book) true (eqb k 0 || ltb count k) (not (consecutive? (group-numbered book k) [])) (d .0) .2))
+      go : (o : Option Forest) → held-tree nodes ≡ o
+          → (first-refusal (refuse (bad-size (nodes .bins)) RingSize ∷ refuse too-short ShortTable ∷ refuse (is-none o || not (book-in-form? (nodes .bins) book)) NotInForm ∷ refuse no-group NoSuchGroup ∷ refuse (not (consecutive? G (of-tree o standard))) NotConsecutive ∷ []) ≡ none)
+          × (aim-of G (of-tree o standard) ≡ b) → G b ≡ true
+      go none q d = absurd (true≢false (all-passed (bad-size (nodes .bins)) too-short true no-group (not (consecutive? G [])) (d .0) .2))
       go (some t) q d =
-          let p = all-passed (bad-size n) (short-nodes have nodes || short 384 book) (not (book-in-form? n book count)) (eqb k 0 || ltb count k) (not (consecutive? (group-numbered book k) (standard t))) (d .0) in
-          let long = or-neither (short-nodes have nodes) (short 384 book) (p .1) .1 in
-          ap (group-numbered book k) (sym (d .1)) ∙ inside t q (p .0) long (not-false (book-in-form? n book count) (p .2)) (p .3) (not-false (consecutive? (group-numbered book k) (standard t)) (p .4))
+          let p = all-passed (bad-size (nodes .bins)) too-short (not (book-in-form? (nodes .bins) book)) no-group (not (consecutive? G (standard t))) (d .0) in
+          let passed : first-refusal (table-checks nodes (short 384 (book .words))) ≡ none = rw (p .0, p .1) in
+          let room = room-passed nodes (book .words) passed in
+          let held = holds-lent nodes (short 384 (book .words)) passed t (tree-in-holds (leaves nodes) (nodes .rows) t (room .1) .0 q) in
+          let groups : LentBook (nodes .bins) book = record { all-words = room .3; in-form = not-false (book-in-form? (nodes .bins) book) (p .2) } in
+          ap G (sym (d .1)) ∙ inside t held groups (p .3) (not-false (consecutive? G (standard t)) (p .4))

@@ -17,9 +17,10 @@ use Rattle.spec_orders.proofs.TextTree.{form-length}
 use Rattle.spec_calls.specs.declared.Refusal.{Refusal}
 use Rattle.spec_calls.specs.declared.Refusal.the-variants.{NoSuchGroup, NotConsecutive}
 use Rattle.spec_calls.specs.declared.Answer.the-variants.{Done, Refused}
+use Rattle.spec_calls.specs.Tables.{Nodes, leaves, Book}
 use Rattle.spec_calls.specs.Refusals.{reported, report, refuse, first-refusal}
 use Rattle.spec_calls.specs.Calls.{ring-checks, group-numbered, answered, aim-refusal, aim-call}
-use Rattle.spec_calls.proofs.NodeTables.{tree-in-holds}
+use Rattle.spec_calls.proofs.Demands.{lent-held}
 use Rattle.tree_tokens.specs.Tokens.{tree, plain}
 use Rattle.tree_tokens.proofs.Sequences.{tree-plain}
 use Rattle.tree_tokens.proofs.Writes.{read-part}
@@ -28,24 +29,24 @@ use Rattle.call_checks.proofs.Laws.{first-refusal-some, first-refusal-none}
 use Rattle.call_order.specs.Starts.{aim-in}
 use Rattle.call_order.specs.Rings.{Lends, aim-of-group}
 
-module _ (book : List ℕ) (count k : ℕ) (t : Forest) where
-  pub number-zero : k ≡ 0 → aim-of-group book count k t ≡ Refused NoSuchGroup
+module _ (book : Book) (k : ℕ) (t : Forest) where
+  pub number-zero : k ≡ 0 → aim-of-group book k t ≡ Refused NoSuchGroup
   unfolding aim-of-group
   number-zero e = rw (eq-eqb k 0 e)
 
-  pub number-past : k ≢ 0 → count < k → aim-of-group book count k t ≡ Refused NoSuchGroup
+  pub number-past : k ≢ 0 → book .count < k → aim-of-group book k t ≡ Refused NoSuchGroup
   unfolding aim-of-group
-  number-past e l = rw (ne-eqb k 0 e, lt-ltb count k l)
+  number-past e l = rw (ne-eqb k 0 e, lt-ltb (book .count) k l)
 
-  pub number-there : k ≢ 0 → k ≤ count → aim-of-group book count k t ≡ aim-in (group-numbered book k) (standard t)
+  pub number-there : k ≢ 0 → k ≤ book .count → aim-of-group book k t ≡ aim-in (group-numbered (book .words) k) (standard t)
   unfolding aim-of-group
-  number-there e l = rw (ne-eqb k 0 e, le-ltb count k l)
+  number-there e l = rw (ne-eqb k 0 e, le-ltb (book .count) k l)
 
 -- The standard order fits.
-pub order-room : {toks book : List ℕ} {count : ℕ} (h : Lends toks book count) → length (standard (tree (plain (h .shown)))) ≤ 256
+pub order-room : {toks : List ℕ} {book : Book} (h : Lends toks book) → length (standard (tree (plain (h .shown)))) ≤ 256
 order-room h =
     let e = tree-plain (h .shown) in
-    rw e (omega (arith, form-length (h .size) (h .shown) (h .in-form), h .some-leaf, h .few-leaves))
+    rw e (omega (arith, form-length (leaves (h .nodes)) (h .shown) (h .lent .tree .in-form), h .lent .some-leaf, h .lent .few-leaves))
 
 -- The checks after the ring's, as the code makes them.
 last-checks : (a b : Bool) (v : ℕ)
@@ -54,26 +55,18 @@ last-checks true b v = refl
 last-checks false true v = refl
 last-checks false false v = refl
 
-module _ (n have : ℕ) (nodes book : List ℕ) (count k : ℕ) where
-  pub aim-refused : (r : Refusal) → first-refusal (ring-checks n have nodes book count) ≡ some r → reported r ≡ aim-call n have nodes book count k
+module _ (nodes : Nodes) (book : Book) (k : ℕ) where
+  pub aim-refused : (r : Refusal) → first-refusal (ring-checks nodes book) ≡ some r → reported r ≡ aim-call nodes book k
   unfolding aim-call aim-refusal
-  aim-refused r e = rw (first-refusal-some (ring-checks n have nodes book count) _ r e)
+  aim-refused r e = rw (first-refusal-some (ring-checks nodes book) _ r e)
 
-  module _ {old toks : List ℕ} {m : ℕ} (h : RingLent n have nodes book count old toks m) where
-    pub lent-lends : Lends (take (m - 0) (drop 0 toks)) book count
-    lent-lends = record {
-      size = n;
-      shown = h .tree;
-      is = read-part (h .wrote);
-      in-form = h .lent .tree .in-form;
-      some-leaf = h .lent .some-leaf;
-      few-leaves = h .lent .few-leaves;
-      all-words = h .all-words;
-      groups = h .groups;
-    }
+  module _ {old toks : List ℕ} {m : ℕ} (h : RingLent nodes book old toks m) where
+    pub lent-lends : Lends (take (m - 0) (drop 0 toks)) book
+    lent-lends = record { nodes = nodes; shown = h .tree; is = read-part (h .wrote); lent = h .lent; groups = h .groups }
 
-    pub aim-there : report (aim-of-group book count k (h .tree)) ≡ aim-call n have nodes book count k
+    pub aim-there : report (aim-of-group book k (h .tree)) ≡ aim-call nodes book k
     unfolding aim-call aim-refusal aim-of-group aim-in
     aim-there =
-        rw (first-refusal-none (ring-checks n have nodes book count) _ (h .passes), tree-in-holds n nodes (h .tree) (h .lent .few-leaves) .1 (h .lent .tree))
-        (sym (last-checks (eqb k 0 || ltb count k) (consecutive? (group-numbered book k) (standard (h .tree))) (aim-of (group-numbered book k) (standard (h .tree)))))
+        let G = group-numbered (book .words) k in
+        rw (first-refusal-none (ring-checks nodes book) _ (h .passes), lent-held nodes (h .tree) (h .lent))
+        (sym (last-checks (eqb k 0 || ltb (book .count) k) (consecutive? G (standard (h .tree))) (aim-of G (standard (h .tree)))))

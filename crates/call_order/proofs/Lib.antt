@@ -2,6 +2,7 @@
 pub mod Circle
 pub mod Laws
 pub mod Sizes
+pub mod Orders
 pub mod Calls
 pub mod Runs
 pub mod Aims

@@ -20,7 +20,9 @@ use Rattle.spec_orders.proofs.TextTree.{form-length}
 use Rattle.spec_orders.proofs.Tests.{both, false-if}
 use Rattle.mark_words.specs.Marks.{marked, leaves-of}
 use Rattle.mark_words.proofs.Leaves.{marked-leaf}
+use Rattle.spec_calls.specs.Tables.{Nodes, leaves, Book}
 use Rattle.spec_calls.specs.Book.{group-words, group-in-form?, book-in-form?}
+use Rattle.spec_calls.specs.Demands.{LentTree, LentBook}
 use Rattle.table_book.proofs.Laws.{few-groups}
 use Rattle.call_order.specs.Starts.{GroupWithin}
 
@@ -71,24 +73,29 @@ some-leaf : (l : List ℕ) → not (same l []) ≡ true → 1 ≤ length l
 some-leaf [] e = absurd (true≢false (sym e))
 some-leaf (x ∷ l) e = omega arith
 
-group-form : (n : ℕ) (book : List ℕ) (count k : ℕ) → book-in-form? n book count ≡ true → k < count → group-in-form? n (group-words book k) ≡ true
+group-form : (n : ℕ) (book : Book) (k : ℕ) → book-in-form? n book ≡ true → k < book .count → group-in-form? n (group-words (book .words) k) ≡ true
 unfolding book-in-form?
-group-form n book count k e l =
-    all-passed (λ i. group-in-form? n (group-words book i)) (numbers-from 0 count) .0 (both Iff·rfl Iff·rfl .0 (both {a = leb count 96} Iff·rfl Iff·rfl .0 e .1) .0) k (numbers-in 0 count k (omega arith) (omega arith))
+group-form n book k e l =
+    all-passed (λ i. group-in-form? n (group-words (book .words) i)) (numbers-from 0 (book .count)) .0
+    (both Iff·rfl Iff·rfl .0 (both {a = leb (book .count) 96} Iff·rfl Iff·rfl .0 e .1) .0)
+    k
+    (numbers-in 0 (book .count) k (omega arith) (omega arith))
 
 -- The book's group at place k, and the standard order.
-pub group-within : (n : ℕ) (t : Forest) (book : List ℕ) (count k : ℕ) → InForm n t → 1 ≤ n → n ≤ 256 → 384 ≤ length book
-    → book-in-form? n book count ≡ true → k < count → GroupWithin (group-words book k) (standard t)
-group-within n t book count k f h l w e m =
-    let c = few-groups n book count e in
-    let g = both {a = not (same (leaves-of (group-words book k)) [])} Iff·rfl Iff·rfl .0 (group-form n book count k e m) in
-    let four : length (group-words book k) ≡ 4 = omega (arith, length-take 4 (drop (4 * k) book), length-drop (4 * k) book) in
+pub group-within : (nodes : Nodes) (t : Forest) (book : Book) (k : ℕ) → LentTree nodes t → LentBook (nodes .bins) book → k < book .count
+    → GroupWithin (group-words (book .words) k) (standard t)
+group-within nodes t book k h b m =
+    let words = group-words (book .words) k in
+    let c = few-groups (nodes .bins) book (b .in-form) in
+    let g = both {a = not (same (leaves-of words) [])} Iff·rfl Iff·rfl .0 (group-form (nodes .bins) book k (b .in-form) m) in
+    let four : length words ≡ 4 = omega (arith, length-take 4 (drop (4 * k) (book .words)), length-drop (4 * k) (book .words), b .all-words) in
+    let f = h .tree .in-form in
     record {
       four = four;
-      some-leaf = some-leaf (leaves-of (group-words book k)) (g .0);
-      all-leaves = size-in n t (group-words book k) f h (omega arith) (g .1);
+      some-leaf = some-leaf (leaves-of words) (g .0);
+      all-leaves = size-in (leaves nodes) t words f (h .some-leaf) (omega (arith, h .few-leaves)) (g .1);
       some-place = omega arith;
-      few-places = omega (arith, form-length n t f);
+      few-places = omega (arith, form-length (leaves nodes) t f, h .some-leaf, h .few-leaves);
     }
 
 -- Four words, one by one.

@@ -1,4 +1,5 @@
-// The aim of a book's group in the standard order.
+// The calls of document 01 that read the order of a ring's tree: the standard order, and the aim of a book's group in it. A node table is lent as
+// rows of 257 numbers, with the number of records that they are.
 ghost use mathlib.Core.Path.{_≡_};
 ghost use Prim.Native.Nat.{_+_, _≤_, _<_};
 ghost use lib.ListN.{length};
@@ -6,14 +7,27 @@ ghost use Rattle.spec_orders.specs.Tree.{Forest};
 ghost use Rattle.spec_orders.specs.Conflict.{consecutive?};
 ghost use Rattle.spec_orders.specs.Aim.{start-after, aim-of};
 ghost use Rattle.mark_words.specs.Marks.{marked, leaves-of};
-ghost use Rattle.tree_tokens.specs.Tokens.{plain, encode};
+ghost use Rattle.tree_pieces.specs.Writers.{flat};
+ghost use Rattle.spec_calls.specs.Tables.{lent-nodes, lent-book};
 ghost use Rattle.spec_calls.specs.Refusals.{report};
-ghost use Rattle.spec_calls.specs.Promises.{AimPromise};
+ghost use Rattle.spec_calls.specs.Promises.{OrderPromise, AimPromise};
 ghost use Rattle.call_order.specs.Starts.{enters, starts, GroupWithin, aim-in};
 ghost use Rattle.call_order.specs.Rings.{Lends, aim-of-group};
 use call_checks::Lent;
 use spec_calls::Answer;
 use spec_calls::Refusal;
+
+// Writes the standard order to the first n places of order. Answers n; or refuses (1, 2, 3), and leaves them as they were.
+pub fn order(n: usize, nodes: &[u16], have: usize, order: &mut [u16]) -> Answer
+    ensures { λ r. ⌜ OrderPromise (lent-nodes n have (now (nodes .entry))) (now (order .entry)) (now (order .exit)) (report r) ⌝ }
+{
+    let mut toks = [0u16; 512];
+    let found = call_checks::lent_tree(n, nodes, have, order.len() < n, &mut toks);
+    match found {
+        Lent::Refused(refusal) => Answer::Refused(refusal),
+        Lent::Tree(k) => Answer::Done(tree_order::standard_order(&toks[0..k], order)),
+    }
+}
 
 // Whether the leaf is marked and the one before it is not.
 fn enters(words: &[u64], before: u16, leaf: u16) -> bool
@@ -95,8 +109,8 @@ fn aim_in(words: &[u64], order: &[u16]) -> Answer
 
 // Checks 9 and 10 on the book's group with this number, and its aim in the standard order of the tree.
 fn group_aim(toks: &[u16], book: &[u64], count: usize, group: usize) -> Answer
-    requires { ⌜ Lends (now toks) (now book) count ⌝ }
-    ensures { λ r. ⌜ ((t : Forest) → now (toks .entry) ≡ encode (plain t) → r ≡ aim-of-group (now (book .entry)) count group t) ⌝ }
+    requires { ⌜ Lends (now toks) (lent-book (now book) count) ⌝ }
+    ensures { λ r. ⌜ ((t : Forest) → now (toks .entry) ≡ flat t → r ≡ aim-of-group (lent-book (now (book .entry)) count) group t) ⌝ }
 {
     if group == 0 {
         return Answer::Refused(Refusal::NoSuchGroup);
@@ -113,7 +127,7 @@ fn group_aim(toks: &[u16], book: &[u64], count: usize, group: usize) -> Answer
 
 // The leaf at which the group with this number is aimed (document 01's aim), in the standard order.
 pub fn aim(n: usize, nodes: &[u16], have: usize, book: &[u64], count: usize, group: usize) -> Answer
-    ensures { λ r. ⌜ AimPromise n (now (nodes .entry)) have (now (book .entry)) count group (report r) ⌝ }
+    ensures { λ r. ⌜ AimPromise (lent-nodes n have (now (nodes .entry))) (lent-book (now (book .entry)) count) group (report r) ⌝ }
 {
     let mut toks = [0u16; 512];
     match call_checks::lent_ring(n, nodes, have, book, count, &mut toks) {

@@ -9,13 +9,14 @@ use Rattle.spec_orders.specs.Tree.{Forest}
 use Rattle.spec_orders.specs.TreeText.{tree-text}
 use Rattle.spec_orders.proofs.TextTree.{text-length}
 use Rattle.spec_calls.specs.declared.Refusal.{Refusal}
-use Rattle.spec_calls.specs.Tables.{over}
+use Rattle.spec_calls.specs.Tables.{Nodes, leaves, over}
 use Rattle.spec_calls.specs.Refusals.{reply, reported, first-refusal, short}
 use Rattle.spec_calls.specs.Calls.{filled-as, tree-checks, write-refusal, write-call}
-use Rattle.spec_calls.proofs.NodeTables.{tree-in-holds}
+use Rattle.spec_calls.proofs.Demands.{lent-held}
 use Rattle.tree_tokens.specs.Tokens.{tree, plain, encode, Wrote}
 use Rattle.tree_tokens.proofs.Sequences.{tree-plain}
 use Rattle.tree_tokens.proofs.Writes.{read-part}
+use Rattle.tree_pieces.specs.Writers.{flat}
 use Rattle.table_row.specs.Rows.{Formed}
 use Rattle.table_store.proofs.Forms.{formed-is}
 use Rattle.call_checks.specs.Lent.{TreeLent}
@@ -33,19 +34,20 @@ wrote-fills t {old} {mid} {new} {k} {m} a b =
     let h : new ≡ over (tree-text (tree (plain t)) ++ replicate (2048 - k) 0) old = b .text in
     record { long = a .many ∙ rw same-tree; bytes = h ∙ rw (a .many, same-tree) }
 
-module _ (n have : ℕ) (nodes bytes : List ℕ) where
-  pub write-refused : (r : Refusal) → first-refusal (tree-checks n have nodes (short 2048 bytes)) ≡ some r → filled-as (reported r) bytes ≡ write-call n have nodes bytes
+module _ (nodes : Nodes) (bytes : List ℕ) where
+  pub write-refused : (r : Refusal) → first-refusal (tree-checks nodes (short 2048 bytes)) ≡ some r → filled-as (reported r) bytes ≡ write-call nodes bytes
   unfolding write-call write-refusal
   write-refused r e = rw e
 
-  module _ {old toks : List ℕ} {k : ℕ} (h : TreeLent n have nodes (short 2048 bytes) old toks k) where
+  module _ {old toks : List ℕ} {k : ℕ} (h : TreeLent nodes (short 2048 bytes) old toks k) where
     pub lent-formed : Formed (take (k - 0) (drop 0 toks))
+    unfolding flat
     lent-formed =
-        record { size = n; shown = h .tree; is = read-part (h .wrote); in-form = h .lent .tree .in-form; few = h .lent .few-leaves }
+        record { size = leaves nodes; shown = h .tree; is = read-part (h .wrote); in-form = h .lent .tree .in-form; few = h .lent .few-leaves }
 
     pub lent-long : 2048 ≤ length bytes
     lent-long = ltb-false (length bytes) 2048 (h .long)
 
-    pub write-done : {new : List ℕ} {m : ℕ} → Fills (h .tree) bytes new m → filled-as (reply 0 m) new ≡ write-call n have nodes bytes
+    pub write-done : {new : List ℕ} {m : ℕ} → Fills (h .tree) bytes new m → filled-as (reply 0 m) new ≡ write-call nodes bytes
     unfolding write-call write-refusal
-    write-done f = rw (h .passes, tree-in-holds n nodes (h .tree) (h .lent .few-leaves) .1 (h .lent .tree), f .long, f .bytes)
+    write-done f = rw (h .passes, lent-held nodes (h .tree) (h .lent), f .long, f .bytes)

@@ -8,26 +8,28 @@ use Rattle.spec_orders.specs.Form.{InForm}
 use Rattle.spec_orders.specs.TreeText.{tree, refused, Reads, accepted}
 use Rattle.spec_calls.specs.declared.Refusal.{Refusal}
 use Rattle.spec_calls.specs.declared.Refusal.the-variants.{TreeText}
-use Rattle.spec_calls.specs.Tables.{over}
+use Rattle.spec_calls.specs.Tables.{Nodes, leaves, Book, over}
 use Rattle.spec_calls.specs.Book.{emptied}
 use Rattle.spec_calls.specs.NodeTable.{table-of}
-use Rattle.spec_calls.specs.Refusals.{reply, reported, first-refusal, short}
-use Rattle.spec_calls.specs.Calls.{ring, table-checks, open-refusal, ReadCall, unread, read, read-outcome}
+use Rattle.spec_calls.specs.Refusals.{reply, first-refusal, short}
+use Rattle.spec_calls.specs.Calls.{ring, unchanged, table-checks, open-refusal, ReadCall, unread, read, read-outcome}
 
 pub reads-form : {n : ℕ} {x : List ℕ} {t : Forest} → Reads n x (tree t) → InForm n t
 reads-form (accepted f e) = f
 
-module _ (n have : ℕ) (x nodes book : List ℕ) where
-  pub not-read : (r : Refusal) → first-refusal (table-checks n have nodes (short 384 book)) ≡ some r → ReadCall n have x nodes book (ring (reported r) nodes book)
+module _ (nodes : Nodes) (book : Book) (x : List ℕ) where
+  pub not-read : (r : Refusal) → first-refusal (table-checks nodes (short 384 (book .words))) ≡ some r → ReadCall nodes book x (unchanged r nodes book)
   unfolding open-refusal
   not-read r e = unread e
 
-  module _ (e : first-refusal (table-checks n have nodes (short 384 book)) ≡ none) where
-    pub refused-read : (p : ℕ) → Reads n x (refused p) → ReadCall n have x nodes book (ring (reported (TreeText p)) nodes book)
+  module _ (e : first-refusal (table-checks nodes (short 384 (book .words))) ≡ none) where
+    pub refused-read : (p : ℕ) → Reads (leaves nodes) x (refused p) → ReadCall nodes book x (unchanged (TreeText p) nodes book)
     unfolding open-refusal read-outcome
     refused-read p h = read {f = refused p} e h
 
-    pub tree-read : (t : Forest) (nodes′ book′ : List ℕ) → Reads n x (tree t) → nodes′ ≡ over (table-of t) nodes → book′ ≡ emptied book
-        → ReadCall n have x nodes book (ring (reply 0 0) nodes′ book′)
+    pub tree-read : (t : Forest) (rows′ words′ : List ℕ) → Reads (leaves nodes) x (tree t) → rows′ ≡ over (table-of t) (nodes .rows) → words′ ≡ emptied (book .words)
+        → ReadCall nodes book x (ring (reply 0 0) rows′ words′)
     unfolding open-refusal read-outcome
-    tree-read t nodes′ book′ h p q = subst (λ y. ReadCall n have x nodes book (ring (reply 0 0) y book′)) (sym p) (subst (λ z. ReadCall n have x nodes book (ring (reply 0 0) (over (table-of t) nodes) z)) (sym q) (read {f = tree t} e h))
+    tree-read t rows′ words′ h p q =
+        subst (λ y. ReadCall nodes book x (ring (reply 0 0) y words′)) (sym p)
+        (subst (λ z. ReadCall nodes book x (ring (reply 0 0) (over (table-of t) (nodes .rows)) z)) (sym q) (read {f = tree t} e h))

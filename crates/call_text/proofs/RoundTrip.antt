@@ -13,17 +13,16 @@ use Rattle.spec_orders.specs.TreeText.{tree-text, Found, tree, Reads, accepted}
 use Rattle.spec_orders.proofs.TextOnce.{reads-once}
 use Rattle.spec_calls.specs.declared.Refusal.{Refusal}
 use Rattle.spec_calls.specs.declared.Refusal.the-variants.{TreeText}
-use Rattle.spec_calls.specs.Tables.{over, padded}
+use Rattle.spec_calls.specs.Tables.{Nodes, lent-nodes, leaves, Book, over, padded}
 use Rattle.spec_calls.specs.Book.{emptied}
 use Rattle.spec_calls.specs.NodeTable.{table-of, Holds}
 use Rattle.spec_calls.specs.Refusals.{Reply, reply, reported, short}
 use Rattle.spec_calls.specs.Calls.{Ring, Filled, filled-as, filled, of-tree, open-refusal, write-refusal, write-call, ReadCall, unread, read, read-outcome}
 use Rattle.spec_calls.specs.Demands.{LentTree}
-use Rattle.spec_calls.proofs.NodeTables.{tree-in-holds, table-length, over-holds}
-use Rattle.spec_calls.proofs.Demands.{size-fine, nodes-fine}
+use Rattle.spec_calls.proofs.NodeTables.{table-length, over-holds}
+use Rattle.spec_calls.proofs.Demands.{size-fine, nodes-fine, lent-held}
 use Rattle.spec_calls.proofs.Reports.{refused-number}
-use Rattle.call_checks.specs.Lent.{TableLent}
-use Rattle.call_checks.proofs.Laws.{tables-lent}
+use Rattle.call_checks.proofs.Laws.{tables-whole}
 
 -- ---- written, then read
 
@@ -35,59 +34,72 @@ filled-done (some r) v xs table new m e = not-refusal r (sym (ap (λ (x : Filled
 filled-done none v xs table new m e = (ap (λ (x : Filled). x .answer .value) e, ap (λ (x : Filled). x .table) e)
 
 -- The bytes up to the answered length are the text.
-written-text : (n have : ℕ) (nodes : List ℕ) (t : Forest) → LentTree n have nodes t → (bytes new : List ℕ) (m : ℕ)
-    → filled-as (reply 0 m) new ≡ write-call n have nodes bytes → take m new ≡ tree-text t
+written-text : (nodes : Nodes) (t : Forest) → LentTree nodes t → (bytes new : List ℕ) (m : ℕ)
+    → filled-as (reply 0 m) new ≡ write-call nodes bytes → take m new ≡ tree-text t
 unfolding write-call
-written-text n have nodes t h bytes new m e =
-    let i = tree-in-holds n nodes t (h .few-leaves) .1 (h .tree) in
-    let d = filled-done (write-refusal n have nodes bytes) _ _ bytes new m e in
+written-text nodes t h bytes new m e =
+    let i = lent-held nodes t h in
+    let d = filled-done (write-refusal nodes bytes) _ _ bytes new m e in
     let l : m ≡ length (tree-text t) = d .0 ∙ ap (λ o. length (of-tree o tree-text)) i in
     let w : new ≡ over (padded 2048 (tree-text t)) bytes = d .1 ∙ ap (λ o. over (padded 2048 (of-tree o tree-text)) bytes) i in
     ap (λ k. take k new) l ∙ ap (take (length (tree-text t))) (w ∙ append-assoc (tree-text t) _ _) ∙ take-append-seam (tree-text t) _
 
--- A tree written and read is the same tree, in any ring that is lent whole.
-pub written-read : (n have : ℕ) (nodes : List ℕ) (t : Forest) → LentTree n have nodes t → (bytes new : List ℕ) (m : ℕ) → filled-as (reply 0 m) new ≡ write-call n have nodes bytes
-    → (have₂ : ℕ) (nodes₂ book₂ : List ℕ) → open-refusal n have₂ nodes₂ book₂ ≡ none → (y : Ring) → ReadCall n have₂ (take m new) nodes₂ book₂ y
-    → (y .answer ≡ reply 0 0) × Holds n (y .nodes) t × (y .book ≡ emptied book₂)
+-- A tree written and read is the same tree, in any ring of as many leaves that is lent whole.
+pub written-read : (nodes : Nodes) (t : Forest) → LentTree nodes t → (bytes new : List ℕ) (m : ℕ) → filled-as (reply 0 m) new ≡ write-call nodes bytes
+    → (nodes₂ : Nodes) (book₂ : Book) → leaves nodes₂ ≡ leaves nodes → open-refusal nodes₂ book₂ ≡ none → (y : Ring) → ReadCall nodes₂ book₂ (take m new) y
+    → (y .answer ≡ reply 0 0) × Holds (leaves nodes₂) (y .rows) t × (y .words ≡ emptied (book₂ .words))
 unfolding read-outcome
-written-read n have nodes t h bytes new m e have₂ nodes₂ book₂ o y (unread p) = absurd (let q = sym p ∙ o in let z : _≡_ {A = ℕ} 0 1 = cc in omega arith)
-written-read n have nodes t h bytes new m e have₂ nodes₂ book₂ o y (read {f = f} p r) =
-    subst (λ g. (read-outcome g nodes₂ book₂ .answer ≡ reply 0 0) × Holds n (read-outcome g nodes₂ book₂ .nodes) t × (read-outcome g nodes₂ book₂ .book ≡ emptied book₂))
-    (reads-once (accepted (h .tree .in-form) refl) (subst (λ x. Reads n x f) (written-text n have nodes t h bytes new m e) r))
-    (held n t nodes₂ book₂ (h .tree .in-form) (h .few-leaves))
-  where
-    held : (n : ℕ) (t : Forest) (nodes book : List ℕ) → InForm n t → n ≤ 256
-        → (read-outcome (tree t) nodes book .answer ≡ reply 0 0) × Holds n (read-outcome (tree t) nodes book .nodes) t × (read-outcome (tree t) nodes book .book ≡ emptied book)
-    held n t nodes book f l = (refl, over-holds n t nodes f l, refl)
+written-read nodes t h bytes new m e nodes₂ book₂ s o y (unread p) = absurd (let q = sym p ∙ o in let z : _≡_ {A = ℕ} 0 1 = cc in omega arith)
+written-read nodes t h bytes new m e nodes₂ book₂ s o y (read {f = f} p r) =
+    let form = subst (λ k. InForm k t) (sym s) (h .tree .in-form) in
+    subst (λ g. (read-outcome g nodes₂ book₂ .answer ≡ reply 0 0) × Holds (leaves nodes₂) (read-outcome g nodes₂ book₂ .rows) t × (read-outcome g nodes₂ book₂ .words ≡ emptied (book₂ .words)))
+    (reads-once (accepted form refl) (subst (λ x. Reads (leaves nodes₂) x f) (written-text nodes t h bytes new m e) r))
+    (refl, over-holds (leaves nodes₂) t (nodes₂ .rows) form (omega (arith, s, h .few-leaves)), refl)
 
 -- ---- read, then written
 
 over-long : (xs old : List ℕ) (k : ℕ) → k ≤ length xs → k ≤ length (over xs old)
 over-long xs old k h = omega (arith, length-append xs (drop (length xs) old))
 
-rewritten : (n have : ℕ) (nodes book bytes : List ℕ) (t : Forest) → TableLent n have nodes (short 384 book) → InForm n t → 2048 ≤ length bytes
-    → write-call n have (over (table-of t) nodes) bytes ≡ filled-as (reply 0 (length (tree-text t))) (over (padded 2048 (tree-text t)) bytes)
+-- The node table with these rows.
+abbrev with-rows : Nodes → List ℕ → Nodes
+with-rows nodes rows = lent-nodes (nodes .bins) (nodes .records) rows
+
+rewritten : (nodes : Nodes) (t : Forest) → LentTree nodes t → (bytes : List ℕ) → 2048 ≤ length bytes
+    → write-call nodes bytes ≡ filled-as (reply 0 (length (tree-text t))) (over (padded 2048 (tree-text t)) bytes)
 unfolding write-call write-refusal
-rewritten n have nodes book bytes t l f b =
+rewritten nodes t h bytes b =
     rw (
-      size-fine n (l .some-leaf) (l .few-leaves),
-      nodes-fine have (over (table-of t) nodes) (l .all-records) (over-long (table-of t) nodes 65792 (omega (arith, table-length n t f (l .few-leaves)))),
+      size-fine (nodes .bins) (h .some-leaf) (h .few-leaves),
+      nodes-fine nodes (h .all-records) (h .all-rows),
       le-ltb (length bytes) 2048 b,
-      tree-in-holds n (over (table-of t) nodes) t (l .few-leaves) .1 (over-holds n t nodes f (l .few-leaves)),
+      lent-held nodes t h,
     )
 
--- An accepted text written again is the same text.
-pub read-written : (n have : ℕ) (x nodes book : List ℕ) (y : Ring) → ReadCall n have x nodes book y → (v : ℕ) → y .answer ≡ reply 0 v → (bytes : List ℕ) → 2048 ≤ length bytes
-    → write-call n have (y .nodes) bytes ≡ filled-as (reply 0 (length x)) (over (padded 2048 x) bytes)
-unfolding read-outcome open-refusal
-read-written n have x nodes book y (unread {r = r} p) v e bytes b = not-refusal r e
-read-written n have x nodes book y (read {f = f} p r) v e bytes b = go f r e
-  where
-    lent : (n have : ℕ) (nodes book : List ℕ) → open-refusal n have nodes book ≡ none → TableLent n have nodes (short 384 book)
-    lent n have nodes book p = tables-lent n have nodes (short 384 book) p
+-- The node table after a tree was read.
+read-lent : (nodes : Nodes) (book : Book) (t : Forest) → open-refusal nodes book ≡ none → InForm (leaves nodes) t
+    → LentTree (with-rows nodes (over (table-of t) (nodes .rows))) t
+unfolding open-refusal
+read-lent nodes book t p f =
+    let w = tables-whole nodes (short 384 (book .words)) p in
+    record {
+      some-leaf = w .0;
+      few-leaves = w .1;
+      all-records = w .2;
+      all-rows = over-long (table-of t) (nodes .rows) 65792 (omega (arith, table-length (leaves nodes) t f (w .1)));
+      tree = over-holds (leaves nodes) t (nodes .rows) f (w .1);
+    }
 
-    go : (f : Found) → Reads n x f → read-outcome f nodes book .answer ≡ reply 0 v
-        → write-call n have (read-outcome f nodes book .nodes) bytes ≡ filled-as (reply 0 (length x)) (over (padded 2048 x) bytes)
+-- An accepted text written again is the same text.
+pub read-written : (nodes : Nodes) (book : Book) (x : List ℕ) (y : Ring) → ReadCall nodes book x y → (v : ℕ) → y .answer ≡ reply 0 v → (bytes : List ℕ) → 2048 ≤ length bytes
+    → write-call (with-rows nodes (y .rows)) bytes ≡ filled-as (reply 0 (length x)) (over (padded 2048 x) bytes)
+unfolding read-outcome
+read-written nodes book x y (unread {r = r} p) v e bytes b = not-refusal r e
+read-written nodes book x y (read {f = f} p r) v e bytes b = go f r e
+  where
+    go : (f : Found) → Reads (leaves nodes) x f → read-outcome f nodes book .answer ≡ reply 0 v
+        → write-call (with-rows nodes (read-outcome f nodes book .rows)) bytes ≡ filled-as (reply 0 (length x)) (over (padded 2048 x) bytes)
     go (tree t) (accepted g q) e =
-        subst (λ z. write-call n have (over (table-of t) nodes) bytes ≡ filled-as (reply 0 (length z)) (over (padded 2048 z) bytes)) (sym q) (rewritten n have nodes book bytes t (lent n have nodes book p) g b)
+        subst (λ z. write-call (with-rows nodes (over (table-of t) (nodes .rows))) bytes ≡ filled-as (reply 0 (length z)) (over (padded 2048 z) bytes)) (sym q)
+        (rewritten (with-rows nodes (over (table-of t) (nodes .rows))) t (read-lent nodes book t p g) bytes b)
     go (Found.refused q) r e = not-refusal (TreeText q) e

@@ -4,9 +4,11 @@ ghost use Prim.Native.Nat.{_≤_, _<_};
 ghost use lib.ListN.{length, replicate};
 ghost use Rattle.spec_orders.specs.Tree.{Forest};
 ghost use Rattle.spec_orders.specs.TreeText.{text};
+ghost use Rattle.spec_calls.specs.Tables.{lent-nodes, lent-book};
 ghost use Rattle.spec_calls.specs.Refusals.{report};
 ghost use Rattle.spec_calls.specs.Promises.{WritePromise, ReadPromise};
-ghost use Rattle.tree_tokens.specs.Tokens.{plain, encode, Wrote};
+ghost use Rattle.tree_tokens.specs.Tokens.{Wrote};
+ghost use Rattle.tree_pieces.specs.Writers.{flat};
 ghost use Rattle.table_row.specs.Rows.{Formed};
 ghost use Rattle.call_text.specs.Fills.{Fills};
 use call_checks::Lent;
@@ -31,7 +33,7 @@ fn zeros(k: usize, out: &mut [u8]) -> usize
 // Writes the text of a tree in form and zeros up to 2,048 bytes; says how long the text is.
 fn fill(toks: &[u16], bytes: &mut [u8]) -> usize
     requires { ⌜ (Formed (now toks)) × (2048 ≤ length (now bytes)) ⌝ }
-    ensures { λ r. ⌜ ((t : Forest) → now (toks .entry) ≡ encode (plain t)
+    ensures { λ r. ⌜ ((t : Forest) → now (toks .entry) ≡ flat t
         → Fills t (now (bytes .entry)) (now (bytes .exit)) r) ⌝ }
 {
     let m = text_write::tree_text(toks, bytes);
@@ -41,7 +43,7 @@ fn fill(toks: &[u16], bytes: &mut [u8]) -> usize
 
 // Writes the tree text and zeros up to 2,048 bytes; answers the text's length.
 pub fn write(n: usize, nodes: &[u16], have: usize, bytes: &mut [u8]) -> Answer
-    ensures { λ r. ⌜ WritePromise n (now (nodes .entry)) have (now (bytes .entry)) (now (bytes .exit)) (report r) ⌝ }
+    ensures { λ r. ⌜ WritePromise (lent-nodes n have (now (nodes .entry))) (now (bytes .entry)) (now (bytes .exit)) (report r) ⌝ }
 {
     let mut toks = [0u16; 512];
     match call_checks::lent_tree(n, nodes, have, bytes.len() < 2048, &mut toks) {
@@ -53,7 +55,7 @@ pub fn write(n: usize, nodes: &[u16], have: usize, bytes: &mut [u8]) -> Answer
 // Reads a tree text for n leaves, lent exactly: the node table gets its tree, and the book is emptied. Answers the count of groups, 0; or refuses
 // (1, 2, 12), and leaves both tables as they were.
 pub fn read(n: usize, nodes: &mut [u16], have: usize, book: &mut [u64], text: &[u8]) -> Answer
-    ensures { λ r. ⌜ ReadPromise n (now (nodes .entry)) have (now (book .entry)) (now (text .entry)) (now (nodes .exit)) (now (book .exit)) (report r) ⌝ }
+    ensures { λ r. ⌜ ReadPromise (lent-nodes n have (now (nodes .entry))) (lent-book (now (book .entry)) 0) (now (text .entry)) (now (nodes .exit)) (now (book .exit)) (report r) ⌝ }
 {
     if let Checked::Bad(refusal) = call_checks::check_tables(n, nodes, have, book.len() < 384) {
         return Answer::Refused(refusal);

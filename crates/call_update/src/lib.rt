@@ -1,15 +1,15 @@
-// The calls of document 01 on a ring's lent tables: opening, joining, trying a group, and the standard order. A node table is lent as rows of
-// 257 numbers, with the number of records that they are.
+// The calls of document 01 that make and change a ring's lent tables: opening it, joining a group, trying one. A node table is lent as rows of 257
+// numbers, with the number of records that they are.
+ghost use Rattle.spec_calls.specs.Tables.{lent-nodes, lent-book};
 ghost use Rattle.spec_calls.specs.Refusals.{report};
-ghost use Rattle.spec_calls.specs.Promises.{OpenPromise, JoinPromise, TrialPromise, OrderPromise};
+ghost use Rattle.spec_calls.specs.Promises.{OpenPromise, JoinPromise, TrialPromise};
 use call_attempt::Tried;
-use call_checks::Lent;
 use spec_calls::Answer;
 use table_book::Checked;
 
 // Opens a ring of n leaves: its node table gets the fresh tree, and its book is emptied. Answers the count of groups, 0; or refuses (1, 2).
 pub fn open(n: usize, nodes: &mut [u16], have: usize, book: &mut [u64]) -> Answer
-    ensures { λ r. ⌜ OpenPromise n (now (nodes .entry)) have (now (book .entry)) (now (nodes .exit)) (now (book .exit)) (report r) ⌝ }
+    ensures { λ r. ⌜ OpenPromise (lent-nodes n have (now (nodes .entry))) (lent-book (now (book .entry)) 0) (now (nodes .exit)) (now (book .exit)) (report r) ⌝ }
 {
     if let Checked::Bad(refusal) = call_checks::check_tables(n, nodes, have, book.len() < 384) {
         return Answer::Refused(refusal);
@@ -31,7 +31,7 @@ pub fn join(
     count: usize,
     list: &[u16],
 ) -> Answer
-    ensures { λ r. ⌜ JoinPromise n (now (nodes .entry)) have (now (book .entry)) count (now (list .entry)) (now (nodes .exit)) (now (book .exit)) (report r) ⌝ }
+    ensures { λ r. ⌜ JoinPromise (lent-nodes n have (now (nodes .entry))) (lent-book (now (book .entry)) count) (now (list .entry)) (now (nodes .exit)) (now (book .exit)) (report r) ⌝ }
 {
     let mut toks = [0u16; 512];
     let tried = call_attempt::attempt(n, nodes, have, book, count, list, &mut toks);
@@ -54,24 +54,12 @@ pub fn trial(
     count: usize,
     list: &[u16],
 ) -> Answer
-    ensures { λ r. ⌜ TrialPromise n (now (nodes .entry)) have (now (book .entry)) count (now (list .entry)) (report r) ⌝ }
+    ensures { λ r. ⌜ TrialPromise (lent-nodes n have (now (nodes .entry))) (lent-book (now (book .entry)) count) (now (list .entry)) (report r) ⌝ }
 {
     let mut spare = [0u16; 512];
     let tried = call_attempt::attempt(n, nodes, have, book, count, list, &mut spare);
     match tried {
         Tried::Refused(refusal) => Answer::Refused(refusal),
         Tried::Joined(_) => Answer::Done(count + 1),
-    }
-}
-
-// Writes the standard order to the first n places of order. Answers n; or refuses (1, 2, 3), and leaves them as they were.
-pub fn order(n: usize, nodes: &[u16], have: usize, order: &mut [u16]) -> Answer
-    ensures { λ r. ⌜ OrderPromise n (now (nodes .entry)) have (now (order .entry)) (now (order .exit)) (report r) ⌝ }
-{
-    let mut toks = [0u16; 512];
-    let found = call_checks::lent_tree(n, nodes, have, order.len() < n, &mut toks);
-    match found {
-        Lent::Refused(refusal) => Answer::Refused(refusal),
-        Lent::Tree(k) => Answer::Done(tree_order::standard_order(&toks[0..k], order)),
     }
 }

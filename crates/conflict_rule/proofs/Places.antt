@@ -11,6 +11,7 @@ use Rattle.spec_orders.proofs.ListLaws.{all-left, all-right}
 use Rattle.spec_orders.proofs.Members.{in-all}
 use Rattle.spec_orders.proofs.Numbers.{numbers-length, numbers-append, in-range}
 use Rattle.mark_words.specs.Marks.{marked}
+use Rattle.spec_calls.specs.Tables.{lent-book}
 use Rattle.spec_calls.specs.Book.{group-words, groups}
 use Rattle.table_book.proofs.Laws.{group-part}
 use Rattle.conflict_leaves.specs.StandIn.{group}
@@ -24,7 +25,7 @@ numbered book a (suc m) =
     let e : a ≡ suc a - 1 = omega arith in
     ap₂ (λ (G : Restriction) (l : List Restriction). G ∷ l) (ap (λ (k : ℕ). marked (group-words book k)) e) (numbered book (suc a) m)
 
-pub groups-numbered : (book : List ℕ) (count : ℕ) → groups book count ≡ map (group book) (numbers-from 1 count)
+pub groups-numbered : (book : List ℕ) (count : ℕ) → groups (lent-book book count) ≡ map (group book) (numbers-from 1 count)
 unfolding groups
 groups-numbered book count = numbered book 0 count
 
@@ -32,7 +33,7 @@ map-length : {A B : Type 0} (f : A → B) (l : List A) → length (map f l) ≡ 
 map-length f [] = refl
 map-length f (x ∷ l) = ap suc (map-length f l)
 
-pub groups-length : (book : List ℕ) (count : ℕ) → length (groups book count) ≡ count
+pub groups-length : (book : List ℕ) (count : ℕ) → length (groups (lent-book book count)) ≡ count
 groups-length book count = ap length (groups-numbered book count) ∙ map-length (group book) (numbers-from 1 count) ∙ numbers-length 1 count
 
 -- The part of the book that a function is lent.

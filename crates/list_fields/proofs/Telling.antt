@@ -12,6 +12,7 @@ use Rattle.spec_orders.specs.Join.{join}
 use Rattle.spec_orders.specs.Conflict.{conflict-list}
 use Rattle.spec_orders.specs.Aim.{aim-of}
 use Rattle.spec_orders.specs.Circles.{bytes}
+use Rattle.spec_calls.specs.Tables.{lent-book}
 use Rattle.spec_calls.specs.Book.{groups}
 use Rattle.spec_calls.specs.Calls.{conflicts-of}
 use Rattle.list_ring.specs.Ledger.{Outcome, kept, refused, RingState, joined, outcome, next}
@@ -39,7 +40,7 @@ module _ (names : List (List ℕ)) (ord : List ℕ) (n : ℕ) (s : RingState) (l
     kept-told none h l = absurd (omega (arith, h .counted))
 
     refused-told : (o : Option Forest) → After (joined n s (elem list) o) → after ≤ length (s .groups)
-        → bytes " refused - " ++ commas (take (length (s .groups) - 0) (drop 0 table)) (conflicts-of n book (length (s .groups)) list)
+        → bytes " refused - " ++ commas (take (length (s .groups) - 0) (drop 0 table)) (conflicts-of n (lent-book book (length (s .groups))) list)
         ≡ fields names ord s list (joined n s (elem list) o)
     unfolding fields conflicts-of
     refused-told (some t) h l = absurd (omega (arith, h .counted, length-append (s .groups) (elem list ∷ [])))
@@ -55,8 +56,8 @@ module _ (names : List (List ℕ)) (ord : List ℕ) (n : ℕ) (s : RingState) (l
       tells-kept l = kept-told (join (elem list) (s .tree)) (subst After is h) l ∙ ap (fields names ord s list) (sym is)
 
       pub tells-refused : {count : ℕ} → count ≡ length (s .groups) → after ≤ length (s .groups)
-          → bytes " refused - " ++ commas (take (count - 0) (drop 0 table)) (conflicts-of n book count list) ≡ fields names ord s list (outcome n s list)
+          → bytes " refused - " ++ commas (take (count - 0) (drop 0 table)) (conflicts-of n (lent-book book count) list) ≡ fields names ord s list (outcome n s list)
       tells-refused {count} e l =
-          ap (λ (i : ℕ). bytes " refused - " ++ commas (take (i - 0) (drop 0 table)) (conflicts-of n book i list)) e
+          ap (λ (i : ℕ). bytes " refused - " ++ commas (take (i - 0) (drop 0 table)) (conflicts-of n (lent-book book i) list)) e
           ∙ refused-told (join (elem list) (s .tree)) (subst After is h) l
           ∙ ap (fields names ord s list) (sym is)

@@ -7,6 +7,7 @@ ghost use Rattle.spec_orders.specs.Lists.{elem};
 ghost use Rattle.spec_orders.specs.CircularOrder.{WellFormed};
 ghost use Rattle.spec_orders.specs.Aim.{aim-of};
 ghost use Rattle.spec_orders.specs.Circles.{bytes};
+ghost use Rattle.spec_calls.specs.Tables.{lent-book};
 ghost use Rattle.spec_calls.specs.Calls.{conflicts-of};
 ghost use Rattle.list_bytes.specs.Appends.{Appends};
 ghost use Rattle.file_read.specs.RingFile.{FileHolds};
@@ -28,7 +29,7 @@ fn put_refused(
 ) -> usize
     requires { ⌜ (n ≤ 256) × (384 ≤ length (now book)) × (count ≤ 96) × (WellFormed n (now list)) × (count ≤ length (now table)) × (at + 2048 ≤ length (now out)) ⌝ }
     ensures { λ r. ⌜ (r ≤ at + 2048)
-        × (Appends (bytes " refused - " ++ commas (take (count - 0) (drop 0 (now (table .entry)))) (conflicts-of n (now (book .entry)) count (now (list .entry))))
+        × (Appends (bytes " refused - " ++ commas (take (count - 0) (drop 0 (now (table .entry)))) (conflicts-of n (lent-book (now (book .entry)) count) (now (list .entry))))
         at (now (out .entry)) (now (out .exit)) r) ⌝ }
 {
     let mut numbers = [0u16; 96];

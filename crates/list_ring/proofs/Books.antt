@@ -11,6 +11,7 @@ use Rattle.spec_orders.specs.CircularOrder.{Restriction}
 use Rattle.spec_orders.proofs.Numbers.{numbers-append, in-range}
 use Rattle.mark_words.specs.Marks.{marked, words-of}
 use Rattle.mark_words.proofs.Words.{length-words}
+use Rattle.spec_calls.specs.Tables.{lent-book}
 use Rattle.spec_calls.specs.Book.{group-words, groups, booked}
 
 map-agree : {B : Type 0} (f g : ℕ → B) (l : List ℕ) → ((x : ℕ) → In x l → f x ≡ g x) → map f l ≡ map g l
@@ -38,7 +39,7 @@ module _ (book : List ℕ) (c : ℕ) (G : Restriction) (h : 4 * c + 4 ≤ length
       ∙ ap (λ (k : ℕ). take k (words-of 4 G ++ drop (4 * c + 4) book)) (sym (length-words 4 G))
       ∙ take-append-seam (words-of 4 G) (drop (4 * c + 4) book)
 
-  pub groups-booked : groups (booked book c G) (c + 1) ≡ groups book c ++ (marked (words-of 4 G) ∷ [])
+  pub groups-booked : groups (lent-book (booked book c G) (c + 1)) ≡ groups (lent-book book c) ++ (marked (words-of 4 G) ∷ [])
   unfolding groups
   groups-booked =
       let z : 0 + c ≡ c = omega arith in

@@ -16,6 +16,7 @@ use Rattle.spec_orders.proofs.Fresh.{fresh-form}
 use Rattle.spec_orders.proofs.Joining.{join-some}
 use Rattle.mark_words.specs.Marks.{marked, words-of}
 use Rattle.mark_words.proofs.Leaves.{marked-group}
+use Rattle.spec_calls.specs.Tables.{lent-book}
 use Rattle.spec_calls.specs.Book.{groups, booked}
 use Rattle.tree_tokens.specs.Tokens.{Wrote}
 use Rattle.tree_tokens.proofs.Writes.{read-part, wrote-most}
@@ -149,7 +150,7 @@ module _ (n : ℕ) (s : RingState) (line : ℕ) (list : List ℕ) {toks book tab
           form = join-some n (elem list) (s .tree) t (h .form) (o .2) .form;
           tokens = subst (λ (i : ℕ). take (i - 0) (drop 0 toks′) ≡ flat t) q (read-part v);
           all-tokens = omega (arith, wrote-most v, q);
-          in-book = ap (λ (c : List ℕ). groups c (count + 1)) b
+          in-book = ap (λ (c : List ℕ). groups (lent-book c (count + 1))) b
               ∙ groups-booked book count (elem list) (omega (arith, kept-few))
               ∙ rw (h .in-book, same);
           in-table = table-more table count line (omega (arith, kept-few)) ∙ rw (h .in-table);

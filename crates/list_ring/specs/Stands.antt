@@ -6,6 +6,7 @@ use lib.ListN.{length, take, drop}
 use Rattle.spec_orders.specs.CircularOrder.{WellFormed}
 use Rattle.spec_orders.specs.Tree.{Forest}
 use Rattle.spec_orders.specs.Form.{InForm}
+use Rattle.spec_calls.specs.Tables.{lent-book}
 use Rattle.spec_calls.specs.Book.{groups}
 use Rattle.tree_tokens.specs.Tokens.{Wrote}
 use Rattle.tree_pieces.specs.Writers.{flat}
@@ -19,7 +20,7 @@ pub record RingStands (n : ℕ) (s : RingState) (toks : List ℕ) (m : ℕ) (boo
   pub form : InForm n (s .tree)
   pub tokens : take (m - 0) (drop 0 toks) ≡ flat (s .tree)
   pub all-tokens : m ≤ length toks
-  pub in-book : groups book count ≡ s .groups
+  pub in-book : groups (lent-book book count) ≡ s .groups
   pub in-table : take (count - 0) (drop 0 table) ≡ s .lines
   pub counted : count ≡ length (s .groups)
   pub few : count ≤ 96

@@ -4,7 +4,7 @@ use mathlib.Core.Logic.{_↔_, _≢_}
 use mathlib.Core.Bool.{Bool, true, false, cond, _||_, true≢false}
 use mathlib.Core.Option.{Option, none, some}
 use mathlib.Core.List.{List, [], _∷_, _++_}
-use Prim.Native.Nat.{ℕ, suc, _≤_}
+use Prim.Native.Nat.{ℕ, suc, _≤_, _<_}
 use native.Mathlib.Nat.{pos-of-ne-zero}
 use native.Mathlib.Omega.{arith}
 use borrow.Author.Tests.{ne-eqb, le-ltb, eqb-false, ltb-false}
@@ -12,7 +12,7 @@ use lib.Dec.{eqb, ltb}
 use lib.ListN.{length, take, drop}
 use lib.Seq.{take-append-seam}
 use Rattle.spec_orders.specs.Lists.{All, Distinct, elem}
-use Rattle.spec_orders.specs.CircularOrder.{Restriction, WellFormed}
+use Rattle.spec_orders.specs.CircularOrder.{Restriction, WellFormed, group-of}
 use Rattle.spec_orders.specs.Tree.{Forest}
 use Rattle.spec_orders.specs.Form.{InForm, standard, StandardOrder}
 use Rattle.spec_orders.specs.Join.{join}
@@ -21,10 +21,11 @@ use Rattle.spec_orders.proofs.TextTree.{form-length}
 use Rattle.spec_orders.proofs.Joining.{join-none, join-some}
 use Rattle.spec_calls.specs.declared.Refusal.{Refusal}
 use Rattle.spec_calls.specs.declared.Refusal.the-variants.{OutsideRing, Repeated, BookFull, Impossible}
-use Rattle.spec_calls.specs.NodeTable.{tree-in}
+use Rattle.spec_calls.specs.Tables.{Nodes, leaves, Book}
+use Rattle.spec_calls.specs.NodeTable.{held-tree}
 use Rattle.spec_calls.specs.Refusals.{Reply, refuse, first-refusal, bad-size, short-nodes, bad-leaf, list-checks}
 use Rattle.spec_calls.specs.Calls.{is-none, joined-tree, join-refusal, joined, join-call, order-refusal, order-call}
-use Rattle.spec_calls.specs.Demands.{LentTree, LentRing, Joins}
+use Rattle.spec_calls.specs.Demands.{LentTree, LentBook, Joins}
 use Rattle.spec_calls.proofs.NodeTables.{tree-in-holds, over-holds}
 
 -- ---- lists
@@ -96,50 +97,53 @@ passes-iff n l = (from l, well-formed-passes n l)
 pub size-fine : (n : ℕ) → 1 ≤ n → n ≤ 256 → bad-size n ≡ false
 size-fine n l m = rw (ne-eqb n 0 (λ e. omega arith), le-ltb 256 n m)
 
-pub nodes-fine : (have : ℕ) (nodes : List ℕ) → 256 ≤ have → 65792 ≤ length nodes → short-nodes have nodes ≡ false
-nodes-fine have nodes l m = rw (le-ltb have 256 l, le-ltb (length nodes) 65792 m)
+pub nodes-fine : (nodes : Nodes) → 256 ≤ nodes .records → 65792 ≤ length (nodes .rows) → short-nodes nodes ≡ false
+nodes-fine nodes l m = rw (le-ltb (nodes .records) 256 l, le-ltb (length (nodes .rows)) 65792 m)
 
-module _ (n have : ℕ) (nodes book : List ℕ) (count : ℕ) (list : List ℕ) (t : Forest) (h : LentRing n have nodes book count t) (w : WellFormed n list) where
-  the-tree : tree-in n nodes ≡ some t
-  the-tree = tree-in-holds n nodes t (h .lent .few-leaves) .1 (h .lent .tree)
+pub lent-held : (nodes : Nodes) (t : Forest) → LentTree nodes t → held-tree nodes ≡ some t
+lent-held nodes t h = tree-in-holds (leaves nodes) (nodes .rows) t (h .few-leaves) .1 (h .tree)
 
-  the-joined : joined-tree n nodes list ≡ join (elem list) t
+module _ (nodes : Nodes) (book : Book) (list : List ℕ) (t : Forest) (h : LentTree nodes t) (b : LentBook (nodes .bins) book) (place-left : book .count < 96) (w : WellFormed (nodes .bins) list) where
+  the-joined : joined-tree nodes list ≡ join (group-of (nodes .bins) list) t
   unfolding joined-tree
-  the-joined = rw the-tree
+  the-joined = rw (lent-held nodes t h)
 
-  after-checks : (cs : List (Option Refusal)) → first-refusal (list-checks n list ++ cs) ≡ first-refusal cs
+  after-checks : (cs : List (Option Refusal)) → first-refusal (list-checks (nodes .bins) list ++ cs) ≡ first-refusal cs
   after-checks cs = go list w
     where
-      go : (l : List ℕ) → WellFormed n l → first-refusal (list-checks n l ++ cs) ≡ first-refusal cs
+      go : (l : List ℕ) → WellFormed (nodes .bins) l → first-refusal (list-checks (nodes .bins) l ++ cs) ≡ first-refusal cs
       go [] w = absurd (omega (arith, w .some-leaf))
-      go (b ∷ l) w = rw (leaves-fine n [] 0 (b ∷ l) (w .in-range) (w .different) (new-none (b ∷ l)))
+      go (b ∷ l) w = rw (leaves-fine (nodes .bins) [] 0 (b ∷ l) (w .in-range) (w .different) (new-none (b ∷ l)))
 
-  the-refusal : join-refusal n have nodes book count list ≡ first-refusal (refuse (is-none (join (elem list) t)) Impossible ∷ [])
+  the-refusal : join-refusal nodes book list ≡ first-refusal (refuse (is-none (join (group-of (nodes .bins) list) t)) Impossible ∷ [])
   unfolding join-refusal
   the-refusal =
       rw (
-        size-fine n (h .lent .some-leaf) (h .lent .few-leaves),
-        nodes-fine have nodes (h .lent .all-records) (h .lent .all-rows),
-        le-ltb (length book) 384 (h .all-words),
-        the-tree,
-        h .groups,
-        after-checks (refuse (eqb count 96) BookFull ∷ refuse (is-none (joined-tree n nodes list)) Impossible ∷ []),
-        ne-eqb count 96 (λ e. omega (arith, h .place-left)),
+        size-fine (nodes .bins) (h .some-leaf) (h .few-leaves),
+        nodes-fine nodes (h .all-records) (h .all-rows),
+        le-ltb (length (book .words)) 384 (b .all-words),
+        lent-held nodes t h,
+        b .in-form,
+        after-checks (refuse (eqb (book .count) 96) BookFull ∷ refuse (is-none (joined-tree nodes list)) Impossible ∷ []),
+        ne-eqb (book .count) 96 (λ e. omega (arith, place-left)),
         the-joined,
       )
 
-  pub join-meets : Joins n (elem list) t (join-call n have nodes book count list .answer) (join-call n have nodes book count list .nodes)
+  pub join-meets : Joins (leaves nodes) (group-of (nodes .bins) list) t (join-call nodes book list .answer) (join-call nodes book list .rows)
   unfolding join-call joined
-  join-meets = rw (the-refusal, the-joined) (by-answer (join (elem list) t) refl)
+  join-meets = rw (the-refusal, the-joined) (by-answer (join G t) refl)
     where
+      n : ℕ
+      n = leaves nodes
+
       G : Restriction
-      G = elem list
+      G = group-of n list
 
       t-form : InForm n t
-      t-form = h .lent .tree .in-form
+      t-form = h .tree .in-form
 
       by-answer : (o : Option Forest) → join G t ≡ o
-          → Joins n G t (joined (first-refusal (refuse (is-none o) Impossible ∷ [])) o nodes book count list .answer) (joined (first-refusal (refuse (is-none o) Impossible ∷ [])) o nodes book count list .nodes)
+          → Joins n G t (joined (first-refusal (refuse (is-none o) Impossible ∷ [])) o nodes book list .answer) (joined (first-refusal (refuse (is-none o) Impossible ∷ [])) o nodes book list .rows)
       by-answer none e = record { impossible = (λ q. join-none n G t t-form .0 e, λ q. refl); otherwise = λ q. absurd (q refl) }
       by-answer (some u) e =
           let j = join-some n G t u t-form e in
@@ -147,7 +151,7 @@ module _ (n have : ℕ) (nodes book : List ℕ) (count : ℕ) (list : List ℕ) 
             impossible = (λ q. absurd (omega (arith, ap (λ (s : Reply). s .number) q)), λ q. absurd (q (standard u) (j .orders (standard u) .0 (j .standard-first .allowed) .0) (j .orders (standard u) .0 (j .standard-first .allowed) .1)));
             otherwise = λ q. record {
               new = u;
-              held = over-holds n u nodes (j .form) (h .lent .few-leaves);
+              held = over-holds n u (nodes .rows) (j .form) (h .few-leaves);
               orders = j .orders;
               first = j .standard-first;
             };
@@ -155,17 +159,21 @@ module _ (n have : ℕ) (nodes book : List ℕ) (count : ℕ) (list : List ℕ) 
 
 -- ---- the standard order
 
-pub order-meets : (n have : ℕ) (nodes order : List ℕ) (t : Forest) → LentTree n have nodes t → n ≤ length order → StandardOrder t (take n (order-call n have nodes order .table))
+pub order-meets : (nodes : Nodes) (order : List ℕ) (t : Forest) → LentTree nodes t → nodes .bins ≤ length order
+    → StandardOrder t (take (nodes .bins) (order-call nodes order .table))
 unfolding order-call order-refusal
-order-meets n have nodes order t h l =
+order-meets nodes order t h l =
     rw (
       size-fine n (h .some-leaf) (h .few-leaves),
-      nodes-fine have nodes (h .all-records) (h .all-rows),
+      nodes-fine nodes (h .all-records) (h .all-rows),
       le-ltb (length order) n l,
-      tree-in-holds n nodes t (h .few-leaves) .1 (h .tree),
+      lent-held nodes t h,
     )
     (subst (StandardOrder t) (sym whole) (standard-is n t (h .tree .in-form)))
   where
+    n : ℕ
+    n = nodes .bins
+
     many : length (standard t) ≡ n
     many = omega (arith, form-length n t (h .tree .in-form), h .some-leaf)
 

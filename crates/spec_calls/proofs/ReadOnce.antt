@@ -6,9 +6,10 @@ use Prim.Native.Nat.{ℕ}
 use native.Mathlib.Omega.{arith}
 use Rattle.spec_orders.specs.TreeText.{Found}
 use Rattle.spec_orders.proofs.TextOnce.{reads-once}
+use Rattle.spec_calls.specs.Tables.{Nodes, Book}
 use Rattle.spec_calls.specs.Calls.{Ring, read-outcome, ReadCall, unread, read}
 
-pub read-call-once : {n have : ℕ} {text nodes book : List ℕ} {r s : Ring} → ReadCall n have text nodes book r → ReadCall n have text nodes book s → r ≡ s
+pub read-call-once : {nodes : Nodes} {book : Book} {text : List ℕ} {r s : Ring} → ReadCall nodes book text r → ReadCall nodes book text s → r ≡ s
 read-call-once (unread p) (unread q) = let e = sym p ∙ q in cc
 read-call-once (unread p) (read q w) = absurd (let e = sym p ∙ q in let z : _≡_ {A = ℕ} 0 1 = cc in omega arith)
 read-call-once (read p v) (unread q) = absurd (let e = sym p ∙ q in let z : _≡_ {A = ℕ} 0 1 = cc in omega arith)

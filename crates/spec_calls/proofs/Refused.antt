@@ -15,41 +15,41 @@ use Rattle.spec_orders.specs.Tree.{Forest}
 use Rattle.spec_orders.specs.TreeText.{Found}
 use Rattle.spec_calls.specs.declared.Refusal.{Refusal}
 use Rattle.spec_calls.specs.declared.Refusal.the-variants.{OutsideRing, Repeated}
+use Rattle.spec_calls.specs.Tables.{Nodes, Book}
 use Rattle.spec_calls.specs.Refusals.{bad-leaf}
 use Rattle.spec_calls.specs.Calls.{Ring, filled, opened, open-refusal, open-call, joined, join-refusal, joined-tree, join-call, read-outcome, ReadCall, unread, read}
 use Rattle.spec_calls.proofs.Demands.{Fine, fine-more}
 
 -- "Left as it was: every table."
-abbrev Keeps : Ring → List ℕ → List ℕ → Type 0
-Keeps x nodes book = x .answer .number ≢ 0 → (x .nodes ≡ nodes) × (x .book ≡ book)
+abbrev Keeps : Ring → Nodes → Book → Type 0
+Keeps x nodes book = x .answer .number ≢ 0 → (x .rows ≡ nodes .rows) × (x .words ≡ book .words)
 
-opened-keeps : (o : Option Refusal) (n : ℕ) (nodes book : List ℕ) → Keeps (opened o n nodes book) nodes book
+opened-keeps : (o : Option Refusal) (nodes : Nodes) (book : Book) → Keeps (opened o nodes book) nodes book
 unfolding opened
-opened-keeps (some q) n nodes book e = (refl, refl)
-opened-keeps none n nodes book e = absurd (e refl)
+opened-keeps (some q) nodes book e = (refl, refl)
+opened-keeps none nodes book e = absurd (e refl)
 
-pub open-keeps : (n have : ℕ) (nodes book : List ℕ) → Keeps (open-call n have nodes book) nodes book
+pub open-keeps : (nodes : Nodes) (book : Book) → Keeps (open-call nodes book) nodes book
 unfolding open-call
-open-keeps n have nodes book = opened-keeps (open-refusal n have nodes book) n nodes book
+open-keeps nodes book = opened-keeps (open-refusal nodes book) nodes book
 
-joined-keeps : (o : Option Refusal) (t : Option Forest) (nodes book : List ℕ) (count : ℕ) (list : List ℕ) → Keeps (joined o t nodes book count list) nodes book
+joined-keeps : (o : Option Refusal) (t : Option Forest) (nodes : Nodes) (book : Book) (list : List ℕ) → Keeps (joined o t nodes book list) nodes book
 unfolding joined
-joined-keeps (some q) t nodes book count list e = (refl, refl)
-joined-keeps none t nodes book count list e = absurd (e refl)
+joined-keeps (some q) t nodes book list e = (refl, refl)
+joined-keeps none t nodes book list e = absurd (e refl)
 
-pub join-keeps : (n have : ℕ) (nodes book : List ℕ) (count : ℕ) (list : List ℕ) → Keeps (join-call n have nodes book count list) nodes book
+pub join-keeps : (nodes : Nodes) (book : Book) (list : List ℕ) → Keeps (join-call nodes book list) nodes book
 unfolding join-call
-join-keeps n have nodes book count list =
-    joined-keeps (join-refusal n have nodes book count list) (joined-tree n nodes list) nodes book count list
+join-keeps nodes book list = joined-keeps (join-refusal nodes book list) (joined-tree nodes list) nodes book list
 
-read-keeps : (f : Found) (nodes book : List ℕ) → Keeps (read-outcome f nodes book) nodes book
+read-keeps : (f : Found) (nodes : Nodes) (book : Book) → Keeps (read-outcome f nodes book) nodes book
 unfolding read-outcome
 read-keeps (Found.refused p) nodes book e = (refl, refl)
 read-keeps (Found.tree t) nodes book e = absurd (e refl)
 
-pub read-call-keeps : (n have : ℕ) (text nodes book : List ℕ) (x : Ring) → ReadCall n have text nodes book x → Keeps x nodes book
-read-call-keeps n have text nodes book x (unread p) e = (refl, refl)
-read-call-keeps n have text nodes book x (read {f} p q) e = read-keeps f nodes book e
+pub read-call-keeps : (nodes : Nodes) (book : Book) (text : List ℕ) (x : Ring) → ReadCall nodes book text x → Keeps x nodes book
+read-call-keeps nodes book text x (unread p) e = (refl, refl)
+read-call-keeps nodes book text x (read {f} p q) e = read-keeps f nodes book e
 
 -- Of a call that fills one table.
 pub filled-keeps : (o : Option Refusal) (v : ℕ) (xs table : List ℕ) → filled o v xs table .answer .number ≢ 0 → filled o v xs table .table ≡ table

@@ -7,15 +7,15 @@ use lib.ListN.{take, drop, replicate}
 use Rattle.spec_orders.specs.Lists.{numbers-from, same, all-of}
 use Rattle.spec_orders.specs.CircularOrder.{Restriction}
 use Rattle.mark_words.specs.Marks.{marked, words-of, leaves-of}
-use Rattle.spec_calls.specs.Tables.{over}
+use Rattle.spec_calls.specs.Tables.{Book, over}
 
 -- The four words of the group at place k, from 0.
 abbrev pub group-words : List ℕ → ℕ → List ℕ
-group-words book k = take 4 (drop (4 * k) book)
+group-words words k = take 4 (drop (4 * k) words)
 
--- The groups of a book with this count.
-unfoldable pub groups : List ℕ → ℕ → List Restriction
-groups book count = map (λ k. marked (group-words book k)) (numbers-from 0 count)
+-- The groups of a book.
+unfoldable pub groups : Book → List Restriction
+groups book = map (λ k. marked (group-words (book .words) k)) (numbers-from 0 (book .count))
 
 -- "Each group up to the count has a mark, each mark is that of a bin from 1 to n."
 abbrev pub group-in-form? : ℕ → List ℕ → Bool
@@ -23,15 +23,16 @@ group-in-form? n words = not (same (leaves-of words) []) && all-of (λ b. leb b 
 
 -- "A book is well formed, or in form, when its count is at most 96, each group up to the count [is as above], and all groups past the count
 -- are zero."
-unfoldable pub book-in-form? : ℕ → List ℕ → ℕ → Bool
-book-in-form? n book count =
-    leb count 96
-    && (all-of (λ k. group-in-form? n (group-words book k)) (numbers-from 0 count) && all-of (eqb 0) (take (384 - 4 * count) (drop (4 * count) book)))
+unfoldable pub book-in-form? : ℕ → Book → Bool
+book-in-form? n book =
+    leb (book .count) 96
+    && (all-of (λ k. group-in-form? n (group-words (book .words) k)) (numbers-from 0 (book .count))
+    && all-of (eqb 0) (take (384 - 4 * book .count) (drop (4 * book .count) (book .words))))
 
--- "The accepted group takes the next book place": the book with the group at place k.
+-- "The accepted group takes the next book place": the words with the group at place k.
 unfoldable pub booked : List ℕ → ℕ → Restriction → List ℕ
-booked book k G = take (4 * k) book ++ (words-of 4 G ++ drop (4 * k + 4) book)
+booked words k G = take (4 * k) words ++ (words-of 4 G ++ drop (4 * k + 4) words)
 
--- The book emptied: its 384 words are zero.
+-- The words of the book emptied: 384 zeros.
 unfoldable pub emptied : List ℕ → List ℕ
-emptied book = over (replicate 384 0) book
+emptied words = over (replicate 384 0) words

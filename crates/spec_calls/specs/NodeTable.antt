@@ -13,7 +13,7 @@ use Rattle.spec_orders.specs.CircularOrder.{others}
 use Rattle.spec_orders.specs.Tree.{Kind, P, C, Forest, nil, leaf, node, append}
 use Rattle.spec_orders.specs.Form.{nodes, InForm, in-form?}
 use Rattle.spec_orders.specs.Join.{leaf-items}
-use Rattle.spec_calls.specs.Tables.{padded}
+use Rattle.spec_calls.specs.Tables.{Nodes, leaves, padded}
 
 abbrev pub kind-number : Kind → ℕ
 kind-number P = 1
@@ -62,3 +62,7 @@ spelled-tree n table = cond (leb n 2) (leaf-items (others n)) (spelled 256 table
 unfoldable pub tree-in : ℕ → List ℕ → Option Forest
 tree-in n table =
     cond (in-form? n (spelled-tree n table) && same (take 65792 table) (table-of (spelled-tree n table))) (some (spelled-tree n table)) none
+
+-- Of a table as it is lent.
+abbrev pub held-tree : Nodes → Option Forest
+held-tree lent = tree-in (leaves lent) (lent .rows)

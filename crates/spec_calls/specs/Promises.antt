@@ -1,36 +1,34 @@
--- What each call of document 01 promises of a node table lent as rows: what it returns, in the paper's numbers, and every lent table follow from the
--- call's definition; and the demand on it. First comes what is lent, then the tables as they are left, last what is returned.
+-- What each call of document 01 promises: what it returns, in the paper's numbers, and every lent table follow from the call's definition; and the
+-- demand on it. First comes what is lent, then the tables as they are left, last what is returned.
 use mathlib.Core.Path.{_≡_}
 use mathlib.Core.List.{List}
 use Prim.Native.Nat.{ℕ}
+use Rattle.spec_calls.specs.Tables.{Nodes, Book}
 use Rattle.spec_calls.specs.Refusals.{Reply}
 use Rattle.spec_calls.specs.Calls.{ring, filled-as, open-call, join-call, trial-call, order-call, aim-call, write-call, ReadCall, conflict-call}
 use Rattle.spec_calls.specs.Demands.{JoinDemand, TrialDemand, OrderDemand, ConflictDemand}
 
-abbrev pub OpenPromise : ℕ → List ℕ → ℕ → List ℕ → List ℕ → List ℕ → Reply → Type 0
-OpenPromise n nodes have book nodes′ book′ said = ring said nodes′ book′ ≡ open-call n have nodes book
+abbrev pub OpenPromise : Nodes → Book → List ℕ → List ℕ → Reply → Type 0
+OpenPromise nodes book rows′ words′ said = ring said rows′ words′ ≡ open-call nodes book
 
-abbrev pub JoinPromise : ℕ → List ℕ → ℕ → List ℕ → ℕ → List ℕ → List ℕ → List ℕ → Reply → Type 0
-JoinPromise n nodes have book count list nodes′ book′ said =
-    (ring said nodes′ book′ ≡ join-call n have nodes book count list) × JoinDemand n have nodes book count list said nodes′
+abbrev pub JoinPromise : Nodes → Book → List ℕ → List ℕ → List ℕ → Reply → Type 0
+JoinPromise nodes book list rows′ words′ said = (ring said rows′ words′ ≡ join-call nodes book list) × JoinDemand nodes book list said rows′
 
-abbrev pub TrialPromise : ℕ → List ℕ → ℕ → List ℕ → ℕ → List ℕ → Reply → Type 0
-TrialPromise n nodes have book count list said =
-    (said ≡ trial-call n have nodes book count list) × TrialDemand n have nodes book count list said
+abbrev pub TrialPromise : Nodes → Book → List ℕ → Reply → Type 0
+TrialPromise nodes book list said = (said ≡ trial-call nodes book list) × TrialDemand nodes book list said
 
-abbrev pub OrderPromise : ℕ → List ℕ → ℕ → List ℕ → List ℕ → Reply → Type 0
-OrderPromise n nodes have order order′ said =
-    (filled-as said order′ ≡ order-call n have nodes order) × OrderDemand n have nodes order order′
+abbrev pub OrderPromise : Nodes → List ℕ → List ℕ → Reply → Type 0
+OrderPromise nodes order order′ said = (filled-as said order′ ≡ order-call nodes order) × OrderDemand nodes order order′
 
-abbrev pub AimPromise : ℕ → List ℕ → ℕ → List ℕ → ℕ → ℕ → Reply → Type 0
-AimPromise n nodes have book count group said = said ≡ aim-call n have nodes book count group
+abbrev pub AimPromise : Nodes → Book → ℕ → Reply → Type 0
+AimPromise nodes book group said = said ≡ aim-call nodes book group
 
-abbrev pub WritePromise : ℕ → List ℕ → ℕ → List ℕ → List ℕ → Reply → Type 0
-WritePromise n nodes have bytes bytes′ said = filled-as said bytes′ ≡ write-call n have nodes bytes
+abbrev pub WritePromise : Nodes → List ℕ → List ℕ → Reply → Type 0
+WritePromise nodes bytes bytes′ said = filled-as said bytes′ ≡ write-call nodes bytes
 
-abbrev pub ReadPromise : ℕ → List ℕ → ℕ → List ℕ → List ℕ → List ℕ → List ℕ → Reply → Type 0
-ReadPromise n nodes have book text nodes′ book′ said = ReadCall n have text nodes book (ring said nodes′ book′)
+abbrev pub ReadPromise : Nodes → Book → List ℕ → List ℕ → List ℕ → Reply → Type 0
+ReadPromise nodes book text rows′ words′ said = ReadCall nodes book text (ring said rows′ words′)
 
-abbrev pub ConflictPromise : ℕ → List ℕ → ℕ → List ℕ → List ℕ → List ℕ → Reply → Type 0
-ConflictPromise n book count list conflicts conflicts′ said =
-    (filled-as said conflicts′ ≡ conflict-call n book count list conflicts) × ConflictDemand n book count list conflicts said conflicts′
+abbrev pub ConflictPromise : ℕ → Book → List ℕ → List ℕ → List ℕ → Reply → Type 0
+ConflictPromise n book list conflicts conflicts′ said =
+    (filled-as said conflicts′ ≡ conflict-call n book list conflicts) × ConflictDemand n book list conflicts said conflicts′

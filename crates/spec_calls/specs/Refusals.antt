@@ -10,6 +10,7 @@ use Rattle.spec_calls.specs.declared.Refusal.{Refusal}
 use Rattle.spec_calls.specs.declared.Refusal.the-variants.{RingSize, ShortTable, NotInForm, EmptyGroup, OutsideRing, Repeated, BookFull, Impossible, NoSuchGroup, NotConsecutive, RingFile, TreeText}
 use Rattle.spec_calls.specs.declared.Answer.{Answer}
 use Rattle.spec_calls.specs.declared.Answer.the-variants.{Done, Refused}
+use Rattle.spec_calls.specs.Tables.{Nodes}
 
 -- What a call returns, in the paper's numbers: 0 and its own number; or the number of a refusal, and the place or byte that the table names, 0
 -- where it names none.
@@ -53,12 +54,12 @@ abbrev pub bad-size : ℕ → Bool
 bad-size n = eqb n 0 || ltb 256 n
 
 -- 2: "a lent table is too short: 256 records, 384 mark words, n places for the order, 96 for a conflict list, 2,048 bytes for a tree text to
--- be written". A node table is lent as rows, with the number of records that they are.
+-- be written".
 abbrev pub short : ℕ → List ℕ → Bool
 short size table = ltb (length table) size
 
-abbrev pub short-nodes : ℕ → List ℕ → Bool
-short-nodes have table = ltb have 256 || short 65792 table
+abbrev pub short-nodes : Nodes → Bool
+short-nodes nodes = ltb (nodes .records) 256 || short 65792 (nodes .rows)
 
 -- 5 and 6: "a bin is 0 or above n", "a bin stands earlier in the same list": "of 5 and 6 the earlier place counts". From place k on; `seen`
 -- stands before it.

@@ -5,7 +5,7 @@ use mathlib.Core.Bool.{Bool, true, false}
 use mathlib.Core.List.{List, [], _∷_, _++_}
 use Prim.Native.Nat.{ℕ, zero, suc, _≤_}
 use lib.ListN.{length}
-use Rattle.spec_orders.specs.Lists.{All, Distinct, Rearranged, numbers-from}
+use Rattle.spec_orders.specs.Lists.{All, Distinct, elem, Rearranged, numbers-from}
 
 -- The leaves of a ring of n but leaf 1: 2 to n.
 abbrev pub others : ℕ → List ℕ
@@ -28,6 +28,10 @@ pub record WellFormed (n : ℕ) (list : List ℕ) : Type 0 where
   pub some-leaf : 1 ≤ length list
   pub in-range : All (λ b. (1 ≤ b) × (b ≤ n)) list
   pub different : Distinct list
+
+-- The group that a list names in a ring of n leaves.
+abbrev pub group-of : ℕ → List ℕ → Restriction
+group-of n list = elem list
 
 -- All leaves of the list are in the group; none is.
 abbrev pub Inside : Restriction → List ℕ → Type 0

@@ -18,19 +18,19 @@ use Rattle.spec_orders.specs.CircularOrder.{Restriction}
 use Rattle.mark_words.specs.Marks.{words-of, leaves-of, no-leaf}
 use Rattle.mark_words.proofs.Words.{Words, no-words}
 use Rattle.mark_sets.proofs.Steps.{empty-all, empty-not}
-use Rattle.spec_calls.specs.Tables.{over}
+use Rattle.spec_calls.specs.Tables.{Book, over}
 use Rattle.spec_calls.specs.Book.{group-words, group-in-form?, book-in-form?, booked, emptied}
 use Rattle.table_book.specs.Groups.{groups-in-form?}
 use Rattle.spec_orders.proofs.Tests.{both, false-if}
 
-pub groups-done : (n : ℕ) (book : List ℕ) (k count : ℕ) → count ≤ k → groups-in-form? n book k count ≡ true
+pub groups-done : (n : ℕ) (book : Book) (k : ℕ) → book .count ≤ k → groups-in-form? n book k ≡ true
 unfolding groups-in-form?
-groups-done n book k count h = let e : count - k ≡ 0 = omega arith in rw e
+groups-done n book k h = let e : book .count - k ≡ 0 = omega arith in rw e
 
-pub groups-more : (n : ℕ) (book : List ℕ) (k count : ℕ) → k < count
-    → groups-in-form? n book k count ≡ (group-in-form? n (group-words book k) && groups-in-form? n book (k + 1) count)
+pub groups-more : (n : ℕ) (book : Book) (k : ℕ) → k < book .count
+    → groups-in-form? n book k ≡ (group-in-form? n (group-words (book .words) k) && groups-in-form? n book (k + 1))
 unfolding groups-in-form?
-groups-more n book k count h = let e : count - k ≡ suc (count - (k + 1)) = omega arith in rw (e, add-one)
+groups-more n book k h = let e : book .count - k ≡ suc (book .count - (k + 1)) = omega arith in rw (e, add-one)
 
 -- The part of the book that a function is lent.
 pub group-part : (book : List ℕ) (k : ℕ) → take (4 * k + 4 - 4 * k) (drop (4 * k) book) ≡ group-words book k
@@ -65,9 +65,9 @@ part-words m d ws v i = go (ltb i m) refl
     go true q = rw (getD-take m (drop d ws) i 0 (ltb-true i m q), getD-drop d ws i 0) (v (d + i))
     go false q = rw (List·getD-eq-default (take m (drop d ws)) 0 {n = i} (omega (arith, length-take m (drop d ws), ltb-false i m q))) (pow-pos 64)
 
-pub groups-all : (n : ℕ) (book : List ℕ) (count : ℕ) → groups-in-form? n book 0 count ≡ all-of (λ k. group-in-form? n (group-words book k)) (numbers-from 0 count)
+pub groups-all : (n : ℕ) (book : Book) → groups-in-form? n book 0 ≡ all-of (λ k. group-in-form? n (group-words (book .words) k)) (numbers-from 0 (book .count))
 unfolding groups-in-form?
-groups-all n book count = let e : count - 0 ≡ count = omega arith in rw e
+groups-all n book = let e : book .count - 0 ≡ book .count = omega arith in rw e
 
 -- A group's words in their place; all words of no leaf.
 pub booked-is : (book : List ℕ) (k : ℕ) (G : Restriction) (new : List ℕ) → 4 * k + 4 ≤ length book
@@ -88,6 +88,6 @@ unfolding emptied
 emptied-is book new h e = zeros-over 384 book new h e
 
 -- A book in form has at most 96 groups.
-pub few-groups : (n : ℕ) (book : List ℕ) (count : ℕ) → book-in-form? n book count ≡ true → count ≤ 96
+pub few-groups : (n : ℕ) (book : Book) → book-in-form? n book ≡ true → book .count ≤ 96
 unfolding book-in-form?
-few-groups n book count e = leb-true count 96 (both {a = leb count 96} Iff·rfl Iff·rfl .0 e .0)
+few-groups n book e = leb-true (book .count) 96 (both {a = leb (book .count) 96} Iff·rfl Iff·rfl .0 e .0)

@@ -4,6 +4,7 @@ ghost use Prim.Native.Nat.{ℕ, _≤_, _<_, _+_, _^_};
 ghost use lib.ListN.{length};
 ghost use mathlib.Core.List.{List};
 ghost use Rattle.spec_orders.specs.Lists.{elem};
+ghost use Rattle.spec_calls.specs.Tables.{lent-book};
 ghost use Rattle.spec_calls.specs.Refusals.{first-refusal, bad-leaf, list-checks};
 ghost use Rattle.spec_calls.specs.Book.{group-in-form?, book-in-form?, booked, emptied};
 ghost use Rattle.table_book.specs.Groups.{groups-in-form?};
@@ -29,7 +30,7 @@ fn group_in_form(words: &[u64], n: usize) -> bool
 // Whether the groups from place k up to the count are in form.
 fn groups_in_form(book: &[u64], n: usize, k: usize, count: usize) -> bool
     requires { ⌜ (count ≤ 96) × (384 ≤ length (now book)) ⌝ }
-    ensures { λ r. ⌜ r ≡ groups-in-form? n (now (book .entry)) k count ⌝ }
+    ensures { λ r. ⌜ r ≡ groups-in-form? n (lent-book (now (book .entry)) count) k ⌝ }
 {
     if k >= count {
         return true;
@@ -45,7 +46,7 @@ fn groups_in_form(book: &[u64], n: usize, k: usize, count: usize) -> bool
 // Whether the book with this count is in form for n leaves.
 pub fn in_form(book: &[u64], n: usize, count: usize) -> bool
     requires { ⌜ 384 ≤ length (now book) ⌝ }
-    ensures { λ r. ⌜ r ≡ book-in-form? n (now (book .entry)) count ⌝ }
+    ensures { λ r. ⌜ r ≡ book-in-form? n (lent-book (now (book .entry)) count) ⌝ }
 {
     if count > 96 {
         return false;

@@ -15,6 +15,7 @@ use Rattle.spec_orders.specs.Conflict.{consecutive?, possible?, leave-out, conf
 use Rattle.spec_orders.specs.Aim.{run-start, aim-of}
 use Rattle.spec_orders.specs.Circles.{bytes}
 use Rattle.mark_words.specs.Marks.{marked, word-of, words-of, leaves-of}
+use Rattle.spec_calls.specs.Tables.{Nodes, lent-nodes, Book, lent-book}
 use Rattle.spec_calls.specs.Book.{groups, book-in-form?, booked, emptied}
 use Rattle.spec_calls.specs.NodeTable.{table-of, spelled, spelled-tree, tree-in}
 use Rattle.spec_calls.specs.Refusals.{Reply, bad-leaf}
@@ -24,27 +25,34 @@ use Rattle.spec_calls.specs.Calls.{Ring, open-refusal, opened, open-call, joine
 abbrev says : Reply → ℕ → ℕ → Bool
 says r number value = eqb (r .number) number && eqb (r .value) value
 
+-- The tables of a call, lent to the next one: for 5 bins, with this many groups.
+abbrev nodes-of : Ring → Nodes
+nodes-of r = lent-nodes 5 256 (r .rows)
+
+abbrev book-of : Ring → ℕ → Book
+book-of r count = lent-book (r .words) count
+
 -- What is asked of the ring of circle e.
 abbrev right-e : Ring → Bool
 right-e e =
     says (e .answer) 0 2
-    && (same (take 6 (e .nodes)) (2 ∷ 3 ∷ 257 ∷ 5 ∷ 3 ∷ 0 ∷ [])
-    && (same (take 5 (drop 257 (e .nodes))) (1 ∷ 2 ∷ 2 ∷ 4 ∷ 0 ∷ [])
-    && (same (drop 65792 (e .nodes)) (7 ∷ [])
-    && (same (take 9 (e .book)) (5 ∷ 0 ∷ 0 ∷ 0 ∷ 20 ∷ 0 ∷ 0 ∷ 0 ∷ 0 ∷ [])
-    && (says (trial-call 5 256 (e .nodes) (e .book) 2 (1 ∷ 5 ∷ [])) 8 0
-    && (says (trial-call 5 256 (e .nodes) (e .book) 2 (2 ∷ 4 ∷ [])) 0 3
-    && (same (conflict-call 5 (e .book) 2 (1 ∷ 5 ∷ []) (replicate 97 7) .table) (1 ∷ 2 ∷ (replicate 94 0 ++ (7 ∷ [])))
-    && (same (order-call 5 256 (e .nodes) (replicate 6 7) .table) (1 ∷ 2 ∷ 4 ∷ 5 ∷ 3 ∷ 7 ∷ [])
-    && (says (aim-call 5 256 (e .nodes) (e .book) 2 1) 0 3
-    && same (take 16 (write-call 5 256 (e .nodes) (replicate 2049 7) .table)) (bytes "1 C(P(2 4) 5 3)" ++ (0 ∷ [])))))))))))
+    && (same (take 6 (e .rows)) (2 ∷ 3 ∷ 257 ∷ 5 ∷ 3 ∷ 0 ∷ [])
+    && (same (take 5 (drop 257 (e .rows))) (1 ∷ 2 ∷ 2 ∷ 4 ∷ 0 ∷ [])
+    && (same (drop 65792 (e .rows)) (7 ∷ [])
+    && (same (take 9 (e .words)) (5 ∷ 0 ∷ 0 ∷ 0 ∷ 20 ∷ 0 ∷ 0 ∷ 0 ∷ 0 ∷ [])
+    && (says (trial-call (nodes-of e) (book-of e 2) (1 ∷ 5 ∷ [])) 8 0
+    && (says (trial-call (nodes-of e) (book-of e 2) (2 ∷ 4 ∷ [])) 0 3
+    && (same (conflict-call 5 (book-of e 2) (1 ∷ 5 ∷ []) (replicate 97 7) .table) (1 ∷ 2 ∷ (replicate 94 0 ++ (7 ∷ [])))
+    && (same (order-call (nodes-of e) (replicate 6 7) .table) (1 ∷ 2 ∷ 4 ∷ 5 ∷ 3 ∷ 7 ∷ [])
+    && (says (aim-call (nodes-of e) (book-of e 2) 1) 0 3
+    && same (take 16 (write-call (nodes-of e) (replicate 2049 7) .table)) (bytes "1 C(P(2 4) 5 3)" ++ (0 ∷ [])))))))))))
 
 abbrev then-e : Ring → Bool
-then-e d = right-e (join-call 5 256 (d .nodes) (d .book) 1 (3 ∷ 5 ∷ []))
+then-e d = right-e (join-call (nodes-of d) (book-of d 1) (3 ∷ 5 ∷ []))
 
 abbrev then-d : Ring → Bool
-then-d r = then-e (join-call 5 256 (r .nodes) (r .book) 0 (1 ∷ 3 ∷ []))
+then-d r = then-e (join-call (nodes-of r) (book-of r 0) (1 ∷ 3 ∷ []))
 
-pub calls-right : then-d (open-call 5 256 (replicate 65793 7) (replicate 385 7)) ≡ true
+pub calls-right : then-d (open-call (lent-nodes 5 256 (replicate 65793 7)) (lent-book (replicate 385 7) 0)) ≡ true
 unfolding in-form? reduce fresh side join marked word-of words-of leaves-of groups book-in-form? booked emptied table-of spelled spelled-tree tree-in bad-leaf open-refusal opened open-call joined-tree join-refusal joined join-call trial-call consecutive? possible? leave-out conflict-list conflict-refusal conflicts-of conflict-call order-refusal order-call aim-refusal aim-call run-start aim-of digits-in digits tree-text write-refusal write-call
 calls-right = refl

@@ -138,7 +138,7 @@ fn standard(numbers: &[usize], nodes: &[u16], order: &mut [u16]) {
     let have = at(numbers, 1);
     let a = least(at(numbers, 2), nodes.len());
     let c = least(at(numbers, 3), order.len());
-    let got = call_update::order(n, &nodes[0..a], have, &mut order[0..c]);
+    let got = call_order::order(n, &nodes[0..a], have, &mut order[0..c]);
     answer(b'S', got);
     test_sums::nodes_and_order(nodes, order);
 }

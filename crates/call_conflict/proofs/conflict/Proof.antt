@@ -1,7 +1,11 @@
 use mathlib.Core.Path.{_≡_, refl, sym, ap, _∙_}
 use mathlib.Core.Option.{none}
+use Prim.Native.Nat.{_≤_}
 use native.Mathlib.Omega.{arith}
 use denote.Ref.{now}
+use lib.ListN.{length}
+use Rattle.spec_orders.specs.CircularOrder.{WellFormed}
+use Rattle.spec_calls.specs.Tables.{lent-book}
 use Rattle.spec_calls.specs.Calls.{conflict-refusal}
 use Rattle.table_book.specs.Lists.{refusal-in}
 use Rattle.table_book.proofs.Laws.{few-groups}
@@ -13,29 +17,29 @@ use Rattle.call_conflict.proofs.conflict.Tie as tie
 
 returns : tie.Need-returns
 returns c =
-    let e = call-refused (c .before .before .before .before .before .before .before .args .n) (now (c .before .before .before .before .before .before .before .args .book)) (c .before .before .before .before .before .before .before .args .count) (now (c .before .before .before .before .before .before .before .args .list)) (now (c .before .before .before .before .before .before .before .args .conflicts)) (c .before .checked .given .1) (c .before .before .before .check .ensures (now (c .before .before .before .before .before .before .before .args .conflicts)) refl) in
-    (e, call-meets (c .before .before .before .before .before .before .before .args .n) (now (c .before .before .before .before .before .before .before .args .book)) (c .before .before .before .before .before .before .before .args .count) (now (c .before .before .before .before .before .before .before .args .list)) (now (c .before .before .before .before .before .before .before .args .conflicts)) e)
+    let e = call-refused (c .before .before .before .before .before .before .before .args .n) (lent-book (now (c .before .before .before .before .before .before .before .args .book)) (c .before .before .before .before .before .before .before .args .count)) (now (c .before .before .before .before .before .before .before .args .list)) (now (c .before .before .before .before .before .before .before .args .conflicts)) (c .before .checked .given .1) (c .before .before .before .check .ensures (now (c .before .before .before .before .before .before .before .args .conflicts)) refl) in
+    (e, call-meets (c .before .before .before .before .before .before .before .args .n) (lent-book (now (c .before .before .before .before .before .before .before .args .book)) (c .before .before .before .before .before .before .before .args .count)) (now (c .before .before .before .before .before .before .before .args .list)) (now (c .before .before .before .before .before .before .before .args .conflicts)) e)
 
 -- The checks found nothing.
-passed : (c : tie.After-enum-told) → conflict-refusal (c .before .before .before .before .before .before .args .n) (now (c .before .before .before .before .before .before .args .book)) (c .before .before .before .before .before .before .args .count) (now (c .before .before .before .before .before .before .args .list)) (now (c .before .before .before .before .before .before .args .conflicts)) ≡ none
+passed : (c : tie.After-enum-told) → conflict-refusal (c .before .before .before .before .before .before .args .n) (lent-book (now (c .before .before .before .before .before .before .args .book)) (c .before .before .before .before .before .before .args .count)) (now (c .before .before .before .before .before .before .args .list)) (now (c .before .before .before .before .before .before .args .conflicts)) ≡ none
 passed c = sym (c .before .before .check .ensures (now (c .before .before .before .before .before .before .args .conflicts)) refl) ∙ ap refusal-in (c .enum-told .given .1)
 
-lent : (c : tie.After-enum-told) → LentBook (c .before .before .before .before .before .before .args .n) (now (c .before .before .before .before .before .before .args .book)) (c .before .before .before .before .before .before .args .count) (now (c .before .before .before .before .before .before .args .list)) (now (c .before .before .before .before .before .before .args .conflicts))
-lent c = passes-lent (c .before .before .before .before .before .before .args .n) (now (c .before .before .before .before .before .before .args .book)) (c .before .before .before .before .before .before .args .count) (now (c .before .before .before .before .before .before .args .list)) (now (c .before .before .before .before .before .before .args .conflicts)) (passed c)
+lent : (c : tie.After-enum-told) → (1 ≤ c .before .before .before .before .before .before .args .n) × (c .before .before .before .before .before .before .args .n ≤ 256) × LentBook (c .before .before .before .before .before .before .args .n) (lent-book (now (c .before .before .before .before .before .before .args .book)) (c .before .before .before .before .before .before .args .count)) × (96 ≤ length (now (c .before .before .before .before .before .before .args .conflicts))) × WellFormed (c .before .before .before .before .before .before .args .n) (now (c .before .before .before .before .before .before .args .list))
+lent c = passes-lent (c .before .before .before .before .before .before .args .n) (lent-book (now (c .before .before .before .before .before .before .args .book)) (c .before .before .before .before .before .before .args .count)) (now (c .before .before .before .before .before .before .args .list)) (now (c .before .before .before .before .before .before .args .conflicts)) (passed c)
 
 find-requires : tie.Need-find-requires
 find-requires c κs =
     let h = lent (c .before) in
-    let few = few-groups (c .before .before .before .before .before .before .before .args .n) (now (c .before .before .before .before .before .before .before .args .book)) (c .before .before .before .before .before .before .before .args .count) (h .in-form) in
-    (h .few-leaves, h .all-words, few, few, h .group)
+    let few = few-groups (c .before .before .before .before .before .before .before .args .n) (lent-book (now (c .before .before .before .before .before .before .before .args .book)) (c .before .before .before .before .before .before .before .args .count)) (h .2 .in-form) in
+    (h .1, h .2 .all-words, few, few, h .4)
 
 copy-requires : tie.Need-copy-requires
-copy-requires c κs = omega (arith, c .before .before .before .find .kept .1 .1 .1 .1 .0, (lent (c .before .before .before .before .before)) .all-places)
+copy-requires c κs = omega (arith, c .before .before .before .find .kept .1 .1 .1 .1 .0, (lent (c .before .before .before .before .before)) .3)
 
 returns-2 : tie.Need-returns-2
 returns-2 c =
-    let e = call-found (c .before .before .before .before .before .before .before .before .before .before .before .before .before .before .args .n) (now (c .before .before .before .before .before .before .before .before .before .before .before .before .before .before .args .book)) (c .before .before .before .before .before .before .before .before .before .before .before .before .before .before .args .count) (now (c .before .before .before .before .before .before .before .before .before .before .before .before .before .before .args .list)) (now (c .before .before .before .before .before .before .before .before .before .before .before .before .before .before .args .conflicts)) (passed (c .before .before .before .before .before .before .before .before)) (c .before .before .before .before .before .before .find .ensures) (c .before .before .copy .ensures) in
-    (e, call-meets (c .before .before .before .before .before .before .before .before .before .before .before .before .before .before .args .n) (now (c .before .before .before .before .before .before .before .before .before .before .before .before .before .before .args .book)) (c .before .before .before .before .before .before .before .before .before .before .before .before .before .before .args .count) (now (c .before .before .before .before .before .before .before .before .before .before .before .before .before .before .args .list)) (now (c .before .before .before .before .before .before .before .before .before .before .before .before .before .before .args .conflicts)) e)
+    let e = call-found (c .before .before .before .before .before .before .before .before .before .before .before .before .before .before .args .n) (lent-book (now (c .before .before .before .before .before .before .before .before .before .before .before .before .before .before .args .book)) (c .before .before .before .before .before .before .before .before .before .before .before .before .before .before .args .count)) (now (c .before .before .before .before .before .before .before .before .before .before .before .before .before .before .args .list)) (now (c .before .before .before .before .before .before .before .before .before .before .before .before .before .before .args .conflicts)) (passed (c .before .before .before .before .before .before .before .before)) (c .before .before .before .before .before .before .find .ensures) (c .before .before .copy .ensures) in
+    (e, call-meets (c .before .before .before .before .before .before .before .before .before .before .before .before .before .before .args .n) (lent-book (now (c .before .before .before .before .before .before .before .before .before .before .before .before .before .before .args .book)) (c .before .before .before .before .before .before .before .before .before .before .before .before .before .before .args .count)) (now (c .before .before .before .before .before .before .before .before .before .before .before .before .before .before .args .list)) (now (c .before .before .before .before .before .before .before .before .before .before .before .before .before .before .args .conflicts)) e)
 
 pub conflict-spec : {M : Type 1} → statement M
 conflict-spec =

@@ -1,15 +1,15 @@
 use mathlib.Core.Path.{_≡_, sym, _∙_, ap, subst}
 use mathlib.Core.Option.{none}
+use Prim.Native.Nat.{_≤_}
 use native.Mathlib.Omega.{arith}
-use borrow.Author.Tests.{ltb-false}
 use denote.Ref.{now}
 use lib.ListN.{length, replicate}
 use Rattle.tree_tokens.proofs.Writes.{read-part, wrote-most}
+use Rattle.spec_calls.specs.Tables.{lent-nodes, lent-book}
 use Rattle.spec_calls.specs.Refusals.{first-refusal, short}
 use Rattle.spec_calls.specs.Calls.{table-checks}
 use Rattle.table_book.specs.Lists.{refusal-in}
-use Rattle.call_checks.specs.Lent.{TableLent}
-use Rattle.call_checks.proofs.Laws.{tables-lent}
+use Rattle.call_checks.proofs.Laws.{room-passed}
 use Rattle.text_read.specs.declared.Read.the-variants.{Tree}
 use Rattle.text_read.specs.ReadText.{ReadText}
 use Rattle.call_text.proofs.Reading.{reads-form, not-read, refused-read, tree-read}
@@ -18,16 +18,17 @@ use Rattle.call_text.proofs.read.Statement.{statement}
 use Rattle.call_text.proofs.read.Tie as tie
 
 returns : tie.Need-returns
-returns c = not-read (c .before .before .before .before .before .before .before .before .args .n) (c .before .before .before .before .before .before .before .before .args .have) (now (c .before .before .before .before .before .before .before .before .args .text)) (now (c .before .before .before .before .before .before .before .before .args .nodes)) (now (c .before .before .before .before .before .before .before .before .args .book)) (c .before .refusal .given .0 .0) (sym (c .before .before .before .check-tables .ensures) ∙ ap refusal-in (c .before .refusal .given .1))
+returns c = not-read (lent-nodes (c .before .before .before .before .before .before .before .before .args .n) (c .before .before .before .before .before .before .before .before .args .have) (now (c .before .before .before .before .before .before .before .before .args .nodes))) (lent-book (now (c .before .before .before .before .before .before .before .before .args .book)) 0) (now (c .before .before .before .before .before .before .before .before .args .text)) (c .before .refusal .given .0 .0) (sym (c .before .before .before .check-tables .ensures) ∙ ap refusal-in (c .before .refusal .given .1))
 
-fine : (c : tie.After-enum-told) → first-refusal (table-checks (c .before .before .before .before .before .before .before .args .n) (c .before .before .before .before .before .before .before .args .have) (now (c .before .before .before .before .before .before .before .args .nodes)) (short 384 (now (c .before .before .before .before .before .before .before .args .book)))) ≡ none
+fine : (c : tie.After-enum-told) → first-refusal (table-checks (lent-nodes (c .before .before .before .before .before .before .before .args .n) (c .before .before .before .before .before .before .before .args .have) (now (c .before .before .before .before .before .before .before .args .nodes))) (short 384 (now (c .before .before .before .before .before .before .before .args .book)))) ≡ none
 fine c = sym (c .before .before .check-tables .ensures) ∙ ap refusal-in (c .enum-told .given .1)
 
-lent : (c : tie.After-enum-told) → TableLent (c .before .before .before .before .before .before .before .args .n) (c .before .before .before .before .before .before .before .args .have) (now (c .before .before .before .before .before .before .before .args .nodes)) (short 384 (now (c .before .before .before .before .before .before .before .args .book)))
-lent c = tables-lent (c .before .before .before .before .before .before .before .args .n) (c .before .before .before .before .before .before .before .args .have) (now (c .before .before .before .before .before .before .before .args .nodes)) (short 384 (now (c .before .before .before .before .before .before .before .args .book))) (fine c)
+-- Room for the tree and the book.
+room : (c : tie.After-enum-told) → (1 ≤ c .before .before .before .before .before .before .before .args .n) × (c .before .before .before .before .before .before .before .args .n ≤ 256) × (65792 ≤ length (now (c .before .before .before .before .before .before .before .args .nodes))) × (384 ≤ length (now (c .before .before .before .before .before .before .before .args .book)))
+room c = room-passed (lent-nodes (c .before .before .before .before .before .before .before .args .n) (c .before .before .before .before .before .before .before .args .have) (now (c .before .before .before .before .before .before .before .args .nodes))) (now (c .before .before .before .before .before .before .before .args .book)) (fine c)
 
 read-text-requires : tie.Need-read-text-requires
-read-text-requires c κs = let l = lent (c .before) in (l .some-leaf, l .few-leaves, omega arith)
+read-text-requires c κs = let l = room (c .before) in (l .0, l .1, omega arith)
 
 -- The tree that the text spells.
 spelled : (c : tie.After-known-told3) → ReadText (c .before .before .before .before .before .before .before .before .before .before .before .before .before .args .n) (now (c .before .before .before .before .before .before .before .before .before .before .before .before .before .args .text)) (replicate 512 0) (c .before .before .before .before .read-text .last .1 .1 .0) (Tree (c .before .found2 .given .0 .0))
@@ -37,17 +38,17 @@ part-store-end : tie.Need-part-store-end
 part-store-end c = omega (arith, wrote-most (spelled (c .before) .2))
 
 store-requires : tie.Need-store-requires
-store-requires c κs = let l = lent (c .before .before .before .before .before .before .before .before .before) in let f = spelled (c .before .before .before) in (record { size = c .before .before .before .before .before .before .before .before .before .before .before .before .before .before .before .before .args .n; shown = f .0; is = read-part (f .2); in-form = reads-form (f .1); few = l .few-leaves }, l .all-rows)
+store-requires c κs = let l = room (c .before .before .before .before .before .before .before .before .before) in let f = spelled (c .before .before .before) in (record { size = c .before .before .before .before .before .before .before .before .before .before .before .before .before .before .before .before .args .n; shown = f .0; is = read-part (f .2); in-form = reads-form (f .1); few = l .1 }, l .2)
 
 clear-requires : tie.Need-clear-requires
-clear-requires c κs = ltb-false (length (now (c .before .before .before .before .before .before .before .before .before .before .before .before .before .before .before .before .before .before .before .before .args .book))) 384 (lent (c .before .before .before .before .before .before .before .before .before .before .before .before .before) .long)
+clear-requires c κs = room (c .before .before .before .before .before .before .before .before .before .before .before .before .before) .3
 
 returns-2 : tie.Need-returns-2
-returns-2 c = refused-read (c .before .before .before .before .before .before .before .before .before .before .before .before .before .args .n) (c .before .before .before .before .before .before .before .before .before .before .before .before .before .args .have) (now (c .before .before .before .before .before .before .before .before .before .before .before .before .before .args .text)) (now (c .before .before .before .before .before .before .before .before .before .before .before .before .before .args .nodes)) (now (c .before .before .before .before .before .before .before .before .before .before .before .before .before .args .book)) (fine (c .before .before .before .before .before .before)) (c .before .found .given .0 .0) (subst (ReadText (c .before .before .before .before .before .before .before .before .before .before .before .before .before .args .n) (now (c .before .before .before .before .before .before .before .before .before .before .before .before .before .args .text)) (replicate 512 0) (c .before .before .before .before .read-text .last .1 .1 .0)) (c .before .found .given .1) (c .before .before .before .before .read-text .ensures))
+returns-2 c = refused-read (lent-nodes (c .before .before .before .before .before .before .before .before .before .before .before .before .before .args .n) (c .before .before .before .before .before .before .before .before .before .before .before .before .before .args .have) (now (c .before .before .before .before .before .before .before .before .before .before .before .before .before .args .nodes))) (lent-book (now (c .before .before .before .before .before .before .before .before .before .before .before .before .before .args .book)) 0) (now (c .before .before .before .before .before .before .before .before .before .before .before .before .before .args .text)) (fine (c .before .before .before .before .before .before)) (c .before .found .given .0 .0) (subst (ReadText (c .before .before .before .before .before .before .before .before .before .before .before .before .before .args .n) (now (c .before .before .before .before .before .before .before .before .before .before .before .before .before .args .text)) (replicate 512 0) (c .before .before .before .before .read-text .last .1 .1 .0)) (c .before .found .given .1) (c .before .before .before .before .read-text .ensures))
 
 returns-3 : tie.Need-returns-3
 returns-3 c = let f = spelled (c .before .before .before .before .before .before .before .before .before .before) in
-    tree-read (c .before .before .before .before .before .before .before .before .before .before .before .before .before .before .before .before .before .before .before .before .before .before .before .args .n) (c .before .before .before .before .before .before .before .before .before .before .before .before .before .before .before .before .before .before .before .before .before .before .before .args .have) (now (c .before .before .before .before .before .before .before .before .before .before .before .before .before .before .before .before .before .before .before .before .before .before .before .args .text)) (now (c .before .before .before .before .before .before .before .before .before .before .before .before .before .before .before .before .before .before .before .before .before .before .before .args .nodes)) (now (c .before .before .before .before .before .before .before .before .before .before .before .before .before .before .before .before .before .before .before .before .before .before .before .args .book)) (fine (c .before .before .before .before .before .before .before .before .before .before .before .before .before .before .before .before)) (f .0) (c .before .before .before .before .before .before .store .last .1 .0) (c .before .before .clear .last .0) (f .1) (c .before .before .before .before .before .before .store .ensures (f .0) (read-part (f .2))) (c .before .before .clear .ensures)
+    tree-read (lent-nodes (c .before .before .before .before .before .before .before .before .before .before .before .before .before .before .before .before .before .before .before .before .before .before .before .args .n) (c .before .before .before .before .before .before .before .before .before .before .before .before .before .before .before .before .before .before .before .before .before .before .before .args .have) (now (c .before .before .before .before .before .before .before .before .before .before .before .before .before .before .before .before .before .before .before .before .before .before .before .args .nodes))) (lent-book (now (c .before .before .before .before .before .before .before .before .before .before .before .before .before .before .before .before .before .before .before .before .before .before .before .args .book)) 0) (now (c .before .before .before .before .before .before .before .before .before .before .before .before .before .before .before .before .before .before .before .before .before .before .before .args .text)) (fine (c .before .before .before .before .before .before .before .before .before .before .before .before .before .before .before .before)) (f .0) (c .before .before .before .before .before .before .store .last .1 .0) (c .before .before .clear .last .0) (f .1) (c .before .before .before .before .before .before .store .ensures (f .0) (read-part (f .2))) (c .before .before .clear .ensures)
 
 pub read-spec : {M : Type 1} → statement M
 read-spec =

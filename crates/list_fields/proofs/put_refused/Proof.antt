@@ -4,6 +4,7 @@ use native.Mathlib.Omega.{arith}
 use denote.Ref.{now}
 use lib.ListN.{length, take, drop}
 use Rattle.spec_orders.proofs.ListLaws.{all-map}
+use Rattle.spec_calls.specs.Tables.{lent-book}
 use Rattle.spec_calls.specs.Calls.{conflicts-of}
 use Rattle.tree_tokens.proofs.Writes.{read-part, wrote-most}
 use Rattle.list_bytes.proofs.Laws.{appends-then, appends-as}
@@ -15,11 +16,11 @@ use Rattle.list_fields.proofs.put_refused.Statement.{statement}
 use Rattle.list_fields.proofs.put_refused.Tie as tie
 
 -- The numbers that were found.
-found : (c : tie.After-find) → take (c .find .result - 0) (drop 0 (c .find .last .1 .1 .1 .1 .0)) ≡ conflicts-of (c .before .before .before .before .before .before .args .n) (now (c .before .before .before .before .before .before .args .book)) (c .before .before .before .before .before .before .args .count) (now (c .before .before .before .before .before .before .args .list))
+found : (c : tie.After-find) → take (c .find .result - 0) (drop 0 (c .find .last .1 .1 .1 .1 .0)) ≡ conflicts-of (c .before .before .before .before .before .before .args .n) (lent-book (now (c .before .before .before .before .before .before .args .book)) (c .before .before .before .before .before .before .args .count)) (now (c .before .before .before .before .before .before .args .list))
 found c = read-part (c .find .ensures)
 
 few : (c : tie.After-find) → c .find .result ≤ c .before .before .before .before .before .before .args .count
-few c = omega (arith, c .find .ensures .many, list-few (c .before .before .before .before .before .before .args .n) (now (c .before .before .before .before .before .before .args .book)) (c .before .before .before .before .before .before .args .count) (now (c .before .before .before .before .before .before .args .list)))
+few c = omega (arith, c .find .ensures .many, list-few (c .before .before .before .before .before .before .args .n) (lent-book (now (c .before .before .before .before .before .before .args .book)) (c .before .before .before .before .before .before .args .count)) (now (c .before .before .before .before .before .before .args .list)))
 
 part-put-conflicts-end : tie.Need-part-put-conflicts-end
 part-put-conflicts-end c = omega (arith, wrote-most (c .before .before .before .before .before .before .before .find .ensures))
@@ -27,7 +28,7 @@ part-put-conflicts-end c = omega (arith, wrote-most (c .before .before .before .
 put-conflicts-requires : tie.Need-put-conflicts-requires
 put-conflicts-requires c κs = (
   rw (found (c .before .before .before .before .before .before .before .before .before .before))
-      (all-map (λ j. (1 ≤ j) × (j ≤ c .before .before .before .before .before .before .before .before .before .before .before .before .before .before .before .before .args .count)) (λ j. (1 ≤ j) × (j ≤ length (take (c .before .before .before .before .before .before .before .before .before .before .before .before .before .before .before .before .args .count - 0) (now (c .before .before .before .before .before .before .before .before .before .before .before .before .before .before .before .before .args .table))))) (λ j h. (h .0, omega (arith, h .1, c .before .put-conflicts-arg2 .given, c .before .before .before .before .before .before .before .before .before .before .before .before .before .before .before .before .pre .4))) (conflicts-of (c .before .before .before .before .before .before .before .before .before .before .before .before .before .before .before .before .args .n) (now (c .before .before .before .before .before .before .before .before .before .before .before .before .before .before .before .before .args .book)) (c .before .before .before .before .before .before .before .before .before .before .before .before .before .before .before .before .args .count) (now (c .before .before .before .before .before .before .before .before .before .before .before .before .before .before .before .before .args .list))) (conflicts-all (c .before .before .before .before .before .before .before .before .before .before .before .before .before .before .before .before .args .n) (now (c .before .before .before .before .before .before .before .before .before .before .before .before .before .before .before .before .args .book)) (c .before .before .before .before .before .before .before .before .before .before .before .before .before .before .before .before .args .count) (now (c .before .before .before .before .before .before .before .before .before .before .before .before .before .before .before .before .args .list)))),
+      (all-map (λ j. (1 ≤ j) × (j ≤ c .before .before .before .before .before .before .before .before .before .before .before .before .before .before .before .before .args .count)) (λ j. (1 ≤ j) × (j ≤ length (take (c .before .before .before .before .before .before .before .before .before .before .before .before .before .before .before .before .args .count - 0) (now (c .before .before .before .before .before .before .before .before .before .before .before .before .before .before .before .before .args .table))))) (λ j h. (h .0, omega (arith, h .1, c .before .put-conflicts-arg2 .given, c .before .before .before .before .before .before .before .before .before .before .before .before .before .before .before .before .pre .4))) (conflicts-of (c .before .before .before .before .before .before .before .before .before .before .before .before .before .before .before .before .args .n) (lent-book (now (c .before .before .before .before .before .before .before .before .before .before .before .before .before .before .before .before .args .book)) (c .before .before .before .before .before .before .before .before .before .before .before .before .before .before .before .before .args .count)) (now (c .before .before .before .before .before .before .before .before .before .before .before .before .before .before .before .before .args .list))) (conflicts-all (c .before .before .before .before .before .before .before .before .before .before .before .before .before .before .before .before .args .n) (lent-book (now (c .before .before .before .before .before .before .before .before .before .before .before .before .before .before .before .before .args .book)) (c .before .before .before .before .before .before .before .before .before .before .before .before .before .before .before .before .args .count)) (now (c .before .before .before .before .before .before .before .before .before .before .before .before .before .before .before .before .args .list)))),
   omega (arith, c .before .before .before .before .before .before .before .before .before .before .before .before .before .before .before .before .pre .5, c .before .before .put-conflicts-arg .given, few (c .before .before .before .before .before .before .before .before .before .before), c .before .before .before .before .before .before .before .before .before .before .before .before .before .before .before .before .pre .2, c .before .before .before .before .before .before .put .ensures .past, c .before .before .before .before .before .before .put .kept .1 .0),
 )
 

@@ -3,6 +3,7 @@ use Prim.Native.Nat.{_-_}
 use native.Mathlib.Omega.{arith}
 use denote.Ref.{now}
 use borrow.Author.Tests.{not-true, not-false}
+use Rattle.spec_calls.specs.Tables.{lent-book}
 use Rattle.table_book.proofs.Laws.{groups-done, groups-more, group-part}
 use Prim.Native.Nat.{ℕ, _<_}
 use borrow.Fn.Kinds.{In}
@@ -37,7 +38,7 @@ abbrev groups-in-form-calls : ℕ → groups-in-form-lts.Claims
 groups-in-form-calls t = (group-in-form-reads.Asked, group-in-form-reads.Learnt, groups-in-form-below t, groups-in-form.Post)
 
 groups-in-form-returns : (t : ℕ) → groups-in-form-lts.Need-returns (groups-in-form-calls t) (groups-in-form-at t) groups-in-form.Post
-groups-in-form-returns t c = sym (groups-done _ _ _ _ (c .if1 .taken))
+groups-in-form-returns t c = sym (groups-done _ (lent-book _ _) _ (c .if1 .taken))
 
 groups-in-form-mul-at : (t : ℕ) → groups-in-form-lts.Need-mul-at (groups-in-form-calls t) (groups-in-form-at t) groups-in-form.Post
 groups-in-form-mul-at t c = omega (arith, c .before .before .pre .1 .0, c .if1 .left)
@@ -61,7 +62,7 @@ groups-in-form-group-in-form-requires : (t : ℕ) → groups-in-form-lts.Need-gr
 groups-in-form-group-in-form-requires t c κs = tt
 
 groups-in-form-returns-2 : (t : ℕ) → groups-in-form-lts.Need-returns-2 (groups-in-form-calls t) (groups-in-form-at t) groups-in-form.Post
-groups-in-form-returns-2 t c = rw (groups-more _ _ _ _ (c .before .before .before .if1 .left), ← group-part (now (c .before .before .before .before .before .args .book)) (c .before .before .before .before .before .args .k), ← c .before .group-in-form .ensures, not-true (c .before .group-in-form .result) (c .if2 .taken))
+groups-in-form-returns-2 t c = rw (groups-more _ (lent-book _ _) _ (c .before .before .before .if1 .left), ← group-part (now (c .before .before .before .before .before .args .book)) (c .before .before .before .before .before .args .k), ← c .before .group-in-form .ensures, not-true (c .before .group-in-form .result) (c .if2 .taken))
 
 groups-in-form-add-groups-in-form : (t : ℕ) → groups-in-form-lts.Need-add-groups-in-form (groups-in-form-calls t) (groups-in-form-at t) groups-in-form.Post
 groups-in-form-add-groups-in-form t c = omega (arith, c .before .before .before .before .before .pre .1 .0, c .before .before .before .if1 .left)
@@ -70,7 +71,7 @@ groups-in-form-groups-in-form-requires : (t : ℕ) → groups-in-form-lts.Need-g
 groups-in-form-groups-in-form-requires t c κs = (omega (arith, c .before .before .before .if1 .left), c .before .before .before .before .before .pre .1)
 
 groups-in-form-returns-3 : (t : ℕ) → groups-in-form-lts.Need-returns-3 (groups-in-form-calls t) (groups-in-form-at t) groups-in-form.Post
-groups-in-form-returns-3 t c = rw (groups-more _ _ _ _ (c .before .before .before .before .if1 .left), ← group-part (now (c .before .before .before .before .before .before .args .book)) (c .before .before .before .before .before .before .args .k), ← c .before .before .group-in-form .ensures, not-false (c .before .before .group-in-form .result) (c .before .if2 .left)) (c .groups-in-form .ensures)
+groups-in-form-returns-3 t c = rw (groups-more _ (lent-book _ _) _ (c .before .before .before .before .if1 .left), ← group-part (now (c .before .before .before .before .before .before .args .book)) (c .before .before .before .before .before .before .args .k), ← c .before .before .group-in-form .ensures, not-false (c .before .before .group-in-form .result) (c .before .if2 .left)) (c .groups-in-form .ensures)
 
 pub +groups-in-form-spec : {M : Type 1} → statement M
 +groups-in-form-spec = close μ-groups-in-form λ t. groups-in-form-lts.spec (groups-in-form-calls t)
