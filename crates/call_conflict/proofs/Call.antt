@@ -2,24 +2,23 @@
 use mathlib.Core.Path.{_≡_, refl, sym, ap, subst, _∙_}
 use mathlib.Core.Bool.{Bool, true, false, not, _||_}
 use mathlib.Core.Option.{none}
-use mathlib.Core.List.{List, [], _∷_, _++_}
-use Prim.Native.Nat.{ℕ, zero, suc, _+_, _-_, _≤_}
+use mathlib.Core.List.{List, _∷_, _++_}
+use Prim.Native.Nat.{ℕ, zero, suc, _-_, _≤_}
 use native.Mathlib.Nat.{pos-of-ne-zero}
 use native.Mathlib.Omega.{arith}
 use borrow.Author.Tests.{le-ltb, eqb-false, ltb-false}
 use lib.Dec.{eqb, ltb}
 use lib.ListN.{length, take, drop, replicate}
 use lib.Seq.{take-append-seam}
-use Rattle.spec_orders.specs.Lists.{elem, numbers-from}
 use Rattle.spec_orders.specs.CircularOrder.{Restriction, WellFormed, group-of}
-use Rattle.spec_orders.specs.Conflict.{conflict-list, Numbers}
-use Rattle.spec_orders.proofs.Conflicts.{conflict-demand-3}
+use Rattle.spec_orders.proofs.Conflicts.{part-length, book-numbers, ring-demand-3}
 use Rattle.spec_calls.specs.declared.Refusal.{Refusal}
 use Rattle.spec_calls.specs.declared.Refusal.the-variants.{RingSize, ShortTable, NotInForm}
-use Rattle.spec_calls.specs.Tables.{Book, lent-book, padded}
-use Rattle.spec_calls.specs.Book.{groups, book-in-form?}
+use Rattle.spec_calls.specs.Tables.{Book, padded}
+use Rattle.spec_calls.specs.Book.{book-in-form?}
+use Rattle.spec_orders.proofs.Numbers.{numbers-length}
 use Rattle.spec_calls.specs.Refusals.{Reply, reply, reported, refuse, first-refusal, list-checks}
-use Rattle.spec_calls.specs.Calls.{Filled, filled-as, conflict-refusal, conflicts-of, conflict-call}
+use Rattle.spec_calls.specs.Calls.{Filled, filled-as, group-numbered, conflict-refusal, conflicts-of, conflict-call}
 use Rattle.spec_calls.proofs.NodeTables.{padded-length}
 use Rattle.spec_calls.proofs.Demands.{passes-iff, size-fine}
 use Rattle.table_book.specs.declared.Checked.{Checked}
@@ -27,11 +26,7 @@ use Rattle.table_book.specs.declared.Checked.the-variants.{Bad}
 use Rattle.table_book.specs.Lists.{refusal-in}
 use Rattle.table_book.proofs.Laws.{few-groups}
 use Rattle.tree_tokens.specs.Tokens.{Wrote}
-use Rattle.conflict_leaves.specs.StandIn.{group}
-use Rattle.conflict_rule.specs.LeavingOut.{conflicts-among}
 use Rattle.spec_calls.specs.Demands.{LentBook, Named, ConflictDemand}
-use Rattle.conflict_rule.proofs.Keeping.{rule-list}
-use Rattle.conflict_rule.proofs.Places.{groups-numbered, groups-length}
 
 module _ (n : ℕ) (book : Book) (list table : List ℕ) where
   -- What passes: what the demand is about.
@@ -62,37 +57,26 @@ module _ (n : ℕ) (book : Book) (list table : List ℕ) where
       )
       (passes-iff n list .1 w)
 
--- The whole list.
-pub list-is : (n : ℕ) (book : List ℕ) (count : ℕ) (list : List ℕ)
-    → conflicts-among n (group book) (elem list ∷ []) (numbers-from 1 count) ≡ conflicts-of n (lent-book book count) list
-unfolding conflicts-of
-list-is n book count list =
-    rule-list n (group book) (elem list) count ∙ ap (λ (Gs : List Restriction). conflict-list n Gs (elem list)) (sym (groups-numbered book count))
-
 -- There are no more numbers than groups.
-numbers-few : (k m : ℕ) (ns : List ℕ) → Numbers k m ns → k ≤ m → length ns + k ≤ m
-numbers-few k m [] h l = omega arith
-numbers-few k m (j ∷ ns) h l = omega (arith, h .0, h .1, numbers-few (suc j) m ns (h .2) (omega (arith, h .1)))
-
-pub list-few : (n : ℕ) (book : Book) (list : List ℕ) → length (conflicts-of n book list) ≤ book .count
+pub list-few : (n : ℕ) (book : Book) (new : Restriction) → length (conflicts-of n book new) ≤ book .count
 unfolding conflicts-of
-list-few n book list =
-    let d = conflict-demand-3 n (groups book) (group-of n list) in
-    omega (arith, numbers-few 1 (suc (length (groups book))) (conflict-list n (groups book) (group-of n list)) (d .numbers) (omega arith), groups-length (book .words) (book .count))
+list-few n book new = omega (arith, part-length (ring-demand-3 n (group-numbered (book .words)) (book .count) new .numbers), numbers-length 1 (book .count))
 
 pub conflict-meets : (n : ℕ) (book : Book) (list table : List ℕ) → 1 ≤ n → n ≤ 256 → LentBook n book → 96 ≤ length table → WellFormed n list
     → Named n book list (conflict-call n book list table .answer) (conflict-call n book list table .table)
 unfolding conflict-call conflicts-of
 conflict-meets n book list table l m h places w =
-    let xs = conflicts-of n book list in
-    let few : length xs ≤ 96 = omega (arith, list-few n book list, few-groups n book (h .in-form)) in
+    let xs = conflicts-of n book (group-of n list) in
+    let few : length xs ≤ 96 = omega (arith, list-few n book (group-of n list), few-groups n book (h .in-form)) in
+    let d = ring-demand-3 n (group-numbered (book .words)) (book .count) (group-of n list) in
     rw (lent-passes n book list table l m h places w)
     (record {
       numbers = xs;
       answered = refl;
       places = subst (λ k. take k (padded 96 xs ++ drop (length (padded 96 xs)) table) ≡ padded 96 xs) (padded-length 96 xs few)
           (take-append-seam (padded 96 xs) (drop (length (padded 96 xs)) table));
-      demand = conflict-demand-3 n (groups book) (group-of n list);
+      rise = book-numbers (book .count) (d .numbers);
+      demand = d;
     })
 
 -- What the code answers: a refusal; the numbers, which were written to zeros and copied.
@@ -108,11 +92,11 @@ module _ (n : ℕ) (book : Book) (list table : List ℕ) where
   call-refused e h = let q = sym h ∙ ap refusal-in e in rw q
 
   pub call-found : {numbers new : List ℕ} {k m : ℕ} → conflict-refusal n book list table ≡ none
-      → Wrote (conflicts-of n book list) (replicate 96 0) numbers k → Wrote numbers table new m
+      → Wrote (conflicts-of n book (group-of n list)) (replicate 96 0) numbers k → Wrote numbers table new m
       → filled-as (reply 0 k) new ≡ conflict-call n book list table
   unfolding conflict-call
   call-found {numbers} h a b =
-      let xs = conflicts-of n book list in
+      let xs = conflicts-of n book (group-of n list) in
       let e : numbers ≡ padded 96 xs = a .text ∙ ap (λ (l : List ℕ). xs ++ l) (drop-zeros 96 (length xs)) in
       rw (h, a .many, b .text, e)
 

@@ -4,7 +4,7 @@ ghost use mathlib.Core.List.{List};
 ghost use Prim.Native.Nat.{ℕ, _≤_};
 ghost use lib.ListN.{length};
 ghost use Rattle.spec_orders.specs.Lists.{numbers-from};
-ghost use Rattle.spec_orders.specs.CircularOrder.{WellFormed};
+ghost use Rattle.mark_words.specs.Marks.{marked};
 ghost use Rattle.tree_tokens.specs.Tokens.{Wrote};
 ghost use Rattle.spec_calls.specs.Tables.{lent-book};
 ghost use Rattle.spec_calls.specs.Calls.{conflict-refusal, conflicts-of};
@@ -29,19 +29,17 @@ fn rising(count: usize, out: &mut [u16]) -> usize
     i
 }
 
-// Writes the numbers of the groups in conflict with the list's group, rising, and says how many.
-pub fn find(n: usize, book: &[u64], count: usize, list: &[u16], out: &mut [u16]) -> usize
-    requires { ⌜ (n ≤ 256) × (384 ≤ length (now book)) × (count ≤ 96) × (count ≤ length (now out)) × (WellFormed n (now list)) ⌝ }
-    ensures { λ r. ⌜ Wrote (conflicts-of n (lent-book (now (book .entry)) count) (now (list .entry))) (now (out .entry)) (now (out .exit)) r ⌝ }
+// Writes the numbers of the groups in conflict with the group that four words mark, rising, and says how many.
+pub fn find(n: usize, book: &[u64], count: usize, group: &[u64], out: &mut [u16]) -> usize
+    requires { ⌜ (n ≤ 256) × (384 ≤ length (now book)) × (count ≤ 96) × (length (now group) ≡ 4) × (count ≤ length (now out)) ⌝ }
+    ensures { λ r. ⌜ Wrote (conflicts-of n (lent-book (now (book .entry)) count) (marked (now (group .entry)))) (now (out .entry)) (now (out .exit)) r ⌝ }
 {
-    let mut group = [0u64; 4];
-    mark_words::mark_list(list, &mut group);
     let mut words = [group[0], group[1], group[2], group[3]];
     conflict_leaves::choose(&mut words, book, n);
     let mut start = [0u16; 512];
     let m = conflict_leaves::start_tree(&words, n, &mut start);
     let mut toks = [0u16; 512];
-    let got = tree_update::join(&start[0..m], &group, n, &mut toks);
+    let got = tree_update::join(&start[0..m], group, n, &mut toks);
     // One group by itself always joins.
     let Updated::Tokens(k) = got else {
         return 0;
@@ -83,8 +81,10 @@ pub fn conflict(n: usize, book: &[u64], count: usize, list: &[u16], conflicts: &
     if let Checked::Bad(why) = checked {
         return Answer::Refused(why);
     }
+    let mut group = [0u64; 4];
+    mark_words::mark_list(list, &mut group);
     let mut numbers = [0u16; 96];
-    let k = find(n, book, count, list, &mut numbers);
+    let k = find(n, book, count, &group, &mut numbers);
     tree_tokens::copy(&numbers, conflicts);
     Answer::Done(k)
 }

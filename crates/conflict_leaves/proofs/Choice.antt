@@ -14,8 +14,9 @@ use Rattle.mark_words.specs.Marks.{marked, word-of, words-of, with-leaf}
 use Rattle.mark_words.proofs.Word.{word-is, bit-or}
 use Rattle.mark_words.proofs.Words.{marked-at, marked-words}
 use Rattle.mark_words.proofs.Leaves.{marked-range}
+use Rattle.spec_calls.specs.Calls.{group-numbered}
 use Rattle.table_book.proofs.Laws.{group-part}
-use Rattle.conflict_leaves.specs.StandIn.{either, Below, FirstUnmarked, Unused, Chosen, group}
+use Rattle.conflict_leaves.specs.StandIn.{either, Below, FirstUnmarked, Unused, Chosen}
 use Rattle.spec_orders.proofs.Tests.{false-if}
 
 -- One word of two united.
@@ -37,8 +38,7 @@ module _ (vs ws us : List ℕ) (h : length vs ≡ length ws) (u : us ≡ words-o
   second-below b e = let r = marked-range ws b e in is b (r .0, omega (arith, r .1, h)) ∙ rw (e, or-true (marked vs b))
 
 -- The book's groups up to the number k, and one more.
-pub part-numbered : (book : List ℕ) (k : ℕ) → marked (take (4 * k + 4 - 4 * k) (drop (4 * k) book)) ≡ group book (k + 1)
-unfolding group
+pub part-numbered : (book : List ℕ) (k : ℕ) → marked (take (4 * k + 4 - 4 * k) (drop (4 * k) book)) ≡ group-numbered book (k + 1)
 part-numbered book k = let e : k ≡ k + 1 - 1 = omega arith in ap marked (group-part book k) ∙ ap (λ (i : ℕ). marked (take 4 (drop (4 * i) book))) e
 
 pub one-more-below : {f : ℕ → Restriction} {k : ℕ} {G H : Restriction} → ((j : ℕ) → 1 ≤ j → j ≤ k → Below (f j) G) → Below G H → Below (f (k + 1)) H

@@ -2,18 +2,12 @@
 use mathlib.Core.Path.{_≡_}
 use mathlib.Core.Bool.{true, false, _||_}
 use mathlib.Core.List.{List, _∷_}
-use Prim.Native.Nat.{ℕ, _+_, _-_, _<_, _≤_}
+use Prim.Native.Nat.{ℕ, _+_, _<_, _≤_}
 use Rattle.spec_orders.specs.Lists.{those-of, Rearranged}
 use Rattle.spec_orders.specs.CircularOrder.{others, CircularOrder, Restriction, Consecutive}
 use Rattle.spec_orders.specs.Tree.{Forest}
 use Rattle.spec_orders.specs.Reduce.{pack}
 use Rattle.spec_orders.specs.Join.{leaf-items}
-use Rattle.mark_words.specs.Marks.{marked}
-use Rattle.spec_calls.specs.Book.{group-words}
-
--- The group with the number j, from 1.
-unfoldable pub group : List ℕ → ℕ → Restriction
-group book j = marked (group-words book (j - 1))
 
 -- The leaves of one restriction or the other.
 abbrev pub either : Restriction → Restriction → Restriction

@@ -6,9 +6,10 @@ ghost use Rattle.spec_orders.specs.Lists.{those-of};
 ghost use Rattle.spec_orders.specs.CircularOrder.{others};
 ghost use Rattle.spec_orders.specs.Join.{leaf-items};
 ghost use Rattle.mark_words.specs.Marks.{marked, words-of};
+ghost use Rattle.spec_calls.specs.Calls.{group-numbered};
 ghost use Rattle.tree_tokens.specs.Tokens.{Wrote};
 ghost use Rattle.tree_pieces.specs.Writers.{flat};
-ghost use Rattle.conflict_leaves.specs.StandIn.{either, Below, FirstUnmarked, Chosen, start, group};
+ghost use Rattle.conflict_leaves.specs.StandIn.{either, Below, FirstUnmarked, Chosen, start};
 
 // Marks in words, beside its own leaves, those of more, which has as many words.
 fn add(words: &mut [u64], more: &[u64])
@@ -26,7 +27,7 @@ fn add(words: &mut [u64], more: &[u64])
 fn add_book(words: &mut [u64], book: &[u64])
     requires { ⌜ (length (now words) ≡ 4) × (384 ≤ length (now book)) ⌝ }
     ensures { λ _. ⌜ (Below (marked (now (words .entry))) (marked (now (words .exit))))
-        × ((j : ℕ) → 1 ≤ j → j ≤ 96 → Below (group (now (book .entry)) j) (marked (now (words .exit)))) ⌝ }
+        × ((j : ℕ) → 1 ≤ j → j ≤ 96 → Below (group-numbered (now (book .entry)) j) (marked (now (words .exit)))) ⌝ }
 {
     let mut k = 0;
     while k < 96 {
@@ -56,7 +57,7 @@ fn first_unmarked(words: &[u64], n: usize) -> usize
 // which stands for all such leaves.
 pub fn choose(words: &mut [u64], book: &[u64], n: usize)
     requires { ⌜ (length (now words) ≡ 4) × (384 ≤ length (now book)) × (n ≤ 256) ⌝ }
-    ensures { λ _. ⌜ Chosen n (marked (now (words .entry))) (group (now (book .entry))) (marked (now (words .exit))) ⌝ }
+    ensures { λ _. ⌜ Chosen n (marked (now (words .entry))) (group-numbered (now (book .entry))) (marked (now (words .exit))) ⌝ }
 {
     add_book(words, book);
     let first = first_unmarked(words, n);

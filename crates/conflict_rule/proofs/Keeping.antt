@@ -1,185 +1,126 @@
--- The leaving-out rule over numbers: it goes by what the groups that stay allow; the first half of the numbers with the second half staying,
--- then the second half with what is kept of the first.
-use mathlib.Core.Path.{_≡_, refl, sym, ap, subst, _∙_}
-use mathlib.Core.Logic.{_↔_}
+-- The leaving-out rule, over any test: it goes by the groups that stay, in whatever sequence; the first half of the numbers with the second half
+-- staying, then the second half with what is kept of the first.
+use mathlib.Core.Path.{_≡_, refl, sym, ap, ap₂, subst, _∙_}
+use mathlib.Core.Logic.{_↔_, ⊎-elim}
 use mathlib.Core.Bool.{Bool, true, false}
 use mathlib.Core.List.{List, [], _∷_, _++_, map, map-append, append-assoc, append-nil}
-use Prim.Native.Nat.{ℕ, zero, suc, _≤_}
+use Prim.Native.Nat.{ℕ, _≤_}
 use native.Mathlib.Omega.{arith}
 use lib.ListN.{length, take, drop, take-append-drop}
-use Rattle.spec_orders.specs.Lists.{All, numbers-from}
-use Rattle.spec_orders.specs.CircularOrder.{Restriction, AllConsecutive, Possible}
-use Rattle.spec_orders.specs.Conflict.{possible?, leave-out, conflict-list}
-use Rattle.spec_orders.proofs.ListLaws.{all-append, all-left, all-right}
-use Rattle.spec_orders.proofs.Decide.{possible-decides}
-use Rattle.spec_orders.proofs.Conflicts.{fewer, not-possible}
-use Rattle.spec_orders.proofs.Tests.{false-if}
-use Rattle.conflict_rule.specs.LeavingOut.{keeps, goes-on, conflicts-among}
+use Rattle.spec_orders.specs.Lists.{In}
+use Rattle.spec_orders.specs.Conflict.{leave-out}
+use Rattle.spec_orders.proofs.Members.{in-left, in-right, in-append}
+use Rattle.spec_orders.proofs.Conflicts.{by-test, Tests, not-ok, ok-not}
+use Rattle.conflict_rule.specs.LeavingOut.{goes-on}
 
--- Groups that hang together in the same orders.
-abbrev Same : List Restriction → List Restriction → Type 0
-Same Gs Hs = (ord : List ℕ) → AllConsecutive Gs ord ↔ AllConsecutive Hs ord
+-- The same groups, in whatever sequence.
+module _ {A : Type 0} where
+  abbrev Same : List A → List A → Type 0
+  Same Gs Hs = (x : A) → In x Gs ↔ In x Hs
 
-same-more : (Gs Hs l : List Restriction) → Same Gs Hs → Same (Gs ++ l) (Hs ++ l)
-same-more Gs Hs l s ord = (
-  (λ w. all-append _ Hs l (s ord .0 (all-left _ Gs l w)) (all-right _ Gs l w)),
-  (λ w. all-append _ Gs l (s ord .1 (all-left _ Hs l w)) (all-right _ Hs l w)),
-)
+  in-parts : {P : Type 0} (x : A) (a b : List A) → (In x a → P) → (In x b → P) → In x (a ++ b) → P
+  in-parts x a b f g i = ⊎-elim f g (in-append x a b i)
 
-same-swap : (Gs k l : List Restriction) → Same (Gs ++ (k ++ l)) ((Gs ++ l) ++ k)
-same-swap Gs k l ord = (
-  (λ w.
-      let r = all-right _ Gs (k ++ l) w in
-      all-append _ (Gs ++ l) k (all-append _ Gs l (all-left _ Gs (k ++ l) w) (all-right _ k l r)) (all-left _ k l r)),
-  (λ w.
-      let r = all-left _ (Gs ++ l) k w in
-      all-append _ Gs (k ++ l) (all-left _ Gs l r) (all-append _ k l (all-right _ (Gs ++ l) k w) (all-right _ Gs l r))),
-)
+  same-more : (Gs Hs l : List A) → Same Gs Hs → Same (Gs ++ l) (Hs ++ l)
+  same-more Gs Hs l s x = (
+    in-parts x Gs l (λ i. in-left x Hs l (s x .0 i)) (in-right x Hs l),
+    in-parts x Hs l (λ i. in-left x Gs l (s x .1 i)) (in-right x Gs l),
+  )
 
-same-test : (n : ℕ) (Gs Hs : List Restriction) → Same Gs Hs → possible? n Gs ≡ possible? n Hs
-same-test n Gs Hs s = go (possible? n Gs) refl
-  where
-    go : (b : Bool) → possible? n Gs ≡ b → possible? n Gs ≡ possible? n Hs
-    go true q = q ∙ sym (possible-decides n Hs .1 (fewer n Gs Hs (λ ord. s ord .0) (possible-decides n Gs .0 q)))
-    go false q = q ∙ sym (false-if (possible? n Hs) (λ e. not-possible n Gs q (fewer n Hs Gs (λ ord. s ord .1) (possible-decides n Hs .0 e))))
+  same-swap : (Gs k l : List A) → Same (Gs ++ (k ++ l)) ((Gs ++ l) ++ k)
+  same-swap Gs k l x = (
+    in-parts x Gs (k ++ l) (λ i. in-left x (Gs ++ l) k (in-left x Gs l i))
+        (in-parts x k l (in-right x (Gs ++ l) k) (λ i. in-left x (Gs ++ l) k (in-right x Gs l i))),
+    in-parts x (Gs ++ l) k (in-parts x Gs l (in-left x Gs (k ++ l)) (λ i. in-right x Gs (k ++ l) (in-right x k l i)))
+        (λ i. in-right x Gs (k ++ l) (in-left x k l i)),
+  )
 
-module _ (n : ℕ) (f : ℕ → Restriction) where
-  choice : List Restriction → ℕ → List ℕ → Bool → List ℕ
-  choice Gs j js b = elim b [ true ↦ j ∷ keeps n f (Gs ++ (f j ∷ [])) js | false ↦ keeps n f Gs js ]
+module _ {A : Type 0} {Ok : List A → Type 0} {ok : List A → Bool} (t : Tests Ok ok) (f : ℕ → A) where
+  same-test : (Gs Hs : List A) → Same Gs Hs → ok Gs ≡ ok Hs
+  same-test Gs Hs s = go (ok Gs) refl
+    where
+      go : (b : Bool) → ok Gs ≡ b → ok Gs ≡ ok Hs
+      go true q = q ∙ sym (t .decides Hs .1 (t .fewer Gs Hs (λ x. s x .1) (t .decides Gs .0 q)))
+      go false q = q ∙ sym (ok-not t Hs (λ p. not-ok t Gs q (t .fewer Hs Gs (λ x. s x .0) p)))
+
+  -- Those behind the first numbers.
+  pub fewer-behind : (stay : List A) (out js : List ℕ) → Ok (stay ++ map f (out ++ js)) → Ok (stay ++ map f js)
+  fewer-behind stay out js =
+      t .fewer (stay ++ map f (out ++ js)) (stay ++ map f js) (λ x. in-parts x stay (map f js) (in-left x stay (map f (out ++ js)))
+      (λ i. in-right x stay (map f (out ++ js)) (subst (In x) (sym (map-append f out js)) (in-right x (map f out) (map f js) i))))
 
   -- The first number is kept; it is left out.
-  keeps-first : (Gs : List Restriction) (j : ℕ) (js : List ℕ) → possible? n (Gs ++ map f js) ≡ true
-      → keeps n f Gs (j ∷ js) ≡ j ∷ keeps n f (Gs ++ (f j ∷ [])) js
-  unfolding keeps choice
-  keeps-first Gs j js e = ap (choice Gs j js) e
+  rule-first : (stay : List A) (j : ℕ) (js : List ℕ) → ok (stay ++ map f js) ≡ true → leave-out ok f stay (j ∷ js) ≡ j ∷ leave-out ok f (stay ++ (f j ∷ [])) js
+  unfolding leave-out by-test
+  rule-first stay j js e = ap (λ (b : Bool). by-test b (j ∷ leave-out ok f (stay ++ (f j ∷ [])) js) (leave-out ok f stay js)) e
 
-  keeps-rest : (Gs : List Restriction) (j : ℕ) (js : List ℕ) → possible? n (Gs ++ map f js) ≡ false → keeps n f Gs (j ∷ js) ≡ keeps n f Gs js
-  unfolding keeps choice
-  keeps-rest Gs j js e = ap (choice Gs j js) e
+  rule-rest : (stay : List A) (j : ℕ) (js : List ℕ) → ok (stay ++ map f js) ≡ false → leave-out ok f stay (j ∷ js) ≡ leave-out ok f stay js
+  unfolding leave-out by-test
+  rule-rest stay j js e = ap (λ (b : Bool). by-test b (j ∷ leave-out ok f (stay ++ (f j ∷ [])) js) (leave-out ok f stay js)) e
 
-  keeps-same : (Gs Hs : List Restriction) (js : List ℕ) → Same Gs Hs → keeps n f Gs js ≡ keeps n f Hs js
-  unfolding keeps choice
-  keeps-same Gs Hs [] s = refl
-  keeps-same Gs Hs (j ∷ js) s =
-      ap (choice Gs j js) (same-test n (Gs ++ map f js) (Hs ++ map f js) (same-more Gs Hs (map f js) s))
-      ∙ go (possible? n (Hs ++ map f js)) (keeps-same (Gs ++ (f j ∷ [])) (Hs ++ (f j ∷ [])) js (same-more Gs Hs (f j ∷ []) s)) (keeps-same Gs Hs js s)
-    where
-      go : (b : Bool) → keeps n f (Gs ++ (f j ∷ [])) js ≡ keeps n f (Hs ++ (f j ∷ [])) js → keeps n f Gs js ≡ keeps n f Hs js → choice Gs j js b ≡ choice Hs j js b
-      go true p q = ap (λ (l : List ℕ). j ∷ l) p
-      go false p q = q
-
-  test-false : (Gs Hs : List Restriction) → ((ord : List ℕ) → AllConsecutive Hs ord → AllConsecutive Gs ord) → (Possible n Gs → ⊥) → possible? n Hs ≡ false
-  test-false Gs Hs h u = false-if (possible? n Hs) (λ e. u (fewer n Hs Gs h (possible-decides n Hs .0 e)))
+  rule-same : (Gs Hs : List A) (js : List ℕ) → Same Gs Hs → leave-out ok f Gs js ≡ leave-out ok f Hs js
+  unfolding leave-out by-test
+  rule-same Gs Hs [] s = refl
+  rule-same Gs Hs (j ∷ js) s =
+      ap (λ (b : Bool). by-test b (j ∷ leave-out ok f (Gs ++ (f j ∷ [])) js) (leave-out ok f Gs js)) (same-test (Gs ++ map f js) (Hs ++ map f js) (same-more Gs Hs (map f js) s))
+      ∙ ap₂ (λ (k l : List ℕ). by-test (ok (Hs ++ map f js)) (j ∷ k) l) (rule-same (Gs ++ (f j ∷ [])) (Hs ++ (f j ∷ [])) js (same-more Gs Hs (f j ∷ []) s)) (rule-same Gs Hs js s)
 
   -- One half, then the other.
-  keeps-append : (Gs : List Restriction) (js ks : List ℕ) → keeps n f Gs (js ++ ks) ≡ goes-on n f Gs (keeps n f (Gs ++ map f ks) js) ks
-  unfolding keeps goes-on
-  keeps-append Gs [] ks = ap (λ (l : List Restriction). keeps n f l ks) (sym (append-nil Gs))
-  keeps-append Gs (j ∷ js) ks = go (possible? n ((Gs ++ map f ks) ++ map f js)) refl (keeps-append (Gs ++ (f j ∷ [])) js ks) (keeps-append Gs js ks)
+  rule-append : (stay : List A) (js ks : List ℕ) → leave-out ok f stay (js ++ ks) ≡ goes-on ok f stay (leave-out ok f (stay ++ map f ks) js) ks
+  unfolding leave-out goes-on
+  rule-append stay [] ks = ap (λ (l : List A). leave-out ok f l ks) (sym (append-nil stay))
+  rule-append stay (j ∷ js) ks = go (ok ((stay ++ map f ks) ++ map f js)) refl (rule-append (stay ++ (f j ∷ [])) js ks) (rule-append stay js ks)
     where
-      test : possible? n (Gs ++ map f (js ++ ks)) ≡ possible? n ((Gs ++ map f ks) ++ map f js)
-      test = ap (λ (l : List Restriction). possible? n (Gs ++ l)) (map-append f js ks) ∙ same-test n _ _ (same-swap Gs (map f js) (map f ks))
+      test : ok (stay ++ map f (js ++ ks)) ≡ ok ((stay ++ map f ks) ++ map f js)
+      test = ap (λ (l : List A). ok (stay ++ l)) (map-append f js ks) ∙ same-test _ _ (same-swap stay (map f js) (map f ks))
 
       first : List ℕ
-      first = keeps n f ((Gs ++ map f ks) ++ (f j ∷ [])) js
+      first = leave-out ok f ((stay ++ map f ks) ++ (f j ∷ [])) js
 
-      moved : keeps n f ((Gs ++ (f j ∷ [])) ++ map f ks) js ≡ first
-      moved = ap (λ (l : List Restriction). keeps n f l js) (append-assoc Gs (f j ∷ []) (map f ks))
-          ∙ keeps-same (Gs ++ ((f j ∷ []) ++ map f ks)) ((Gs ++ map f ks) ++ (f j ∷ [])) js (same-swap Gs (f j ∷ []) (map f ks))
+      moved : leave-out ok f ((stay ++ (f j ∷ [])) ++ map f ks) js ≡ first
+      moved = ap (λ (l : List A). leave-out ok f l js) (append-assoc stay (f j ∷ []) (map f ks))
+          ∙ rule-same (stay ++ ((f j ∷ []) ++ map f ks)) ((stay ++ map f ks) ++ (f j ∷ [])) js (same-swap stay (f j ∷ []) (map f ks))
 
-      go : (b : Bool) → possible? n ((Gs ++ map f ks) ++ map f js) ≡ b
-          → keeps n f (Gs ++ (f j ∷ [])) (js ++ ks) ≡ goes-on n f (Gs ++ (f j ∷ [])) (keeps n f ((Gs ++ (f j ∷ [])) ++ map f ks) js) ks
-          → keeps n f Gs (js ++ ks) ≡ goes-on n f Gs (keeps n f (Gs ++ map f ks) js) ks
-          → keeps n f Gs (j ∷ (js ++ ks)) ≡ goes-on n f Gs (keeps n f (Gs ++ map f ks) (j ∷ js)) ks
+      go : (b : Bool) → ok ((stay ++ map f ks) ++ map f js) ≡ b
+          → leave-out ok f (stay ++ (f j ∷ [])) (js ++ ks) ≡ goes-on ok f (stay ++ (f j ∷ [])) (leave-out ok f ((stay ++ (f j ∷ [])) ++ map f ks) js) ks
+          → leave-out ok f stay (js ++ ks) ≡ goes-on ok f stay (leave-out ok f (stay ++ map f ks) js) ks
+          → leave-out ok f stay (j ∷ (js ++ ks)) ≡ goes-on ok f stay (leave-out ok f (stay ++ map f ks) (j ∷ js)) ks
       go true q p r =
-          keeps-first Gs j (js ++ ks) (test ∙ q)
-          ∙ ap (λ (l : List ℕ). j ∷ l) (p ∙ ap (λ (l : List ℕ). goes-on n f (Gs ++ (f j ∷ [])) l ks) moved)
-          ∙ ap (λ (l : List Restriction). j ∷ (first ++ keeps n f l ks)) (append-assoc Gs (f j ∷ []) (map f first))
-          ∙ ap (λ (l : List ℕ). goes-on n f Gs l ks) (sym (keeps-first (Gs ++ map f ks) j js q))
+          rule-first stay j (js ++ ks) (test ∙ q)
+          ∙ ap (λ (l : List ℕ). j ∷ l) (p ∙ ap (λ (l : List ℕ). goes-on ok f (stay ++ (f j ∷ [])) l ks) moved)
+          ∙ ap (λ (l : List A). j ∷ (first ++ leave-out ok f l ks)) (append-assoc stay (f j ∷ []) (map f first))
+          ∙ ap (λ (l : List ℕ). goes-on ok f stay l ks) (sym (rule-first (stay ++ map f ks) j js q))
       go false q p r =
-          keeps-rest Gs j (js ++ ks) (test ∙ q) ∙ r ∙ ap (λ (l : List ℕ). goes-on n f Gs l ks) (sym (keeps-rest (Gs ++ map f ks) j js q))
+          rule-rest stay j (js ++ ks) (test ∙ q) ∙ r ∙ ap (λ (l : List ℕ). goes-on ok f stay l ks) (sym (rule-rest (stay ++ map f ks) j js q))
 
-  pub keeps-halves : (Gs : List Restriction) (js : List ℕ) (m : ℕ)
-      → keeps n f Gs js ≡ goes-on n f Gs (keeps n f (Gs ++ map f (drop m js)) (take m js)) (drop m js)
-  keeps-halves Gs js m = ap (keeps n f Gs) (sym (take-append-drop m js)) ∙ keeps-append Gs (take m js) (drop m js)
+  pub rule-halves : (stay : List A) (js : List ℕ) (m : ℕ)
+      → leave-out ok f stay js ≡ goes-on ok f stay (leave-out ok f (stay ++ map f (drop m js)) (take m js)) (drop m js)
+  rule-halves stay js m = ap (leave-out ok f stay) (sym (take-append-drop m js)) ∙ rule-append stay (take m js) (drop m js)
 
   -- Those that stay are impossible already: no other is kept.
-  keeps-none : (Gs : List Restriction) (js : List ℕ) → (Possible n Gs → ⊥) → keeps n f Gs js ≡ []
-  unfolding keeps
-  keeps-none Gs [] u = refl
-  keeps-none Gs (j ∷ js) u = keeps-rest Gs j js (test-false Gs (Gs ++ map f js) (λ ord. all-left _ Gs (map f js)) u) ∙ keeps-none Gs js u
+  rule-none : (stay : List A) (js : List ℕ) → (Ok stay → ⊥) → leave-out ok f stay js ≡ []
+  unfolding leave-out
+  rule-none stay [] u = refl
+  rule-none stay (j ∷ js) u =
+      rule-rest stay j js (ok-not t (stay ++ map f js) (λ p. u (t .fewer (stay ++ map f js) stay (λ x. in-left x stay (map f js)) p))) ∙ rule-none stay js u
 
-  pub goes-on-none : (Gs : List Restriction) (kept js : List ℕ) → (Possible n (Gs ++ map f kept) → ⊥) → goes-on n f Gs kept js ≡ kept
+  pub goes-on-none : (stay : List A) (kept js : List ℕ) → (Ok (stay ++ map f kept) → ⊥) → goes-on ok f stay kept js ≡ kept
   unfolding goes-on
-  goes-on-none Gs kept js u = ap (λ (l : List ℕ). kept ++ l) (keeps-none (Gs ++ map f kept) js u) ∙ append-nil kept
+  goes-on-none stay kept js u = ap (λ (l : List ℕ). kept ++ l) (rule-none (stay ++ map f kept) js u) ∙ append-nil kept
 
   -- Those behind the first numbers are impossible by themselves: the first numbers are left out.
-  pub keeps-behind : (Gs : List Restriction) (out js : List ℕ) → (Possible n (Gs ++ map f js) → ⊥) → keeps n f Gs (out ++ js) ≡ keeps n f Gs js
-  keeps-behind Gs [] js u = refl
-  keeps-behind Gs (j ∷ out) js u =
-      keeps-rest Gs j (out ++ js) (test-false (Gs ++ map f js) (Gs ++ map f (out ++ js)) fewer-all u)
-      ∙ keeps-behind Gs out js u
-    where
-      fewer-all : (ord : List ℕ) → AllConsecutive (Gs ++ map f (out ++ js)) ord → AllConsecutive (Gs ++ map f js) ord
-      fewer-all ord w =
-          let v = subst (λ l. AllConsecutive (Gs ++ l) ord) (map-append f out js) w in
-          all-append _ Gs (map f js) (all-left _ Gs (map f out ++ map f js) v) (all-right _ (map f out) (map f js) (all-right _ Gs (map f out ++ map f js) v))
+  pub rule-behind : (stay : List A) (out js : List ℕ) → (Ok (stay ++ map f js) → ⊥) → leave-out ok f stay (out ++ js) ≡ leave-out ok f stay js
+  rule-behind stay [] js u = refl
+  rule-behind stay (j ∷ out) js u = rule-rest stay j (out ++ js) (ok-not t (stay ++ map f (out ++ js)) (λ p. u (fewer-behind stay out js p))) ∙ rule-behind stay out js u
 
   -- The others are possible: the first number is kept.
-  pub keeps-next : (Gs : List Restriction) (j : ℕ) (js : List ℕ) → Possible n (Gs ++ map f js) → keeps n f Gs (j ∷ js) ≡ goes-on n f Gs (j ∷ []) js
+  pub rule-next : (stay : List A) (j : ℕ) (js : List ℕ) → Ok (stay ++ map f js) → leave-out ok f stay (j ∷ js) ≡ goes-on ok f stay (j ∷ []) js
   unfolding goes-on
-  keeps-next Gs j js p = keeps-first Gs j js (possible-decides n (Gs ++ map f js) .1 p)
+  rule-next stay j js p = rule-first stay j js (t .decides (stay ++ map f js) .1 p)
 
   -- One number, or none.
-  pub keeps-short : (Gs : List Restriction) (js : List ℕ) → length js ≤ 1 → Possible n Gs → keeps n f Gs js ≡ js
-  unfolding keeps
-  keeps-short Gs [] h p = refl
-  keeps-short Gs (j ∷ []) h p = keeps-first Gs j [] (possible-decides n (Gs ++ []) .1 (subst (Possible n) (sym (append-nil Gs)) p))
-  keeps-short Gs (j ∷ (k ∷ js)) h p = absurd (omega arith)
-
-  pub keeps-all : (P : ℕ → Type 0) (Gs : List Restriction) (js : List ℕ) → All P js → All P (keeps n f Gs js)
-  unfolding keeps
-  keeps-all P Gs [] h = tt
-  keeps-all P Gs (j ∷ js) h = go (possible? n (Gs ++ map f js)) (keeps-all P (Gs ++ (f j ∷ [])) js (h .1)) (keeps-all P Gs js (h .1))
-    where
-      go : (b : Bool) → All P (keeps n f (Gs ++ (f j ∷ [])) js) → All P (keeps n f Gs js)
-          → All P (elim b [ true ↦ j ∷ keeps n f (Gs ++ (f j ∷ [])) js | false ↦ keeps n f Gs js ])
-      go true p q = (h .0, p)
-      go false p q = q
-
-  -- What is kept among the numbers: nothing; what the rule keeps.
-  among : List Restriction → List ℕ → Bool → List ℕ
-  among Gs js b = elim b [ true ↦ [] | false ↦ keeps n f Gs js ]
-
-  pub among-none : (Gs : List Restriction) (js : List ℕ) → Possible n (Gs ++ map f js) → conflicts-among n f Gs js ≡ []
-  unfolding conflicts-among among
-  among-none Gs js p = ap (among Gs js) (possible-decides n (Gs ++ map f js) .1 p)
-
-  pub among-some : (Gs : List Restriction) (js : List ℕ) → (Possible n (Gs ++ map f js) → ⊥) → conflicts-among n f Gs js ≡ keeps n f Gs js
-  unfolding conflicts-among among
-  among-some Gs js u = ap (among Gs js) (false-if (possible? n (Gs ++ map f js)) (λ e. u (possible-decides n (Gs ++ map f js) .0 e)))
-
-  -- The rule as it is written.
-  rule-keeps : (new : Restriction) (kept : List Restriction) (k m : ℕ)
-      → keeps n f (new ∷ kept) (numbers-from k m) ≡ leave-out n new kept k (map f (numbers-from k m))
-  unfolding keeps leave-out
-  rule-keeps new kept k zero = refl
-  rule-keeps new kept k (suc m) =
-      go (possible? n (new ∷ (kept ++ map f (numbers-from (suc k) m)))) (rule-keeps new (kept ++ (f k ∷ [])) (suc k) m) (rule-keeps new kept (suc k) m)
-    where
-      rest : List Restriction
-      rest = map f (numbers-from (suc k) m)
-
-      go : (b : Bool) → keeps n f (new ∷ (kept ++ (f k ∷ []))) (numbers-from (suc k) m) ≡ leave-out n new (kept ++ (f k ∷ [])) (suc k) rest
-          → keeps n f (new ∷ kept) (numbers-from (suc k) m) ≡ leave-out n new kept (suc k) rest
-          → _≡_ {A = List ℕ} (elim b [ true ↦ k ∷ keeps n f (new ∷ (kept ++ (f k ∷ []))) (numbers-from (suc k) m) | false ↦ keeps n f (new ∷ kept) (numbers-from (suc k) m) ])
-          (elim b [ true ↦ k ∷ leave-out n new (kept ++ (f k ∷ [])) (suc k) rest | false ↦ leave-out n new kept (suc k) rest ])
-      go true p q = ap (λ (l : List ℕ). k ∷ l) p
-      go false p q = q
-
-  unless : Bool → List ℕ → List ℕ
-  unless b l = elim b [ true ↦ [] | false ↦ l ]
-
-  pub rule-list : (new : Restriction) (m : ℕ) → conflicts-among n f (new ∷ []) (numbers-from 1 m) ≡ conflict-list n (map f (numbers-from 1 m)) new
-  unfolding conflicts-among conflict-list unless
-  rule-list new m = ap (unless (possible? n (new ∷ map f (numbers-from 1 m)))) (rule-keeps new [] 1 m)
+  pub rule-short : (stay : List A) (js : List ℕ) → length js ≤ 1 → Ok stay → leave-out ok f stay js ≡ js
+  unfolding leave-out
+  rule-short stay [] h p = refl
+  rule-short stay (j ∷ []) h p = rule-first stay j [] (t .decides (stay ++ []) .1 (subst Ok (sym (append-nil stay)) p))
+  rule-short stay (j ∷ (k ∷ js)) h p = absurd (omega arith)

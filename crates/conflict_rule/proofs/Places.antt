@@ -9,36 +9,27 @@ use Rattle.spec_orders.specs.Lists.{numbers-from}
 use Rattle.spec_orders.specs.CircularOrder.{Restriction}
 use Rattle.spec_orders.proofs.ListLaws.{all-left, all-right}
 use Rattle.spec_orders.proofs.Members.{in-all}
-use Rattle.spec_orders.proofs.Numbers.{numbers-length, numbers-append, in-range}
+use Rattle.spec_orders.proofs.Numbers.{numbers-append, in-range}
 use Rattle.mark_words.specs.Marks.{marked}
 use Rattle.spec_calls.specs.Tables.{lent-book}
 use Rattle.spec_calls.specs.Book.{group-words, groups}
 use Rattle.table_book.proofs.Laws.{group-part}
-use Rattle.conflict_leaves.specs.StandIn.{group}
+use Rattle.spec_calls.specs.Calls.{group-numbered}
 use Rattle.conflict_rule.specs.LeavingOut.{InBook}
 
 -- The groups are those with the numbers from 1 on.
-numbered : (book : List ℕ) (a m : ℕ) → map (λ k. marked (group-words book k)) (numbers-from a m) ≡ map (group book) (numbers-from (suc a) m)
-unfolding group
-numbered book a zero = refl
-numbered book a (suc m) =
+groups-from : (book : List ℕ) (a m : ℕ) → map (λ k. marked (group-words book k)) (numbers-from a m) ≡ map (group-numbered book) (numbers-from (suc a) m)
+groups-from book a zero = refl
+groups-from book a (suc m) =
     let e : a ≡ suc a - 1 = omega arith in
-    ap₂ (λ (G : Restriction) (l : List Restriction). G ∷ l) (ap (λ (k : ℕ). marked (group-words book k)) e) (numbered book (suc a) m)
+    ap₂ (λ (G : Restriction) (l : List Restriction). G ∷ l) (ap (λ (k : ℕ). marked (group-words book k)) e) (groups-from book (suc a) m)
 
-pub groups-numbered : (book : List ℕ) (count : ℕ) → groups (lent-book book count) ≡ map (group book) (numbers-from 1 count)
+pub groups-numbered : (book : List ℕ) (count : ℕ) → groups (lent-book book count) ≡ map (group-numbered book) (numbers-from 1 count)
 unfolding groups
-groups-numbered book count = numbered book 0 count
-
-map-length : {A B : Type 0} (f : A → B) (l : List A) → length (map f l) ≡ length l
-map-length f [] = refl
-map-length f (x ∷ l) = ap suc (map-length f l)
-
-pub groups-length : (book : List ℕ) (count : ℕ) → length (groups (lent-book book count)) ≡ count
-groups-length book count = ap length (groups-numbered book count) ∙ map-length (group book) (numbers-from 1 count) ∙ numbers-length 1 count
+groups-numbered book count = groups-from book 0 count
 
 -- The part of the book that a function is lent.
-pub part-group : (book : List ℕ) (j : ℕ) → marked (take (4 * (j - 1) + 4 - 4 * (j - 1)) (drop (4 * (j - 1)) book)) ≡ group book j
-unfolding group
+pub part-group : (book : List ℕ) (j : ℕ) → marked (take (4 * (j - 1) + 4 - 4 * (j - 1)) (drop (4 * (j - 1)) book)) ≡ group-numbered book j
 part-group book j = ap marked (group-part book (j - 1))
 
 -- A part from the start; from a place on; an element and those behind it.

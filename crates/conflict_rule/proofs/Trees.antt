@@ -2,7 +2,7 @@
 use mathlib.Core.Path.{_≡_, sym, ap, subst, _∙_}
 use mathlib.Core.Logic.{_↔_}
 use mathlib.Core.Option.{none, some}
-use mathlib.Core.List.{List, [], _∷_, _++_, map, map-append, append-nil}
+use mathlib.Core.List.{List, [], _∷_, _++_, map, append-nil}
 use Prim.Native.Nat.{ℕ, _+_, _-_, _≤_, _<_}
 use native.Mathlib.Omega.{arith}
 use lib.ListN.{length, take, drop, getD, take-append-drop}
@@ -14,13 +14,14 @@ use Rattle.spec_orders.specs.Join.{join}
 use Rattle.spec_orders.proofs.ListLaws.{all-append, all-left, all-right, all-map}
 use Rattle.spec_orders.proofs.StandardOrders.{standard-allowed}
 use Rattle.spec_orders.proofs.Joining.{Allows, orders-left}
-use Rattle.spec_orders.proofs.Conflicts.{fewer}
+use Rattle.spec_orders.specs.Conflict.{possible?, leave-out, conflict-list}
+use Rattle.spec_orders.proofs.Conflicts.{list-empty, list-kept, ring-tests}
 use Rattle.tree_pieces.specs.Writers.{flat}
 use Rattle.tree_update.specs.Update.{TokensWithin}
 use Rattle.tree_update.proofs.Updates.{join-form}
 use Rattle.conflict_leaves.specs.StandIn.{OrderOf}
-use Rattle.conflict_rule.specs.LeavingOut.{Represents, TokensRepresent, Walked, Stops, keeps, goes-on, conflicts-among}
-use Rattle.conflict_rule.proofs.Keeping.{keeps-behind, keeps-next, goes-on-none, among-none, among-some}
+use Rattle.conflict_rule.specs.LeavingOut.{Represents, TokensRepresent, Walked, Stops, goes-on}
+use Rattle.conflict_rule.proofs.Keeping.{fewer-behind, rule-behind, rule-next, goes-on-none}
 use Rattle.conflict_rule.proofs.Places.{from-before}
 
 module _ {n : ℕ} {f : ℕ → Restriction} {Gs : List Restriction} {t : Forest} (G : Restriction) (rep : Represents n f Gs t) where
@@ -72,10 +73,7 @@ one-more Gs l G ord = (
 
 -- All numbers, and those behind some.
 behind : (n : ℕ) (f : ℕ → Restriction) (Gs : List Restriction) (js : List ℕ) (i : ℕ) → Possible n (Gs ++ map f js) → Possible n (Gs ++ map f (drop i js))
-behind n f Gs js i = fewer n (Gs ++ map f js) (Gs ++ map f (drop i js)) (λ ord w.
-    let v = subst (λ l. AllConsecutive (Gs ++ l) ord) (ap (map f) (sym (take-append-drop i js)) ∙ map-append f (take i js) (drop i js)) w in
-    all-append _ Gs (map f (drop i js)) (all-left _ Gs (map f (take i js) ++ map f (drop i js)) v)
-    (all-right _ (map f (take i js)) (map f (drop i js)) (all-right _ Gs (map f (take i js) ++ map f (drop i js)) v)))
+behind n f Gs js i p = fewer-behind (ring-tests n) f Gs (take i js) (drop i js) (subst (λ l. Possible n (Gs ++ map f l)) (sym (take-append-drop i js)) p)
 
 module _ {n : ℕ} {f : ℕ → Restriction} {Gs : List Restriction} where
   -- A walk begins; one group more joins; it cannot.
@@ -121,25 +119,25 @@ module _ {n : ℕ} {f : ℕ → Restriction} {Gs : List Restriction} where
 
   -- The walk stopped: the number at which it did is kept, and those before it are left out.
   pub next-kept : (js : List ℕ) (mid left : ℕ) {toks : List ℕ} → Walked n f Gs (drop mid js) left toks → Stops n f Gs (drop mid js) left
-      → 0 < left → mid + left ≤ length js → keeps n f Gs js ≡ goes-on n f Gs (getD js (mid + left - 1) 0 ∷ []) (drop (mid + left) js)
+      → 0 < left → mid + left ≤ length js → leave-out (possible? n) f Gs js ≡ goes-on (possible? n) f Gs (getD js (mid + left - 1) 0 ∷ []) (drop (mid + left) js)
   next-kept js mid left w s h g =
       let e : mid + (left - 1) ≡ mid + left - 1 = omega arith in
       let there = drop-drop (left - 1) mid js ∙ ap (λ (i : ℕ). drop i js) e in
-      ap (keeps n f Gs) (sym (take-append-drop (mid + left - 1) js))
-      ∙ keeps-behind n f Gs (take (mid + left - 1) js) (drop (mid + left - 1) js) (λ p. s .one-more h (subst (λ l. Possible n (Gs ++ map f l)) (sym there) p))
-      ∙ ap (keeps n f Gs) (from-before js (mid + left) (omega arith) g)
-      ∙ keeps-next n f Gs (getD js (mid + left - 1) 0) (drop (mid + left) js) (subst (λ l. Possible n (Gs ++ map f l)) (drop-drop left mid js) (walked-possible w))
+      ap (leave-out (possible? n) f Gs) (sym (take-append-drop (mid + left - 1) js))
+      ∙ rule-behind (ring-tests n) f Gs (take (mid + left - 1) js) (drop (mid + left - 1) js) (λ p. s .one-more h (subst (λ l. Possible n (Gs ++ map f l)) (sym there) p))
+      ∙ ap (leave-out (possible? n) f Gs) (from-before js (mid + left) (omega arith) g)
+      ∙ rule-next (ring-tests n) f Gs (getD js (mid + left - 1) 0) (drop (mid + left) js) (subst (λ l. Possible n (Gs ++ map f l)) (drop-drop left mid js) (walked-possible w))
 
-  pub no-more : (kept js : List ℕ) {left : ℕ} → Stops n f Gs kept left → 0 < left → goes-on n f Gs kept js ≡ kept
-  no-more kept js {left} s h = goes-on-none n f Gs kept js (λ p. s .one-more h (behind n f Gs kept (left - 1) p))
+  pub no-more : (kept js : List ℕ) {left : ℕ} → Stops n f Gs kept left → 0 < left → goes-on (possible? n) f Gs kept js ≡ kept
+  no-more kept js {left} s h = goes-on-none (ring-tests n) f Gs kept js (λ p. s .one-more h (behind n f Gs kept (left - 1) p))
 
   -- A walk down all numbers: all hang together; or the number at which it stopped is the first one kept.
-  pub among-all : (js : List ℕ) {left : ℕ} {toks : List ℕ} → Walked n f Gs js left toks → left ≡ 0 → conflicts-among n f Gs js ≡ []
-  among-all js w e = among-none n f Gs js (subst (λ i. Possible n (Gs ++ map f (drop i js))) e (walked-possible w))
+  pub list-all : (js : List ℕ) {left : ℕ} {toks : List ℕ} → Walked n f Gs js left toks → left ≡ 0 → conflict-list (possible? n) f Gs js ≡ []
+  list-all js w e = list-empty (ring-tests n) f Gs js (subst (λ i. Possible n (Gs ++ map f (drop i js))) e (walked-possible w))
 
   pub first-kept : (js : List ℕ) (left : ℕ) {toks : List ℕ} → Walked n f Gs js left toks → Stops n f Gs js left → 0 < left → left ≤ length js
-      → conflicts-among n f Gs js ≡ goes-on n f Gs (getD js (left - 1) 0 ∷ []) (drop left js)
+      → conflict-list (possible? n) f Gs js ≡ goes-on (possible? n) f Gs (getD js (left - 1) 0 ∷ []) (drop left js)
   first-kept js left w s h g =
       let e : 0 + left ≡ left = omega arith in
-      among-some n f Gs js (λ p. s .one-more h (behind n f Gs js (left - 1) p))
-      ∙ subst (λ i. keeps n f Gs js ≡ goes-on n f Gs (getD js (i - 1) 0 ∷ []) (drop i js)) e (next-kept js 0 left w s h (omega arith))
+      list-kept (ring-tests n) f Gs js (λ p. s .one-more h (behind n f Gs js (left - 1) p))
+      ∙ subst (λ i. leave-out (possible? n) f Gs js ≡ goes-on (possible? n) f Gs (getD js (i - 1) 0 ∷ []) (drop i js)) e (next-kept js 0 left w s h (omega arith))

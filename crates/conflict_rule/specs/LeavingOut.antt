@@ -1,14 +1,14 @@
 -- What the conflict call's functions read and answer, over the groups of a book and their numbers.
 use mathlib.Core.Path.{_≡_}
 use mathlib.Core.Logic.{_↔_}
-use mathlib.Core.Bool.{true, false}
-use mathlib.Core.List.{List, [], _∷_, _++_, map}
+use mathlib.Core.Bool.{Bool}
+use mathlib.Core.List.{List, _++_, map}
 use Prim.Native.Nat.{ℕ, _-_, _<_, _≤_}
 use lib.ListN.{drop}
 use Rattle.spec_orders.specs.Lists.{All}
 use Rattle.spec_orders.specs.CircularOrder.{Restriction, AllConsecutive, Possible}
 use Rattle.spec_orders.specs.Tree.{Forest, Allowed}
-use Rattle.spec_orders.specs.Conflict.{possible?}
+use Rattle.spec_orders.specs.Conflict.{leave-out}
 use Rattle.tree_pieces.specs.Writers.{flat}
 use Rattle.tree_update.specs.Update.{FormWithin}
 use Rattle.conflict_leaves.specs.StandIn.{OrderOf, StandIn}
@@ -40,19 +40,6 @@ pub record Walked (n : ℕ) (f : ℕ → Restriction) (Gs : List Restriction) (j
 pub record Stops (n : ℕ) (f : ℕ → Restriction) (Gs : List Restriction) (js : List ℕ) (left : ℕ) : Type 0 where
   pub one-more : 0 < left → Possible n (Gs ++ map f (drop (left - 1) js)) → ⊥
 
--- What the leaving-out rule keeps of the groups with these numbers, where Gs stay in any case.
-unfoldable pub keeps : ℕ → (ℕ → Restriction) → List Restriction → List ℕ → List ℕ
-keeps n f Gs [] = []
-keeps n f Gs (j ∷ js) =
-    elim (possible? n (Gs ++ map f js)) [
-      | true ↦ j ∷ keeps n f (Gs ++ (f j ∷ [])) js
-      | false ↦ keeps n f Gs js
-    ]
-
--- These numbers, and what the rule keeps of others where these are kept.
-unfoldable pub goes-on : ℕ → (ℕ → Restriction) → List Restriction → List ℕ → List ℕ → List ℕ
-goes-on n f Gs kept js = kept ++ keeps n f (Gs ++ map f kept) js
-
--- What the rule keeps of the groups with these numbers; nothing where all of them can hang together with Gs.
-unfoldable pub conflicts-among : ℕ → (ℕ → Restriction) → List Restriction → List ℕ → List ℕ
-conflicts-among n f Gs js = elim (possible? n (Gs ++ map f js)) [ true ↦ [] | false ↦ keeps n f Gs js ]
+-- These numbers, and what the leaving-out rule keeps of others where these are kept.
+unfoldable pub goes-on : {A : Type 0} → (List A → Bool) → (ℕ → A) → List A → List ℕ → List ℕ → List ℕ
+goes-on ok f stay kept js = kept ++ leave-out ok f (stay ++ map f kept) js

@@ -5,10 +5,11 @@ ghost use Prim.Native.Nat.{_+_, _≤_};
 ghost use lib.ListN.{length, take};
 ghost use Rattle.spec_orders.specs.CircularOrder.{Restriction};
 ghost use Rattle.spec_orders.specs.Tree.{Forest};
+ghost use Rattle.spec_orders.specs.Conflict.{possible?, leave-out, conflict-list};
+ghost use Rattle.spec_calls.specs.Calls.{group-numbered};
 ghost use Rattle.tree_tokens.specs.Tokens.{Wrote};
 ghost use Rattle.tree_pieces.specs.Writers.{flat};
-ghost use Rattle.conflict_leaves.specs.StandIn.{group};
-ghost use Rattle.conflict_rule.specs.LeavingOut.{InBook, Represents, TokensRepresent, Walked, Stops, keeps, goes-on, conflicts-among};
+ghost use Rattle.conflict_rule.specs.LeavingOut.{InBook, Represents, TokensRepresent, Walked, Stops, goes-on};
 use tree_update::Updated;
 
 // Where a walk ended: how many numbers are left, and how many tokens its tree has.
@@ -19,11 +20,11 @@ pub struct Reached {
 
 // Joins the groups with these numbers to the tree, from the last one on, up to one that cannot join. Writes the tree that comes out.
 fn walk(toks: &[u16], book: &[u64], n: usize, numbers: &[u16], out: &mut [u16]) -> Reached
-    requires { ⌜ (TokensRepresent n (group (now book)) (now toks)) × (384 ≤ length (now book)) × (InBook (now numbers)) × (512 ≤ length (now out)) ⌝ }
+    requires { ⌜ (TokensRepresent n (group-numbered (now book)) (now toks)) × (384 ≤ length (now book)) × (InBook (now numbers)) × (512 ≤ length (now out)) ⌝ }
     ensures { λ r. ⌜ (r .left ≤ length (now (numbers .entry))) × (r .tokens ≤ length (now (out .exit)))
-        × ((t : Forest) (Gs : List Restriction) → now (toks .entry) ≡ flat t → Represents n (group (now (book .entry))) Gs t
-        → Walked n (group (now (book .entry))) Gs (now (numbers .entry)) (r .left) (take (r .tokens) (now (out .exit)))
-        × Stops n (group (now (book .entry))) Gs (now (numbers .entry)) (r .left)) ⌝ }
+        × ((t : Forest) (Gs : List Restriction) → now (toks .entry) ≡ flat t → Represents n (group-numbered (now (book .entry))) Gs t
+        → Walked n (group-numbered (now (book .entry))) Gs (now (numbers .entry)) (r .left) (take (r .tokens) (now (out .exit)))
+        × Stops n (group-numbered (now (book .entry))) Gs (now (numbers .entry)) (r .left)) ⌝ }
 {
     let mut m = tree_tokens::copy(toks, out);
     let mut left = numbers.len();
@@ -48,10 +49,10 @@ fn walk(toks: &[u16], book: &[u64], n: usize, numbers: &[u16], out: &mut [u16]) 
 // first half is decided with the whole second half staying, then the second half with what is kept of the first. Where the second half by
 // itself cannot hang together with the tree's groups, the number at which the walk stops is the first one kept.
 fn halves(toks: &[u16], book: &[u64], n: usize, numbers: &[u16], out: &mut [u16]) -> usize
-    requires { ⌜ (TokensRepresent n (group (now book)) (now toks)) × (384 ≤ length (now book)) × (InBook (now numbers)) × (length (now numbers) ≤ length (now out)) ⌝ }
+    requires { ⌜ (TokensRepresent n (group-numbered (now book)) (now toks)) × (384 ≤ length (now book)) × (InBook (now numbers)) × (length (now numbers) ≤ length (now out)) ⌝ }
     ensures { λ r. ⌜ (r ≤ length (now (numbers .entry)))
-        × ((t : Forest) (Gs : List Restriction) → now (toks .entry) ≡ flat t → Represents n (group (now (book .entry))) Gs t
-        → Wrote (keeps n (group (now (book .entry))) Gs (now (numbers .entry))) (now (out .entry)) (now (out .exit)) r) ⌝ }
+        × ((t : Forest) (Gs : List Restriction) → now (toks .entry) ≡ flat t → Represents n (group-numbered (now (book .entry))) Gs t
+        → Wrote (leave-out (possible? n) (group-numbered (now (book .entry))) Gs (now (numbers .entry))) (now (out .entry)) (now (out .exit)) r) ⌝ }
 {
     let many = numbers.len();
     if many <= 1 {
@@ -74,11 +75,11 @@ fn halves(toks: &[u16], book: &[u64], n: usize, numbers: &[u16], out: &mut [u16]
 // The first k numbers of out are kept. Writes those that the rule then keeps of the other numbers behind them, and says how many there are in
 // all.
 fn go_on(toks: &[u16], book: &[u64], n: usize, k: usize, numbers: &[u16], out: &mut [u16]) -> usize
-    requires { ⌜ (TokensRepresent n (group (now book)) (now toks)) × (384 ≤ length (now book)) × (InBook (now numbers)) × (k + length (now numbers) ≤ length (now out))
+    requires { ⌜ (TokensRepresent n (group-numbered (now book)) (now toks)) × (384 ≤ length (now book)) × (InBook (now numbers)) × (k + length (now numbers) ≤ length (now out))
         × (InBook (take k (now out))) ⌝ }
     ensures { λ r. ⌜ (r ≤ k + length (now (numbers .entry)))
-        × ((t : Forest) (Gs : List Restriction) → now (toks .entry) ≡ flat t → Represents n (group (now (book .entry))) Gs t
-        → Wrote (goes-on n (group (now (book .entry))) Gs (take k (now (out .entry))) (now (numbers .entry))) (now (out .entry)) (now (out .exit)) r) ⌝ }
+        × ((t : Forest) (Gs : List Restriction) → now (toks .entry) ≡ flat t → Represents n (group-numbered (now (book .entry))) Gs t
+        → Wrote (goes-on (possible? n) (group-numbered (now (book .entry))) Gs (take k (now (out .entry))) (now (numbers .entry))) (now (out .entry)) (now (out .exit)) r) ⌝ }
 {
     let mut tree = [0u16; 512];
     let kept = walk(toks, book, n, &out[0..k], &mut tree);
@@ -93,9 +94,9 @@ fn go_on(toks: &[u16], book: &[u64], n: usize, k: usize, numbers: &[u16], out: &
 // Writes those of the numbers that the leaving-out rule keeps, and says how many: none where all of their groups can hang together with the
 // tree's.
 pub fn leave_out(toks: &[u16], book: &[u64], n: usize, numbers: &[u16], out: &mut [u16]) -> usize
-    requires { ⌜ (TokensRepresent n (group (now book)) (now toks)) × (384 ≤ length (now book)) × (InBook (now numbers)) × (length (now numbers) ≤ length (now out)) ⌝ }
-    ensures { λ r. ⌜ ((t : Forest) (Gs : List Restriction) → now (toks .entry) ≡ flat t → Represents n (group (now (book .entry))) Gs t
-        → Wrote (conflicts-among n (group (now (book .entry))) Gs (now (numbers .entry))) (now (out .entry)) (now (out .exit)) r) ⌝ }
+    requires { ⌜ (TokensRepresent n (group-numbered (now book)) (now toks)) × (384 ≤ length (now book)) × (InBook (now numbers)) × (length (now numbers) ≤ length (now out)) ⌝ }
+    ensures { λ r. ⌜ ((t : Forest) (Gs : List Restriction) → now (toks .entry) ≡ flat t → Represents n (group-numbered (now (book .entry))) Gs t
+        → Wrote (conflict-list (possible? n) (group-numbered (now (book .entry))) Gs (now (numbers .entry))) (now (out .entry)) (now (out .exit)) r) ⌝ }
 {
     let mut tree = [0u16; 512];
     let down = walk(toks, book, n, numbers, &mut tree);

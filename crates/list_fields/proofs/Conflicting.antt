@@ -1,23 +1,29 @@
--- The numbers of a conflict list are those of groups of the book.
-use mathlib.Core.Path.{subst}
+-- The numbers of a conflict list are those of groups of the book, and it goes by these groups.
+use mathlib.Core.Path.{_≡_, sym, _∙_}
 use mathlib.Core.List.{List, [], _∷_}
-use Prim.Native.Nat.{ℕ, suc, _≤_}
+use Prim.Native.Nat.{ℕ, _≤_}
 use native.Mathlib.Omega.{arith}
 use lib.ListN.{length}
-use Rattle.spec_orders.specs.Lists.{All, elem}
-use Rattle.spec_orders.specs.Conflict.{conflict-list, Numbers}
-use Rattle.spec_orders.proofs.Conflicts.{conflict-demand-3}
-use Rattle.spec_calls.specs.Tables.{Book}
+use Rattle.spec_orders.specs.Lists.{All, numbers-from}
+use Rattle.spec_orders.specs.Conflict.{possible?, ring-conflicts, numbered}
+use Rattle.spec_orders.proofs.Conflicts.{part-all, list-same, numbered-all, ring-demand-3}
+use Rattle.spec_calls.specs.Tables.{lent-book}
+use Rattle.spec_orders.specs.CircularOrder.{Restriction}
+use Rattle.spec_orders.proofs.Members.{in-all}
+use Rattle.spec_orders.proofs.Numbers.{in-range}
 use Rattle.spec_calls.specs.Book.{groups}
-use Rattle.spec_calls.specs.Calls.{conflicts-of}
-use Rattle.conflict_rule.proofs.Places.{groups-length}
+use Rattle.spec_calls.specs.Calls.{group-numbered, conflicts-of}
+use Rattle.conflict_rule.proofs.Places.{groups-numbered}
 
-numbers-all : (k m : ℕ) (ns : List ℕ) → Numbers k (suc m) ns → 1 ≤ k → All (λ j. (1 ≤ j) × (j ≤ m)) ns
-numbers-all k m [] h l = tt
-numbers-all k m (j ∷ ns) h l = ((omega (arith, h .0), omega (arith, h .1)), numbers-all (suc j) m ns (h .2) (omega arith))
-
-pub conflicts-all : (n : ℕ) (book : Book) (list : List ℕ) → All (λ j. (1 ≤ j) × (j ≤ book .count)) (conflicts-of n book list)
+pub conflicts-all : (n : ℕ) (book : List ℕ) (count : ℕ) (new : Restriction) → All (λ j. (1 ≤ j) × (j ≤ count)) (conflicts-of n (lent-book book count) new)
 unfolding conflicts-of
-conflicts-all n book list =
-    subst (λ (m : ℕ). All (λ j. (1 ≤ j) × (j ≤ m)) (conflict-list n (groups book) (elem list))) (groups-length (book .words) (book .count))
-    (numbers-all 1 (length (groups book)) (conflict-list n (groups book) (elem list)) (conflict-demand-3 n (groups book) (elem list) .numbers) (omega arith))
+conflicts-all n book count new =
+    part-all (λ j. (1 ≤ j) × (j ≤ count)) (ring-demand-3 n (group-numbered book) count new .numbers)
+    (in-all (λ j. (1 ≤ j) × (j ≤ count)) (numbers-from 1 count) (λ j i. let r = in-range 1 count j i in (r .0, omega (arith, r .1))))
+
+pub conflicts-listed : (n : ℕ) (book : List ℕ) (Gs : List Restriction) (new : Restriction) → groups (lent-book book (length Gs)) ≡ Gs
+    → conflicts-of n (lent-book book (length Gs)) new ≡ ring-conflicts n (numbered Gs) (length Gs) new
+unfolding conflicts-of
+conflicts-listed n book Gs new h =
+    list-same (possible? n) (group-numbered book) (numbered Gs) (new ∷ []) (numbers-from 1 (length Gs))
+    (sym (groups-numbered book (length Gs)) ∙ h ∙ sym (numbered-all Gs))

@@ -6,10 +6,8 @@ use Prim.Native.Nat.{ℕ, _-_, _≤_, _<_}
 use native.Mathlib.Omega.{arith}
 use lib.ListN.{length, take, drop, length-append}
 use Rattle.spec_orders.specs.Lists.{elem}
-use Rattle.spec_orders.specs.CircularOrder.{Restriction}
 use Rattle.spec_orders.specs.Tree.{Forest}
 use Rattle.spec_orders.specs.Join.{join}
-use Rattle.spec_orders.specs.Conflict.{conflict-list}
 use Rattle.spec_orders.specs.Aim.{aim-of}
 use Rattle.spec_orders.specs.Circles.{bytes}
 use Rattle.spec_calls.specs.Tables.{lent-book}
@@ -19,6 +17,7 @@ use Rattle.list_ring.specs.Ledger.{Outcome, kept, refused, RingState, joined, o
 use Rattle.list_ring.specs.Stands.{RingStands}
 use Rattle.list_ring.proofs.Outcomes.{outcome-empty, outcome-full, outcome-joined}
 use Rattle.list_fields.specs.Fields.{name, commas, fields}
+use Rattle.list_fields.proofs.Conflicting.{conflicts-listed}
 
 module _ (names : List (List ℕ)) (ord : List ℕ) (n : ℕ) (s : RingState) (list : List ℕ) where
   pub tells-empty : length list ≡ 0 → bytes " empty - -" ≡ fields names ord s list (outcome n s list)
@@ -40,13 +39,14 @@ module _ (names : List (List ℕ)) (ord : List ℕ) (n : ℕ) (s : RingState) (l
     kept-told none h l = absurd (omega (arith, h .counted))
 
     refused-told : (o : Option Forest) → After (joined n s (elem list) o) → after ≤ length (s .groups)
-        → bytes " refused - " ++ commas (take (length (s .groups) - 0) (drop 0 table)) (conflicts-of n (lent-book book (length (s .groups))) list)
+        → bytes " refused - " ++ commas (take (length (s .groups) - 0) (drop 0 table)) (conflicts-of n (lent-book book (length (s .groups))) (elem list))
         ≡ fields names ord s list (joined n s (elem list) o)
-    unfolding fields conflicts-of
+    unfolding fields
     refused-told (some t) h l = absurd (omega (arith, h .counted, length-append (s .groups) (elem list ∷ [])))
     refused-told none h l =
-        rw (← h .counted)
-        (ap₂ (λ (lines : List ℕ) (Gs : List Restriction). bytes " refused - " ++ commas lines (conflict-list n Gs (elem list))) (h .in-table) (h .in-book))
+        let e = h .counted in
+        ap₂ (λ (lines ns : List ℕ). bytes " refused - " ++ commas lines ns) (subst (λ i. take (i - 0) (drop 0 table) ≡ s .lines) e (h .in-table))
+        (conflicts-listed n book (s .groups) (elem list) (subst (λ i. groups (lent-book book i) ≡ s .groups) e (h .in-book)))
 
     module _ (some-leaf : length list ≡ 0 → ⊥) (place : length (s .groups) ≡ 96 → ⊥) (h : After (outcome n s list)) where
       is : outcome n s list ≡ joined n s (elem list) (join (elem list) (s .tree))
@@ -56,8 +56,8 @@ module _ (names : List (List ℕ)) (ord : List ℕ) (n : ℕ) (s : RingState) (l
       tells-kept l = kept-told (join (elem list) (s .tree)) (subst After is h) l ∙ ap (fields names ord s list) (sym is)
 
       pub tells-refused : {count : ℕ} → count ≡ length (s .groups) → after ≤ length (s .groups)
-          → bytes " refused - " ++ commas (take (count - 0) (drop 0 table)) (conflicts-of n (lent-book book count) list) ≡ fields names ord s list (outcome n s list)
+          → bytes " refused - " ++ commas (take (count - 0) (drop 0 table)) (conflicts-of n (lent-book book count) (elem list)) ≡ fields names ord s list (outcome n s list)
       tells-refused {count} e l =
-          ap (λ (i : ℕ). bytes " refused - " ++ commas (take (i - 0) (drop 0 table)) (conflicts-of n (lent-book book i) list)) e
+          ap (λ (i : ℕ). bytes " refused - " ++ commas (take (i - 0) (drop 0 table)) (conflicts-of n (lent-book book i) (elem list))) e
           ∙ refused-told (join (elem list) (s .tree)) (subst After is h) l
           ∙ ap (fields names ord s list) (sym is)

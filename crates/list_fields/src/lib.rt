@@ -29,11 +29,13 @@ fn put_refused(
 ) -> usize
     requires { ⌜ (n ≤ 256) × (384 ≤ length (now book)) × (count ≤ 96) × (WellFormed n (now list)) × (count ≤ length (now table)) × (at + 2048 ≤ length (now out)) ⌝ }
     ensures { λ r. ⌜ (r ≤ at + 2048)
-        × (Appends (bytes " refused - " ++ commas (take (count - 0) (drop 0 (now (table .entry)))) (conflicts-of n (lent-book (now (book .entry)) count) (now (list .entry))))
+        × (Appends (bytes " refused - " ++ commas (take (count - 0) (drop 0 (now (table .entry)))) (conflicts-of n (lent-book (now (book .entry)) count) (elem (now (list .entry)))))
         at (now (out .entry)) (now (out .exit)) r) ⌝ }
 {
+    let mut group = [0u64; 4];
+    mark_words::mark_list(list, &mut group);
     let mut numbers = [0u16; 96];
-    let k = call_conflict::find(n, book, count, list, &mut numbers);
+    let k = call_conflict::find(n, book, count, &group, &mut numbers);
     let a = put(b" refused - ", out, at);
     list_series::put_conflicts(&numbers[0..k], &table[0..count], out, a)
 }

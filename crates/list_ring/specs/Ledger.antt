@@ -9,7 +9,7 @@ use Rattle.spec_orders.specs.Lists.{elem}
 use Rattle.spec_orders.specs.CircularOrder.{Restriction}
 use Rattle.spec_orders.specs.Tree.{Forest}
 use Rattle.spec_orders.specs.Join.{fresh, join}
-use Rattle.spec_orders.specs.Conflict.{conflict-list}
+use Rattle.spec_orders.specs.Conflict.{ring-conflicts, numbered}
 
 -- A group line's answer: `kept`, with the new tree; `refused` (8), with the numbers of the book's groups in conflict; `empty` (4); `full` (7).
 pub data Outcome : Type 0 where
@@ -30,7 +30,7 @@ opened n = record { tree = fresh n; groups = []; lines = [] }
 -- 4 comes before 7, and 7 before 8.
 abbrev pub joined : ℕ → RingState → Restriction → Option Forest → Outcome
 joined n s G (some t) = kept t
-joined n s G none = refused (conflict-list n (s .groups) G)
+joined n s G none = refused (ring-conflicts n (numbered (s .groups)) (length (s .groups)) G)
 
 unfoldable pub outcome : ℕ → RingState → List ℕ → Outcome
 outcome n s [] = empty

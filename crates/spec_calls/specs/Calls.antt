@@ -12,13 +12,13 @@ use Rattle.spec_orders.specs.Tree.{Forest}
 use Rattle.spec_orders.specs.Form.{standard}
 use Rattle.spec_orders.specs.TreeText.{tree-text, Found, tree, refused, Reads}
 use Rattle.spec_orders.specs.Join.{fresh, join, then}
-use Rattle.spec_orders.specs.Conflict.{consecutive?, conflict-list}
+use Rattle.spec_orders.specs.Conflict.{consecutive?, ring-conflicts}
 use Rattle.spec_orders.specs.Aim.{aim-of}
 use Rattle.mark_words.specs.Marks.{marked}
 use Rattle.spec_calls.specs.declared.Refusal.{Refusal}
 use Rattle.spec_calls.specs.declared.Refusal.the-variants.{RingSize, ShortTable, NotInForm, BookFull, Impossible, NoSuchGroup, NotConsecutive, TreeText}
 use Rattle.spec_calls.specs.Tables.{Nodes, leaves, Book, over, padded}
-use Rattle.spec_calls.specs.Book.{group-words, groups, book-in-form?, booked, emptied}
+use Rattle.spec_calls.specs.Book.{group-words, book-in-form?, booked, emptied}
 use Rattle.spec_calls.specs.NodeTable.{table-of, held-tree}
 use Rattle.spec_calls.specs.Refusals.{Reply, reply, reported, refuse, first-refusal, bad-size, short, short-nodes, list-checks}
 
@@ -160,9 +160,9 @@ conflict-refusal n book list conflicts =
     ∷ refuse (not (book-in-form? n book)) NotInForm
     ∷ list-checks n list)
 
-unfoldable pub conflicts-of : ℕ → Book → List ℕ → List ℕ
-conflicts-of n book list = conflict-list n (groups book) (group-of n list)
+unfoldable pub conflicts-of : ℕ → Book → Restriction → List ℕ
+conflicts-of n book new = ring-conflicts n (group-numbered (book .words)) (book .count) new
 
 unfoldable pub conflict-call : ℕ → Book → List ℕ → List ℕ → Filled
 conflict-call n book list conflicts =
-    filled (conflict-refusal n book list conflicts) (length (conflicts-of n book list)) (padded 96 (conflicts-of n book list)) conflicts
+    filled (conflict-refusal n book list conflicts) (length (conflicts-of n book (group-of n list))) (padded 96 (conflicts-of n book (group-of n list))) conflicts

@@ -6,14 +6,16 @@ use mathlib.Core.Bool.{true}
 use mathlib.Core.List.{List}
 use Prim.Native.Nat.{ℕ, _≤_, _<_}
 use lib.ListN.{length, take}
-use Rattle.spec_orders.specs.CircularOrder.{Restriction, WellFormed, group-of, Consecutive}
+use Rattle.spec_orders.specs.CircularOrder.{Restriction, WellFormed, group-of, Consecutive, Possible}
 use Rattle.spec_orders.specs.Tree.{Forest, Allowed}
 use Rattle.spec_orders.specs.Form.{standard, StandardOrder}
-use Rattle.spec_orders.specs.Conflict.{Demand-3}
+use Rattle.spec_orders.specs.Conflict.{Demand-3, Numbers}
 use Rattle.spec_calls.specs.Tables.{Nodes, leaves, Book, padded}
-use Rattle.spec_calls.specs.Book.{groups, book-in-form?}
+use Rattle.spec_calls.specs.Book.{book-in-form?}
+use Rattle.spec_orders.specs.Lists.{numbers-from}
 use Rattle.spec_calls.specs.NodeTable.{Holds}
 use Rattle.spec_calls.specs.Refusals.{Reply, reply}
+use Rattle.spec_calls.specs.Calls.{group-numbered}
 
 -- A node table, lent whole, that holds the tree.
 pub record LentTree (nodes : Nodes) (t : Forest) : Type 0 where
@@ -59,12 +61,13 @@ abbrev pub OrderDemand : Nodes → List ℕ → List ℕ → Type 0
 OrderDemand nodes order new = (t : Forest) → LentTree nodes t → nodes .bins ≤ length order → StandardOrder t (take (nodes .bins) new)
 
 -- The third: "for every well-formed book, even one that cannot hang together, and every well-formed group". The call returns how many numbers
--- there are; they and zeros stand in the 96 places, and they meet the demand.
+-- there are; they and zeros stand in the 96 places. They rise, from 1 to the count of groups, and meet the demand.
 pub record Named (n : ℕ) (book : Book) (list : List ℕ) (said : Reply) (conflicts : List ℕ) : Type 0 where
   pub numbers : List ℕ
   pub answered : said ≡ reply 0 (length numbers)
   pub places : take 96 conflicts ≡ padded 96 numbers
-  pub demand : Demand-3 n (groups book) (group-of n list) numbers
+  pub rise : Numbers 1 (book .count) numbers
+  pub demand : Demand-3 (Possible n) (group-numbered (book .words)) (group-of n list) (numbers-from 1 (book .count)) numbers
 
 abbrev pub ConflictDemand : ℕ → Book → List ℕ → List ℕ → Reply → List ℕ → Type 0
 ConflictDemand n book list conflicts said new =

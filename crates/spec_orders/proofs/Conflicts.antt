@@ -1,28 +1,178 @@
--- Document 01, "Conflict list", demand 3, for every n, book and new restriction: the list is empty iff the new one is possible with the book;
--- else those it names are impossible with the new one, and without any one of them they are possible.
+-- Document 01, "Conflict list", demand 3: the conflict list meets it, for all groups and numbers, wherever a test decides what "possible" says and
+-- fewer groups are possible where more are. And so for every ring, book and new group.
 use mathlib.Core.Path.{_∙_, _≡_, ap, ap₂, refl, subst, sym}
-use mathlib.Core.Bool.{Bool, cond, false, true, true≢false}
-use mathlib.Core.List.{List, [], _++_, _∷_, append-assoc, head-eq-of-cons-eq, tail-eq-of-cons-eq}
-use Prim.Native.Nat.{_+_, _<_, _≤_, suc, ℕ}
+use mathlib.Core.Logic.{_↔_, inl, inr, ⊎-elim}
+use mathlib.Core.Bool.{Bool, false, true, true≢false}
+use mathlib.Core.List.{List, [], _++_, _∷_, map, append-assoc, head-eq-of-cons-eq, tail-eq-of-cons-eq}
+use Prim.Native.Nat.{ℕ, zero, suc, _+_, _-_, _≤_}
 use native.Mathlib.Omega.{arith}
-use borrow.Author.Tests.{eq-eqb, ne-eqb}
 use lib.ListN.{length}
-use Rattle.spec_orders.specs.Lists.{All, elem, Rearranged, done}
-use Rattle.spec_orders.specs.CircularOrder.{others, Restriction, AllConsecutive, Possible}
+use Rattle.spec_orders.specs.Lists.{In, All, numbers-from, Rearranged, done}
+use Rattle.spec_orders.specs.CircularOrder.{others, Restriction, Consecutive, Possible}
 use Rattle.spec_orders.specs.Join.{side}
-use Rattle.spec_orders.specs.Conflict.{possible?, leave-out, conflict-list, named, Numbers, Demand-3}
-use Rattle.spec_orders.proofs.ListLaws.{all-append, all-left, all-right, all-map}
+use Rattle.spec_orders.specs.Conflict.{possible?, Part, end, kept, left, leave-out, conflict-list, Demand-3, ring-conflicts, numbered, Numbers}
 use Rattle.spec_orders.proofs.Rearranged.{perm-insert, perm-skip, pick-middle}
-use Rattle.spec_orders.proofs.Members.{all-in, elem-in, nil-not}
+use Rattle.spec_orders.proofs.Members.{nil-not, in-left, in-right, in-append, in-all, all-in}
+use Rattle.spec_orders.proofs.Tests.{false-if}
 use Rattle.spec_orders.proofs.Contiguous.{Early, sided-before, sided-last, early-con}
 use Rattle.spec_orders.proofs.CircleAndLine.{consecutive-side}
 use Rattle.spec_orders.proofs.Decide.{possible-decides}
 
--- Fewer restrictions.
-pub fewer : (n : ℕ) (Gs Hs : List Restriction) → ((ord : List ℕ) → AllConsecutive Gs ord → AllConsecutive Hs ord) → Possible n Gs → Possible n Hs
-fewer n Gs Hs h p = record { order = p .order; is-order = p .is-order; hang = h (p .order) (p .hang) }
+-- A list with elements left out.
+module _ {A : Type 0} where
+  pub part-in : {l m : List A} → Part l m → (x : A) → In x m → In x l
+  part-in end x i = i
+  part-in (kept p) x (inl e) = inl e
+  part-in (kept p) x (inr i) = inr (part-in p x i)
+  part-in (left p) x i = inr (part-in p x i)
 
--- One restriction by itself: the leaves of its side first, and then the others.
+  pub part-all : (P : A → Type 0) {l m : List A} → Part l m → All P l → All P m
+  part-all P {l} {m} p h = in-all P m (λ x i. all-in P x l h (part-in p x i))
+
+  pub part-length : {l m : List A} → Part l m → length m ≤ length l
+  part-length end = omega arith
+  part-length (kept p) = omega (arith, part-length p)
+  part-length (left p) = omega (arith, part-length p)
+
+  part-map : {B : Type 0} (g : A → B) {l m : List A} → Part l m → Part (map g l) (map g m)
+  part-map g end = end
+  part-map g (kept p) = kept (part-map g p)
+  part-map g (left p) = left (part-map g p)
+
+  part-none : (l : List A) → Part l []
+  part-none [] = end
+  part-none (x ∷ l) = left (part-none l)
+
+-- Numbers that rise do so where some are left out.
+numbers-later : (k i m : ℕ) (ns : List ℕ) → k ≤ i → Numbers i m ns → Numbers k m ns
+numbers-later k i m [] l h = tt
+numbers-later k i m (j ∷ ns) l h = (omega (arith, h .0), h .1, h .2)
+
+pub part-numbers : (k m : ℕ) {l ns : List ℕ} → Part l ns → Numbers k m l → Numbers k m ns
+part-numbers k m end h = h
+part-numbers k m (kept {x = j} p) h = (h .0, h .1, part-numbers (suc j) m p (h .2))
+part-numbers k m (left {x = j} {m = ns} p) h = numbers-later k (suc j) m ns (omega (arith, h .0)) (part-numbers (suc j) m p (h .2))
+
+numbers-rise : (k c m : ℕ) → k + c ≤ suc m → Numbers k m (numbers-from k c)
+numbers-rise k zero m h = tt
+numbers-rise k (suc c) m h = (omega arith, omega arith, numbers-rise (suc k) c m (omega arith))
+
+pub book-numbers : (count : ℕ) {ns : List ℕ} → Part (numbers-from 1 count) ns → Numbers 1 count ns
+book-numbers count p = part-numbers 1 count p (numbers-rise 1 count count (omega arith))
+
+-- One list or the other.
+unfoldable pub by-test : Bool → List ℕ → List ℕ → List ℕ
+by-test b k l = elim b [ true ↦ k | false ↦ l ]
+
+-- A test of groups: it decides whether they are possible together, and fewer groups are where more are.
+pub record Tests {A : Type 0} (Ok : List A → Type 0) (ok : List A → Bool) : Type 0 where
+  pub decides : (Gs : List A) → (ok Gs ≡ true) ↔ Ok Gs
+  pub fewer : (Gs Hs : List A) → ((x : A) → In x Hs → In x Gs) → Ok Gs → Ok Hs
+
+module _ {A : Type 0} {Ok : List A → Type 0} {ok : List A → Bool} (t : Tests Ok ok) where
+  pub not-ok : (Gs : List A) → ok Gs ≡ false → Ok Gs → ⊥
+  not-ok Gs e p = true≢false (sym (t .decides Gs .1 p) ∙ e)
+
+  pub ok-not : (Gs : List A) → (Ok Gs → ⊥) → ok Gs ≡ false
+  ok-not Gs u = false-if (ok Gs) (λ e. u (t .decides Gs .0 e))
+
+  module _ (f : ℕ → A) where
+    -- The list is empty; it is what the rule keeps.
+    pub list-empty : (stay : List A) (js : List ℕ) → Ok (stay ++ map f js) → conflict-list ok f stay js ≡ []
+    unfolding conflict-list by-test
+    list-empty stay js p = ap (λ (b : Bool). by-test b [] (leave-out ok f stay js)) (t .decides (stay ++ map f js) .1 p)
+
+    pub list-kept : (stay : List A) (js : List ℕ) → (Ok (stay ++ map f js) → ⊥) → conflict-list ok f stay js ≡ leave-out ok f stay js
+    unfolding conflict-list by-test
+    list-kept stay js u = ap (λ (b : Bool). by-test b [] (leave-out ok f stay js)) (ok-not (stay ++ map f js) u)
+
+    -- What the leaving-out rule keeps is impossible where all are, and without any one of them it is possible.
+    pub record Kept (stay : List A) (js ns : List ℕ) : Type 0 where
+      pub part : Part js ns
+      pub impossible : (Ok (stay ++ map f js) → ⊥) → Ok (stay ++ map f ns) → ⊥
+      pub smallest : (a : List ℕ) (j : ℕ) (b : List ℕ) → ns ≡ a ++ (j ∷ b) → Ok (stay ++ map f (a ++ b))
+
+    keep-one : (stay : List A) (j : ℕ) (js ns : List ℕ) → Ok (stay ++ map f js) → Kept (stay ++ (f j ∷ [])) js ns → Kept stay (j ∷ js) (j ∷ ns)
+    keep-one stay j js ns q s = record {
+      part = kept (s .part);
+      impossible = λ u p. s .impossible (λ r. u (subst Ok (append-assoc stay (f j ∷ []) (map f js)) r)) (subst Ok (sym (append-assoc stay (f j ∷ []) (map f ns))) p);
+      smallest = least;
+    }
+      where
+        least : (a : List ℕ) (i : ℕ) (b : List ℕ) → j ∷ ns ≡ a ++ (i ∷ b) → Ok (stay ++ map f (a ++ b))
+        least [] i b e =
+            subst (λ l. Ok (stay ++ map f l)) (tail-eq-of-cons-eq e)
+            (t .fewer (stay ++ map f js) (stay ++ map f ns)
+            (λ x h. ⊎-elim (in-left x stay (map f js)) (λ w. in-right x stay (map f js) (part-in (part-map f (s .part)) x w)) (in-append x stay (map f ns) h)) q)
+        least (x ∷ a) i b e =
+            subst (λ z. Ok (stay ++ (f z ∷ map f (a ++ b)))) (head-eq-of-cons-eq e)
+            (subst Ok (append-assoc stay (f j ∷ []) (map f (a ++ b))) (s .smallest a i b (tail-eq-of-cons-eq e)))
+
+    pub leave-out-kept : (stay : List A) (js : List ℕ) → Kept stay js (leave-out ok f stay js)
+    unfolding leave-out
+    leave-out-kept stay [] = record { part = end; impossible = λ u p. u p; smallest = λ a j b e. absurd (nil-not a j b e) }
+    leave-out-kept stay (j ∷ js) = go (ok (stay ++ map f js)) refl (leave-out-kept (stay ++ (f j ∷ [])) js) (leave-out-kept stay js)
+      where
+        go : (b : Bool) → ok (stay ++ map f js) ≡ b → Kept (stay ++ (f j ∷ [])) js (leave-out ok f (stay ++ (f j ∷ [])) js) → Kept stay js (leave-out ok f stay js)
+            → Kept stay (j ∷ js) (elim b [ true ↦ j ∷ leave-out ok f (stay ++ (f j ∷ [])) js | false ↦ leave-out ok f stay js ])
+        go true q r s = keep-one stay j js (leave-out ok f (stay ++ (f j ∷ [])) js) (t .decides (stay ++ map f js) .0 q) r
+        go false q r s = record { part = left (s .part); impossible = λ v. s .impossible (not-ok (stay ++ map f js) q); smallest = s .smallest }
+
+    pub demand-3 : (new : A) → Ok (new ∷ []) → (js : List ℕ) → Demand-3 Ok f new js (conflict-list ok f (new ∷ []) js)
+    unfolding conflict-list
+    demand-3 new alone js = go (ok (new ∷ map f js)) refl
+      where
+        go : (b : Bool) → ok (new ∷ map f js) ≡ b → Demand-3 Ok f new js (elim b [ true ↦ [] | false ↦ leave-out ok f (new ∷ []) js ])
+        go true q = record {
+          empty-iff = ((λ e. t .decides (new ∷ map f js) .0 q), (λ p. refl));
+          impossible = λ h. absurd (h refl);
+          smallest = λ a j b e. absurd (nil-not a j b e);
+          numbers = part-none js;
+        }
+        go false q =
+            let s = leave-out-kept (new ∷ []) js in
+            let u = not-ok (new ∷ map f js) q in
+            record {
+              empty-iff = ((λ e. absurd (s .impossible u (subst (λ l. Ok (new ∷ map f l)) (sym e) alone))), (λ p. absurd (u p)));
+              impossible = λ h. s .impossible u;
+              smallest = s .smallest;
+              numbers = s .part;
+            }
+
+-- The list goes by the groups that the numbers name, however they are named.
+module _ {A : Type 0} (ok : List A → Bool) (f g : ℕ → A) where
+  rule-same : (stay : List A) (js : List ℕ) → map f js ≡ map g js → leave-out ok f stay js ≡ leave-out ok g stay js
+  unfolding leave-out by-test
+  rule-same stay [] e = refl
+  rule-same stay (j ∷ js) e =
+      ap (λ (l : List A). by-test (ok (stay ++ l)) (j ∷ leave-out ok f (stay ++ (f j ∷ [])) js) (leave-out ok f stay js)) (tail-eq-of-cons-eq e)
+      ∙ ap₂ (λ (k l : List ℕ). by-test (ok (stay ++ map g js)) (j ∷ k) l)
+      (ap (λ (x : A). leave-out ok f (stay ++ (x ∷ [])) js) (head-eq-of-cons-eq e) ∙ rule-same (stay ++ (g j ∷ [])) js (tail-eq-of-cons-eq e))
+      (rule-same stay js (tail-eq-of-cons-eq e))
+
+  pub list-same : (stay : List A) (js : List ℕ) → map f js ≡ map g js → conflict-list ok f stay js ≡ conflict-list ok g stay js
+  unfolding conflict-list by-test
+  list-same stay js e = ap₂ (λ (k : List A) (l : List ℕ). by-test (ok (stay ++ k)) [] l) e (rule-same stay js e)
+
+-- The groups of a list are those with the numbers 1 to its length.
+numbered-behind : (G : Restriction) (Gs : List Restriction) (k c : ℕ) → map (numbered (G ∷ Gs)) (numbers-from (suc (suc k)) c) ≡ map (numbered Gs) (numbers-from (suc k) c)
+numbered-behind G Gs k zero = refl
+numbered-behind G Gs k (suc c) =
+    let e : suc (suc k) - 1 ≡ suc (suc k - 1) = omega arith in
+    rw (e, numbered-behind G Gs (suc k) c)
+
+pub numbered-all : (Gs : List Restriction) → map (numbered Gs) (numbers-from 1 (length Gs)) ≡ Gs
+numbered-all [] = refl
+numbered-all (G ∷ Gs) = ap (λ (l : List Restriction). G ∷ l) (numbered-behind G Gs 0 (length Gs) ∙ numbered-all Gs)
+
+-- Rings: fewer restrictions; one by itself, the leaves of its side first and then the others.
+fewer-possible : (n : ℕ) (Gs Hs : List Restriction) → ((G : Restriction) → In G Hs → In G Gs) → Possible n Gs → Possible n Hs
+fewer-possible n Gs Hs h p =
+    record { order = p .order; is-order = p .is-order; hang = in-all (λ G. Consecutive G (p .order)) Hs (λ G i. all-in (λ G. Consecutive G (p .order)) G Gs (p .hang) (h G i)) }
+
+pub ring-tests : (n : ℕ) → Tests (Possible n) (possible? n)
+ring-tests n = record { decides = possible-decides n; fewer = fewer-possible n }
+
 side-first : (S : Restriction) (l : List ℕ) → (xs : List ℕ) × Rearranged l xs × Early S xs
 side-first S [] = ([], done, sided-last S true false [] tt)
 side-first S (x ∷ l) = go (S x) refl (side-first S l)
@@ -36,109 +186,5 @@ one-possible n G =
     let (xs, p, h) = side-first (side 1 G) (others n) in
     record { order = 1 ∷ xs; is-order = record { after = xs; one-first = refl; all-leaves = p }; hang = (consecutive-side G 1 xs .1 (early-con (side 1 G) xs h), tt) }
 
--- Numbers.
-numbers-later : (k m : ℕ) (ns : List ℕ) → Numbers (suc k) m ns → Numbers k m ns
-numbers-later k m [] h = tt
-numbers-later k m (j ∷ ns) h = (omega arith, h .1, h .2)
-
-numbers-above : (k m : ℕ) (ns : List ℕ) → Numbers k m ns → All (λ j. k ≤ j) ns
-numbers-above k m [] h = tt
-numbers-above k m (j ∷ ns) h = (h .0, all-map (λ i. suc j ≤ i) (λ i. k ≤ i) (λ i l. omega (arith, h .0)) ns (numbers-above (suc j) m ns (h .2)))
-
--- The restrictions with these numbers.
-not-elem : (k : ℕ) (ns : List ℕ) → All (λ j. suc k ≤ j) ns → elem ns k ≡ false
-not-elem k ns h = go (elem ns k) refl
-  where
-    go : (b : Bool) → elem ns k ≡ b → elem ns k ≡ false
-    go true q = absurd (omega (arith, all-in (λ j. suc k ≤ j) k ns h (elem-in ns k q)))
-    go false q = q
-
-named-later : (j k : ℕ) (Gs : List Restriction) (ns : List ℕ) → j < k → named k Gs (j ∷ ns) ≡ named k Gs ns
-named-later j k [] ns l = refl
-named-later j k (G ∷ Gs) ns l = ap₂ (λ b r. cond b (G ∷ r) r) (ap (λ c. cond c true (elem ns k)) (ne-eqb k j (λ e. omega arith))) (named-later j (suc k) Gs ns (omega arith))
-
-named-here : (k : ℕ) (G : Restriction) (Gs : List Restriction) (ns : List ℕ) → named k (G ∷ Gs) (k ∷ ns) ≡ G ∷ named (suc k) Gs ns
-named-here k G Gs ns = ap₂ (λ b r. cond b (G ∷ r) r) (ap (λ c. cond c true (elem ns k)) (eq-eqb k k refl)) (named-later k (suc k) Gs ns (omega arith))
-
-named-skip : (k : ℕ) (G : Restriction) (Gs : List Restriction) (ns : List ℕ) → All (λ j. suc k ≤ j) ns → named k (G ∷ Gs) ns ≡ named (suc k) Gs ns
-named-skip k G Gs ns h = ap (λ b. cond b (G ∷ named (suc k) Gs ns) (named (suc k) Gs ns)) (not-elem k ns h)
-
-named-nil : (k : ℕ) (Gs : List Restriction) → named k Gs [] ≡ []
-named-nil k [] = refl
-named-nil k (G ∷ Gs) = named-nil (suc k) Gs
-
-named-all : (P : Restriction → Type 0) (k : ℕ) (Gs : List Restriction) (ns : List ℕ) → All P Gs → All P (named k Gs ns)
-named-all P k [] ns h = tt
-named-all P k (G ∷ Gs) ns h = go (elem ns k) (named-all P (suc k) Gs ns (h .1))
-  where
-    go : (b : Bool) → All P (named (suc k) Gs ns) → All P (cond b (G ∷ named (suc k) Gs ns) (named (suc k) Gs ns))
-    go true r = (h .0, r)
-    go false r = r
-
--- What the leaving-out rule gives, from number k on: what is kept stays impossible, and without any one of them it is possible.
-record Kept (n : ℕ) (new : Restriction) (kept : List Restriction) (k : ℕ) (rest : List Restriction) (ns : List ℕ) : Type 0 where
-  rise : Numbers k (k + length rest) ns
-  impossible : (Possible n (new ∷ (kept ++ rest)) → ⊥) → Possible n (new ∷ (kept ++ named k rest ns)) → ⊥
-  smallest : (a : List ℕ) (j : ℕ) (b : List ℕ) → ns ≡ a ++ (j ∷ b) → Possible n (new ∷ (kept ++ named k rest (a ++ b)))
-
-module _ (n : ℕ) (new : Restriction) (kept : List Restriction) (k : ℕ) (G : Restriction) (rest : List Restriction) (ns : List ℕ) where
-  -- The first restriction is left out; it is kept.
-  leave-one : (Possible n (new ∷ (kept ++ rest)) → ⊥) → Kept n new kept (suc k) rest ns → Kept n new kept k (G ∷ rest) ns
-  leave-one v s = record {
-    rise = numbers-later k (k + suc (length rest)) ns (subst (λ m. Numbers (suc k) m ns) (omega arith) (s .rise));
-    impossible = λ u p. s .impossible v (subst (λ l. Possible n (new ∷ (kept ++ l))) (named-skip k G rest ns above) p);
-    smallest = λ a j b e.
-        let h : All (λ i. suc k ≤ i) (a ++ (j ∷ b)) = subst (All (λ i. suc k ≤ i)) e above in
-        subst (λ l. Possible n (new ∷ (kept ++ l))) (sym (named-skip k G rest (a ++ b) (all-append _ a b (all-left _ a (j ∷ b) h) (all-right _ a (j ∷ b) h .1)))) (s .smallest a j b e);
-  }
-    where
-      above : All (λ i. suc k ≤ i) ns
-      above = numbers-above (suc k) (suc k + length rest) ns (s .rise)
-
-  keep-one : Possible n (new ∷ (kept ++ rest)) → Kept n new (kept ++ (G ∷ [])) (suc k) rest ns → Kept n new kept k (G ∷ rest) (k ∷ ns)
-  keep-one q s = record {
-    rise = (omega arith, omega arith, subst (λ m. Numbers (suc k) m ns) (omega arith) (s .rise));
-    impossible = λ u p. s .impossible (λ r. u (subst (λ l. Possible n (new ∷ l)) (append-assoc kept (G ∷ []) rest) r)) (subst (λ l. Possible n (new ∷ l)) (sym (append-assoc kept (G ∷ []) (named (suc k) rest ns)))
-        (subst (λ l. Possible n (new ∷ (kept ++ l))) (named-here k G rest ns) p));
-    smallest = least;
-  }
-    where
-      least : (a : List ℕ) (j : ℕ) (b : List ℕ) → k ∷ ns ≡ a ++ (j ∷ b) → Possible n (new ∷ (kept ++ named k (G ∷ rest) (a ++ b)))
-      least [] j b e =
-          let h : All (λ i. suc k ≤ i) b = subst (All (λ i. suc k ≤ i)) (tail-eq-of-cons-eq e) (numbers-above (suc k) (suc k + length rest) ns (s .rise)) in
-          subst (λ l. Possible n (new ∷ (kept ++ l))) (sym (named-skip k G rest b h)) (fewer n (new ∷ (kept ++ rest)) (new ∷ (kept ++ named (suc k) rest b))
-          (λ ord w. (w .0, all-append _ kept (named (suc k) rest b) (all-left _ kept rest (w .1)) (named-all _ (suc k) rest b (all-right _ kept rest (w .1))))) q)
-      least (x ∷ a) j b e =
-          subst (λ z. Possible n (new ∷ (kept ++ named k (G ∷ rest) (z ∷ (a ++ b))))) (head-eq-of-cons-eq e) (subst (λ l. Possible n (new ∷ (kept ++ l))) (sym (named-here k G rest (a ++ b)))
-          (subst (λ l. Possible n (new ∷ l)) (append-assoc kept (G ∷ []) (named (suc k) rest (a ++ b))) (s .smallest a j b (tail-eq-of-cons-eq e))))
-
-pub not-possible : (n : ℕ) (Gs : List Restriction) → possible? n Gs ≡ false → Possible n Gs → ⊥
-not-possible n Gs e p = true≢false (sym (possible-decides n Gs .1 p) ∙ e)
-
-leave-out-kept : (n : ℕ) (new : Restriction) (kept : List Restriction) (k : ℕ) (rest : List Restriction) → Kept n new kept k rest (leave-out n new kept k rest)
-unfolding leave-out
-leave-out-kept n new kept k [] = record { rise = tt; impossible = λ u p. u p; smallest = λ a j b e. absurd (nil-not a j b e) }
-leave-out-kept n new kept k (G ∷ rest) = go (possible? n (new ∷ (kept ++ rest))) refl (leave-out-kept n new (kept ++ (G ∷ [])) (suc k) rest) (leave-out-kept n new kept (suc k) rest)
-  where
-    go : (b : Bool) → possible? n (new ∷ (kept ++ rest)) ≡ b
-        → Kept n new (kept ++ (G ∷ [])) (suc k) rest (leave-out n new (kept ++ (G ∷ [])) (suc k) rest) → Kept n new kept (suc k) rest (leave-out n new kept (suc k) rest)
-        → Kept n new kept k (G ∷ rest) (elim b [ true ↦ k ∷ leave-out n new (kept ++ (G ∷ [])) (suc k) rest | false ↦ leave-out n new kept (suc k) rest ])
-    go true q r s = keep-one n new kept k G rest (leave-out n new (kept ++ (G ∷ [])) (suc k) rest) (possible-decides n (new ∷ (kept ++ rest)) .0 q) r
-    go false q r s = leave-one n new kept k G rest (leave-out n new kept (suc k) rest) (not-possible n (new ∷ (kept ++ rest)) q) s
-
-pub conflict-demand-3 : (n : ℕ) (book : List Restriction) (new : Restriction) → Demand-3 n book new (conflict-list n book new)
-unfolding conflict-list
-conflict-demand-3 n book new = go (possible? n (new ∷ book)) refl
-  where
-    go : (b : Bool) → possible? n (new ∷ book) ≡ b → Demand-3 n book new (elim b [ true ↦ [] | false ↦ leave-out n new [] 1 book ])
-    go true q =
-        record { empty-iff = ((λ e. possible-decides n (new ∷ book) .0 q), (λ p. refl)); impossible = λ h. absurd (h refl); smallest = λ a j b e. absurd (nil-not a j b e); numbers = tt }
-    go false q =
-        let s = leave-out-kept n new [] 1 book in
-        let u = not-possible n (new ∷ book) q in
-        record {
-          empty-iff = ((λ e. absurd (s .impossible u (subst (λ l. Possible n (new ∷ l)) (sym (ap (named 1 book) e ∙ named-nil 1 book)) (one-possible n new)))), (λ p. absurd (u p)));
-          impossible = λ h. s .impossible u;
-          smallest = s .smallest;
-          numbers = subst (λ m. Numbers 1 m (leave-out n new [] 1 book)) (omega arith) (s .rise);
-        }
+pub ring-demand-3 : (n : ℕ) (f : ℕ → Restriction) (count : ℕ) (new : Restriction) → Demand-3 (Possible n) f new (numbers-from 1 count) (ring-conflicts n f count new)
+ring-demand-3 n f count new = demand-3 (ring-tests n) f new (one-possible n new) (numbers-from 1 count)

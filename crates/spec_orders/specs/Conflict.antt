@@ -1,12 +1,13 @@
--- Document 01, "Conflict list", over circular orders, without a tree. It computes: "impossible together" is tried on every circular order.
+-- Document 01, "Conflict list". The rule and its demand are over any groups, any numbers of them, and any meaning of "can hang together". For rings
+-- that is over circular orders, without a tree, and it computes: "impossible together" is tried on every circular order.
 use mathlib.Core.Path.{_≡_}
 use mathlib.Core.Logic.{_↔_, _≢_}
 use mathlib.Core.Bool.{Bool, true, false, cond}
 use mathlib.Core.List.{List, [], _∷_, _++_, map}
-use Prim.Native.Nat.{ℕ, suc, _<_, _≤_}
-use lib.ListN.{length}
-use Rattle.spec_orders.specs.Lists.{elem, some-of, all-of}
-use Rattle.spec_orders.specs.CircularOrder.{Restriction, others, Possible}
+use Prim.Native.Nat.{ℕ, suc, _-_, _≤_}
+use lib.ListN.{getD}
+use Rattle.spec_orders.specs.Lists.{some-of, all-of, numbers-from}
+use Rattle.spec_orders.specs.CircularOrder.{Restriction, others}
 
 module _ {A : Type 0} where
   -- x put at each place of the list; for each list of a list of lists; all rearrangements.
@@ -44,35 +45,46 @@ consecutive? G ord = some-of (run-first G) (turns [] ord)
 unfoldable pub possible? : ℕ → List Restriction → Bool
 possible? n Gs = some-of (λ xs. all-of (λ G. consecutive? G (1 ∷ xs)) Gs) (perms (others n))
 
--- "From the first group to the last, leave one out if the remaining ones with the new group are still impossible together." From the group
--- with the number k on: `kept` are those before it that were not left out, and the answer is the numbers kept.
-unfoldable pub leave-out : ℕ → Restriction → List Restriction → ℕ → List Restriction → List ℕ
-leave-out n new kept k [] = []
-leave-out n new kept k (G ∷ rest) =
-    elim (possible? n (new ∷ (kept ++ rest))) [
-      | true ↦ k ∷ leave-out n new (kept ++ (G ∷ [])) (suc k) rest
-      | false ↦ leave-out n new kept (suc k) rest
-    ]
+-- Some elements of a list, in their sequence: `Part l m`, m is l with elements left out.
+pub data Part {A : Type 0} : List A → List A → Type 0 where
+  end : Part [] []
+  kept : {x : A} {l m : List A} → Part l m → Part (x ∷ l) (x ∷ m)
+  left : {x : A} {l m : List A} → Part l m → Part (x ∷ l) m
 
--- "If the whole book and the new group can hang together, the list is empty. Otherwise the leaving-out rule gives it: start with the whole book."
--- Groups are numbered from 1.
-unfoldable pub conflict-list : ℕ → List Restriction → Restriction → List ℕ
-conflict-list n book new = elim (possible? n (new ∷ book)) [ true ↦ [] | false ↦ leave-out n new [] 1 book ]
+-- The test `ok` says whether groups can hang together, `f j` is the group with the number j, and js are the numbers of the book's groups.
+module _ {A : Type 0} where
+  -- "From the first group to the last, leave one out if the remaining ones with the new group are still impossible together." The answer is the
+  -- numbers kept. Those in `stay` stay in any case: the new group, and the ones before that were not left out.
+  unfoldable pub leave-out : (List A → Bool) → (ℕ → A) → List A → List ℕ → List ℕ
+  leave-out ok f stay [] = []
+  leave-out ok f stay (j ∷ js) =
+      elim (ok (stay ++ map f js)) [
+        | true ↦ j ∷ leave-out ok f (stay ++ (f j ∷ [])) js
+        | false ↦ leave-out ok f stay js
+      ]
 
--- "The list names the groups with these numbers and no others": the groups, numbered from k, whose numbers stand in the list.
-abbrev pub named : ℕ → List Restriction → List ℕ → List Restriction
-named k [] ns = []
-named k (G ∷ Gs) ns = cond (elem ns k) (G ∷ named (suc k) Gs ns) (named (suc k) Gs ns)
+  -- "If the whole book and the new group can hang together, the list is empty. Otherwise the leaving-out rule gives it: start with the whole book."
+  -- The new group is the one that stays.
+  unfoldable pub conflict-list : (List A → Bool) → (ℕ → A) → List A → List ℕ → List ℕ
+  conflict-list ok f stay js = elim (ok (stay ++ map f js)) [ true ↦ [] | false ↦ leave-out ok f stay js ]
 
--- The numbers rise from k, and each is below m.
+  -- Demand 3 of a conflict list, where `Ok` says which groups can hang together: it is empty iff the new group can with the whole book; else the new
+  -- group and those named are impossible together, and possible without any one of them. It names groups of the book, in their sequence.
+  pub record Demand-3 (Ok : List A → Type 0) (f : ℕ → A) (new : A) (js ns : List ℕ) : Type 0 where
+    pub empty-iff : (ns ≡ []) ↔ Ok (new ∷ map f js)
+    pub impossible : ns ≢ [] → Ok (new ∷ map f ns) → ⊥
+    pub smallest : (a : List ℕ) (j : ℕ) (b : List ℕ) → ns ≡ a ++ (j ∷ b) → Ok (new ∷ map f (a ++ b))
+    pub numbers : Part js ns
+
+-- The conflict list of a ring's whole book: its groups have the numbers 1 to count.
+abbrev pub ring-conflicts : ℕ → (ℕ → Restriction) → ℕ → Restriction → List ℕ
+ring-conflicts n f count new = conflict-list (possible? n) f (new ∷ []) (numbers-from 1 count)
+
+-- The group with the number j in a list of groups.
+abbrev pub numbered : List Restriction → ℕ → Restriction
+numbered Gs j = getD Gs (j - 1) (λ b. false)
+
+-- The numbers rise, from k or more to m at most.
 abbrev pub Numbers : ℕ → ℕ → List ℕ → Type 0
 Numbers k m [] = Unit {0}
-Numbers k m (j ∷ ns) = (k ≤ j) × (j < m) × Numbers (suc j) m ns
-
--- Demand 3 of a conflict list: it is empty iff the new group can hang together with the whole book; else the new group and those named are
--- impossible together, and possible without any one of them. The numbers rise, from 1 to the book's count.
-pub record Demand-3 (n : ℕ) (book : List Restriction) (new : Restriction) (ns : List ℕ) : Type 0 where
-  pub empty-iff : (ns ≡ []) ↔ Possible n (new ∷ book)
-  pub impossible : ns ≢ [] → Possible n (new ∷ named 1 book ns) → ⊥
-  pub smallest : (a : List ℕ) (j : ℕ) (b : List ℕ) → ns ≡ a ++ (j ∷ b) → Possible n (new ∷ named 1 book (a ++ b))
-  pub numbers : Numbers 1 (suc (length book)) ns
+Numbers k m (j ∷ ns) = (k ≤ j) × (j ≤ m) × Numbers (suc j) m ns

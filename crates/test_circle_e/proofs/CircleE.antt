@@ -16,7 +16,7 @@ use Rattle.spec_orders.specs.Aim.{run-start, aim-of}
 use Rattle.spec_orders.specs.Circles.{bytes}
 use Rattle.mark_words.specs.Marks.{marked, word-of, words-of, leaves-of}
 use Rattle.spec_calls.specs.Tables.{Nodes, lent-nodes, Book, lent-book}
-use Rattle.spec_calls.specs.Book.{groups, book-in-form?, booked, emptied}
+use Rattle.spec_calls.specs.Book.{book-in-form?, booked, emptied}
 use Rattle.spec_calls.specs.NodeTable.{table-of, spelled, spelled-tree, tree-in}
 use Rattle.spec_calls.specs.Refusals.{Reply, bad-leaf}
 use Rattle.spec_calls.specs.Calls.{Ring, open-refusal, opened, open-call, joined-tree, join-refusal, joined, join-call, trial-call, order-refusal, order-call, write-refusal, write-call, aim-refusal, aim-call, conflict-refusal, conflicts-of, conflict-call}
@@ -54,5 +54,5 @@ abbrev then-d : Ring → Bool
 then-d r = then-e (join-call (nodes-of r) (book-of r 0) (1 ∷ 3 ∷ []))
 
 pub calls-right : then-d (open-call (lent-nodes 5 256 (replicate 65793 7)) (lent-book (replicate 385 7) 0)) ≡ true
-unfolding in-form? reduce fresh side join marked word-of words-of leaves-of groups book-in-form? booked emptied table-of spelled spelled-tree tree-in bad-leaf open-refusal opened open-call joined-tree join-refusal joined join-call trial-call consecutive? possible? leave-out conflict-list conflict-refusal conflicts-of conflict-call order-refusal order-call aim-refusal aim-call run-start aim-of digits-in digits tree-text write-refusal write-call
+unfolding in-form? reduce fresh side join marked word-of words-of leaves-of book-in-form? booked emptied table-of spelled spelled-tree tree-in bad-leaf open-refusal opened open-call joined-tree join-refusal joined join-call trial-call consecutive? possible? leave-out conflict-list conflict-refusal conflicts-of conflict-call order-refusal order-call aim-refusal aim-call run-start aim-of digits-in digits tree-text write-refusal write-call
 calls-right = refl

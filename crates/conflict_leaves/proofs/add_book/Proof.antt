@@ -3,13 +3,14 @@ use Prim.Native.Nat.{ℕ, _+_, _-_, _*_, _≤_}
 use native.Mathlib.Omega.{arith}
 use lib.ListN.{length, take, drop}
 use Rattle.mark_words.specs.Marks.{marked}
-use Rattle.conflict_leaves.specs.StandIn.{Below, group}
+use Rattle.spec_calls.specs.Calls.{group-numbered}
+use Rattle.conflict_leaves.specs.StandIn.{Below}
 use Rattle.conflict_leaves.proofs.Choice.{first-below, second-below, part-numbered, one-more-below}
 use Rattle.conflict_leaves.proofs.add_book.Statement.{statement}
 use Rattle.conflict_leaves.proofs.add_book.Tie as tie
 
 abbrev Inv-loop : tie.InvT-loop
-Inv-loop words₀ book k₀ words k = (k ≤ 96) × (length words ≡ 4) × Below (marked words₀) (marked words) × ((j : ℕ) → 1 ≤ j → j ≤ k → Below (group book j) (marked words))
+Inv-loop words₀ book k₀ words k = (k ≤ 96) × (length words ≡ 4) × Below (marked words₀) (marked words) × ((j : ℕ) → 1 ≤ j → j ≤ k → Below (group-numbered book j) (marked words))
 
 abbrev μ-loop : tie.MeasureT-loop
 μ-loop words₀ book k₀ words k = 96 - k

@@ -6,13 +6,15 @@ use lib.ListN.{length, take, drop, getD, set, length-set, length-drop}
 use lib.Seq.{length-take-le}
 use Rattle.spec_orders.specs.CircularOrder.{Restriction}
 use Rattle.spec_orders.specs.Tree.{Forest}
+use Rattle.spec_orders.specs.Conflict.{possible?, leave-out}
+use Rattle.spec_orders.proofs.Conflicts.{part-all, leave-out-kept, ring-tests}
 use Rattle.spec_orders.proofs.ListLaws.{part-to-end}
 use Rattle.tree_tokens.specs.Tokens.{Wrote}
 use Rattle.tree_tokens.proofs.Writes.{read-back, wrote-one, wrote-then}
 use Rattle.tree_pieces.specs.Writers.{flat}
-use Rattle.conflict_leaves.specs.StandIn.{group}
-use Rattle.conflict_rule.specs.LeavingOut.{InBook, Represents, TokensRepresent, Walked, Stops, keeps, goes-on}
-use Rattle.conflict_rule.proofs.Keeping.{keeps-halves, keeps-short, keeps-all}
+use Rattle.spec_calls.specs.Calls.{group-numbered}
+use Rattle.conflict_rule.specs.LeavingOut.{InBook, Represents, TokensRepresent, Walked, Stops, goes-on}
+use Rattle.conflict_rule.proofs.Keeping.{rule-halves, rule-short}
 use Rattle.conflict_rule.proofs.Places.{part-start, book-take, book-drop, book-at}
 use Rattle.conflict_rule.proofs.Trees.{represented-possible, walked-stands, walked-all, next-kept, no-more}
 use Rattle.conflict_rule.proofs.Written.{wrote-here, went-on}
@@ -67,11 +69,11 @@ go-on-walk-requires : (t : ℕ) → go-on-lts.Need-walk-requires (go-on-calls t)
 go-on-walk-requires t c κs = (c .before .before .before .before .before .before .before .pre .1 .0, c .before .before .before .before .before .before .before .pre .1 .1, subst InBook (sym (part-start (c .before .before .before .before .before .before .before .args .k) (c .before .before .before .before .before .before .before .args .out .now))) (c .before .before .before .before .before .before .before .pre .1 .4), omega arith)
 
 -- The walk over the numbers kept.
-joined : {t : ℕ} (c : go-on-lts.After-walk (go-on-calls t) (go-on-at t) go-on.Post) (u : Forest) (Gs : List Restriction) → c .before .before .before .before .before .before .before .before .args .toks .now ≡ flat u → Represents (c .before .before .before .before .before .before .before .before .args .n) (group (c .before .before .before .before .before .before .before .before .args .book .now)) Gs u
-    → Walked (c .before .before .before .before .before .before .before .before .args .n) (group (c .before .before .before .before .before .before .before .before .args .book .now)) Gs (take (c .before .before .before .before .before .before .before .before .args .k) (c .before .before .before .before .before .before .before .before .args .out .now)) (c .walk .result .left) (take (c .walk .result .tokens) (c .walk .last .1 .1 .1 .1 .0))
-    × Stops (c .before .before .before .before .before .before .before .before .args .n) (group (c .before .before .before .before .before .before .before .before .args .book .now)) Gs (take (c .before .before .before .before .before .before .before .before .args .k) (c .before .before .before .before .before .before .before .before .args .out .now)) (c .walk .result .left)
+joined : {t : ℕ} (c : go-on-lts.After-walk (go-on-calls t) (go-on-at t) go-on.Post) (u : Forest) (Gs : List Restriction) → c .before .before .before .before .before .before .before .before .args .toks .now ≡ flat u → Represents (c .before .before .before .before .before .before .before .before .args .n) (group-numbered (c .before .before .before .before .before .before .before .before .args .book .now)) Gs u
+    → Walked (c .before .before .before .before .before .before .before .before .args .n) (group-numbered (c .before .before .before .before .before .before .before .before .args .book .now)) Gs (take (c .before .before .before .before .before .before .before .before .args .k) (c .before .before .before .before .before .before .before .before .args .out .now)) (c .walk .result .left) (take (c .walk .result .tokens) (c .walk .last .1 .1 .1 .1 .0))
+    × Stops (c .before .before .before .before .before .before .before .before .args .n) (group-numbered (c .before .before .before .before .before .before .before .before .args .book .now)) Gs (take (c .before .before .before .before .before .before .before .before .args .k) (c .before .before .before .before .before .before .before .before .args .out .now)) (c .walk .result .left)
 joined c u Gs e rep =
-    subst (λ js. Walked (c .before .before .before .before .before .before .before .before .args .n) (group (c .before .before .before .before .before .before .before .before .args .book .now)) Gs js (c .walk .result .left) (take (c .walk .result .tokens) (c .walk .last .1 .1 .1 .1 .0)) × Stops (c .before .before .before .before .before .before .before .before .args .n) (group (c .before .before .before .before .before .before .before .before .args .book .now)) Gs js (c .walk .result .left))
+    subst (λ js. Walked (c .before .before .before .before .before .before .before .before .args .n) (group-numbered (c .before .before .before .before .before .before .before .before .args .book .now)) Gs js (c .walk .result .left) (take (c .walk .result .tokens) (c .walk .last .1 .1 .1 .1 .0)) × Stops (c .before .before .before .before .before .before .before .before .args .n) (group-numbered (c .before .before .before .before .before .before .before .before .args .book .now)) Gs js (c .walk .result .left))
     (part-start (c .before .before .before .before .before .before .before .before .args .k) (c .before .before .before .before .before .before .before .before .args .out .now)) (c .walk .ensures .2 u Gs e rep)
 
 go-on-same-length : (t : ℕ) → go-on-lts.Need-same-length (go-on-calls t) (go-on-at t) go-on.Post
@@ -108,7 +110,7 @@ go-on-halves-requires : (t : ℕ) → go-on-lts.Need-halves-requires (go-on-call
 go-on-halves-requires t c κs =
     let p = c .before .before .before .before .before .before .before .before .before .before .before .before .before .pre .1 .0 in
     let w = joined (c .before .before .before .before .before) (p .0) (p .1) (p .2) (p .3) .0 in
-    (omega (arith, c .before .before .before .before .before .before .before .before .before .before .before .before .before .pre .0), (subst (TokensRepresent (c .before .before .before .before .before .before .before .before .before .before .before .before .before .args .n) (group (c .before .before .before .before .before .before .before .before .before .before .before .before .before .args .book .now))) (sym (part-start (c .before .before .before .before .before .walk .result .tokens) (c .before .before .before .before .before .walk .last .1 .1 .1 .1 .0))) (walked-stands w (p .4)), c .before .before .before .before .before .before .before .before .before .before .before .before .before .pre .1 .1, c .before .before .before .before .before .before .before .before .before .before .before .before .before .pre .1 .2, omega (arith, c .before .before .before .before .before .before .before .before .before .before .before .before .before .pre .1 .3, c .halves-arg2 .given)))
+    (omega (arith, c .before .before .before .before .before .before .before .before .before .before .before .before .before .pre .0), (subst (TokensRepresent (c .before .before .before .before .before .before .before .before .before .before .before .before .before .args .n) (group-numbered (c .before .before .before .before .before .before .before .before .before .before .before .before .before .args .book .now))) (sym (part-start (c .before .before .before .before .before .walk .result .tokens) (c .before .before .before .before .before .walk .last .1 .1 .1 .1 .0))) (walked-stands w (p .4)), c .before .before .before .before .before .before .before .before .before .before .before .before .before .pre .1 .1, c .before .before .before .before .before .before .before .before .before .before .before .before .before .pre .1 .2, omega (arith, c .before .before .before .before .before .before .before .before .before .before .before .before .before .pre .1 .3, c .halves-arg2 .given)))
 
 go-on-add-result : (t : ℕ) → go-on-lts.Need-add-result (go-on-calls t) (go-on-at t) go-on.Post
 go-on-add-result t c = omega (arith, c .before .before .halves .ensures .0, c .before .before .before .before .before .before .before .before .before .before .before .before .before .before .before .before .pre .1 .3)
@@ -122,8 +124,8 @@ go-on-returns-2 t c = (
   omega (arith, c .before .before .halves .ensures .0),
   λ u Gs e rep.
       let w = joined (c .before .before .before .before .before .before .before .before) u Gs e rep .0 in
-      wrote-then {ys = keeps (c .before .before .before .before .before .before .before .before .before .before .before .before .before .before .before .before .args .n) (group (c .before .before .before .before .before .before .before .before .before .before .before .before .before .before .before .before .args .book .now)) (Gs ++ map (group (c .before .before .before .before .before .before .before .before .before .before .before .before .before .before .before .before .args .book .now)) (take (c .before .before .before .before .before .before .before .before .before .before .before .before .before .before .before .before .args .k) (c .before .before .before .before .before .before .before .before .before .before .before .before .before .before .before .before .args .out .now))) (c .before .before .before .before .before .before .before .before .before .before .before .before .before .before .before .before .args .numbers .now)} (wrote-here (c .before .before .before .before .before .before .before .before .before .before .before .before .before .before .before .before .args .k) (c .before .before .before .before .before .before .before .before .before .before .before .before .before .before .before .before .args .out .now) (omega (arith, c .before .before .before .before .before .before .before .before .before .before .before .before .before .before .before .before .pre .1 .3)))
-      (c .before .before .halves .ensures .1 (w .tree) (Gs ++ map (group (c .before .before .before .before .before .before .before .before .before .before .before .before .before .before .before .before .args .book .now)) (take (c .before .before .before .before .before .before .before .before .before .before .before .before .before .before .before .before .args .k) (c .before .before .before .before .before .before .before .before .before .before .before .before .before .before .before .before .args .out .now))) (part-start (c .before .before .before .before .before .before .before .before .walk .result .tokens) (c .before .before .before .before .before .before .before .before .walk .last .1 .1 .1 .1 .0) ∙ w .text) (walked-all w (omega (arith, c .before .before .before .before .before .before .if1 .left)))),
+      wrote-then {ys = leave-out (possible? (c .before .before .before .before .before .before .before .before .before .before .before .before .before .before .before .before .args .n)) (group-numbered (c .before .before .before .before .before .before .before .before .before .before .before .before .before .before .before .before .args .book .now)) (Gs ++ map (group-numbered (c .before .before .before .before .before .before .before .before .before .before .before .before .before .before .before .before .args .book .now)) (take (c .before .before .before .before .before .before .before .before .before .before .before .before .before .before .before .before .args .k) (c .before .before .before .before .before .before .before .before .before .before .before .before .before .before .before .before .args .out .now))) (c .before .before .before .before .before .before .before .before .before .before .before .before .before .before .before .before .args .numbers .now)} (wrote-here (c .before .before .before .before .before .before .before .before .before .before .before .before .before .before .before .before .args .k) (c .before .before .before .before .before .before .before .before .before .before .before .before .before .before .before .before .args .out .now) (omega (arith, c .before .before .before .before .before .before .before .before .before .before .before .before .before .before .before .before .pre .1 .3)))
+      (c .before .before .halves .ensures .1 (w .tree) (Gs ++ map (group-numbered (c .before .before .before .before .before .before .before .before .before .before .before .before .before .before .before .before .args .book .now)) (take (c .before .before .before .before .before .before .before .before .before .before .before .before .before .before .before .before .args .k) (c .before .before .before .before .before .before .before .before .before .before .before .before .before .before .before .before .args .out .now))) (part-start (c .before .before .before .before .before .before .before .before .walk .result .tokens) (c .before .before .before .before .before .before .before .before .walk .last .1 .1 .1 .1 .0) ∙ w .text) (walked-all w (omega (arith, c .before .before .before .before .before .before .if1 .left)))),
 )
 
 abbrev halves-calls : ℕ → halves-lts.Claims
@@ -138,7 +140,7 @@ halves-same-length t c = c .before .before .copy .kept .1 .0
 halves-returns : (t : ℕ) → halves-lts.Need-returns (halves-calls t) (halves-at t) halves.Post
 halves-returns t c = (
   omega (arith, c .before .before .copy .ensures .many),
-  λ u Gs e rep. rw (keeps-short (c .before .before .before .before .before .before .before .before .before .args .n) (group (c .before .before .before .before .before .before .before .before .before .args .book .now)) Gs (c .before .before .before .before .before .before .before .before .before .args .numbers .now) (omega (arith, c .before .before .before .before .if1 .taken)) (represented-possible rep)) (c .before .before .copy .ensures),
+  λ u Gs e rep. rw (rule-short (ring-tests (c .before .before .before .before .before .before .before .before .before .args .n)) (group-numbered (c .before .before .before .before .before .before .before .before .before .args .book .now)) Gs (c .before .before .before .before .before .before .before .before .before .args .numbers .now) (omega (arith, c .before .before .before .before .if1 .taken)) (represented-possible rep)) (c .before .before .copy .ensures),
 )
 
 halves-mul-walk : (t : ℕ) → halves-lts.Need-mul-walk (halves-calls t) (halves-at t) halves.Post
@@ -160,10 +162,10 @@ halves-walk-requires : (t : ℕ) → halves-lts.Need-walk-requires (halves-calls
 halves-walk-requires t c κs = (c .before .before .before .before .before .before .before .pre .1 .0, c .before .before .before .before .before .before .before .pre .1 .1, subst InBook (sym (part-to-end (c .before .before .before .before .before .before .before .args .numbers .now) (length (c .before .before .before .before .before .before .before .args .numbers .now) / 2))) (book-drop (length (c .before .before .before .before .before .before .before .args .numbers .now) / 2) (c .before .before .before .before .before .before .before .args .numbers .now) (c .before .before .before .before .before .before .before .pre .1 .2)), omega arith)
 
 -- The walk down the second half, and how far it came.
-down : {t : ℕ} (c : halves-lts.After-walk (halves-calls t) (halves-at t) halves.Post) (u : Forest) (Gs : List Restriction) → c .before .before .before .before .before .before .before .before .args .toks .now ≡ flat u → Represents (c .before .before .before .before .before .before .before .before .args .n) (group (c .before .before .before .before .before .before .before .before .args .book .now)) Gs u
-    → Walked (c .before .before .before .before .before .before .before .before .args .n) (group (c .before .before .before .before .before .before .before .before .args .book .now)) Gs (drop (length (c .before .before .before .before .before .before .before .before .args .numbers .now) / 2) (c .before .before .before .before .before .before .before .before .args .numbers .now)) (c .walk .result .left) (take (c .walk .result .tokens) (c .walk .last .1 .1 .1 .1 .0)) × Stops (c .before .before .before .before .before .before .before .before .args .n) (group (c .before .before .before .before .before .before .before .before .args .book .now)) Gs (drop (length (c .before .before .before .before .before .before .before .before .args .numbers .now) / 2) (c .before .before .before .before .before .before .before .before .args .numbers .now)) (c .walk .result .left)
+down : {t : ℕ} (c : halves-lts.After-walk (halves-calls t) (halves-at t) halves.Post) (u : Forest) (Gs : List Restriction) → c .before .before .before .before .before .before .before .before .args .toks .now ≡ flat u → Represents (c .before .before .before .before .before .before .before .before .args .n) (group-numbered (c .before .before .before .before .before .before .before .before .args .book .now)) Gs u
+    → Walked (c .before .before .before .before .before .before .before .before .args .n) (group-numbered (c .before .before .before .before .before .before .before .before .args .book .now)) Gs (drop (length (c .before .before .before .before .before .before .before .before .args .numbers .now) / 2) (c .before .before .before .before .before .before .before .before .args .numbers .now)) (c .walk .result .left) (take (c .walk .result .tokens) (c .walk .last .1 .1 .1 .1 .0)) × Stops (c .before .before .before .before .before .before .before .before .args .n) (group-numbered (c .before .before .before .before .before .before .before .before .args .book .now)) Gs (drop (length (c .before .before .before .before .before .before .before .before .args .numbers .now) / 2) (c .before .before .before .before .before .before .before .before .args .numbers .now)) (c .walk .result .left)
 down c u Gs e rep =
-    subst (λ js. Walked (c .before .before .before .before .before .before .before .before .args .n) (group (c .before .before .before .before .before .before .before .before .args .book .now)) Gs js (c .walk .result .left) (take (c .walk .result .tokens) (c .walk .last .1 .1 .1 .1 .0)) × Stops (c .before .before .before .before .before .before .before .before .args .n) (group (c .before .before .before .before .before .before .before .before .args .book .now)) Gs js (c .walk .result .left))
+    subst (λ js. Walked (c .before .before .before .before .before .before .before .before .args .n) (group-numbered (c .before .before .before .before .before .before .before .before .args .book .now)) Gs js (c .walk .result .left) (take (c .walk .result .tokens) (c .walk .last .1 .1 .1 .1 .0)) × Stops (c .before .before .before .before .before .before .before .before .args .n) (group-numbered (c .before .before .before .before .before .before .before .before .args .book .now)) Gs js (c .walk .result .left))
     (part-to-end (c .before .before .before .before .before .before .before .before .args .numbers .now) (length (c .before .before .before .before .before .before .before .before .args .numbers .now) / 2)) (c .walk .ensures .2 u Gs e rep)
 
 far : {t : ℕ} (c : halves-lts.After-walk (halves-calls t) (halves-at t) halves.Post) → (length (c .before .before .before .before .before .before .before .before .args .numbers .now) / 2) + c .walk .result .left ≤ length (c .before .before .before .before .before .before .before .before .args .numbers .now)
@@ -218,8 +220,8 @@ halves-returns-2 t c =
       λ u Gs e rep.
           let d = down (c .before .before .before .before .before .before .before .before) u Gs e rep in
           rw (next-kept (c .before .before .before .before .before .before .before .before .before .before .before .before .before .before .before .before .args .numbers .now) (length (c .before .before .before .before .before .before .before .before .before .before .before .before .before .before .before .before .args .numbers .now) / 2) (c .before .before .before .before .before .before .before .before .walk .result .left) (d .0) (d .1) (omega (arith, c .before .before .before .before .before .before .if2 .taken)) h)
-          (went-on (c .before .before .before .before .before .before .before .before .before .before .before .before .before .before .before .before .args .n) (group (c .before .before .before .before .before .before .before .before .before .before .before .before .before .before .before .before .args .book .now)) Gs (drop from (c .before .before .before .before .before .before .before .before .before .before .before .before .before .before .before .before .args .numbers .now)) (wrote-one j (c .before .before .before .before .before .before .before .before .before .before .before .before .before .before .before .before .args .out .now) (omega (arith, h, c .before .before .before .before .before .before .if2 .taken, c .before .before .before .before .before .before .before .before .before .before .before .before .before .before .before .before .pre .1 .3)))
-          (subst (λ js. Wrote (goes-on (c .before .before .before .before .before .before .before .before .before .before .before .before .before .before .before .before .args .n) (group (c .before .before .before .before .before .before .before .before .before .before .before .before .before .before .before .before .args .book .now)) Gs (take 1 (set (c .before .before .before .before .before .before .before .before .before .before .before .before .before .before .before .before .args .out .now) 0 j)) js) (set (c .before .before .before .before .before .before .before .before .before .before .before .before .before .before .before .before .args .out .now) 0 j) (c .before .before .go-on .last .1 .1 .1 .1 .1 .0) (c .before .before .go-on .result)) (part-to-end (c .before .before .before .before .before .before .before .before .before .before .before .before .before .before .before .before .args .numbers .now) from) (c .before .before .go-on .ensures .1 u Gs e rep))),
+          (went-on (possible? (c .before .before .before .before .before .before .before .before .before .before .before .before .before .before .before .before .args .n)) (group-numbered (c .before .before .before .before .before .before .before .before .before .before .before .before .before .before .before .before .args .book .now)) Gs (drop from (c .before .before .before .before .before .before .before .before .before .before .before .before .before .before .before .before .args .numbers .now)) (wrote-one j (c .before .before .before .before .before .before .before .before .before .before .before .before .before .before .before .before .args .out .now) (omega (arith, h, c .before .before .before .before .before .before .if2 .taken, c .before .before .before .before .before .before .before .before .before .before .before .before .before .before .before .before .pre .1 .3)))
+          (subst (λ js. Wrote (goes-on (possible? (c .before .before .before .before .before .before .before .before .before .before .before .before .before .before .before .before .args .n)) (group-numbered (c .before .before .before .before .before .before .before .before .before .before .before .before .before .before .before .before .args .book .now)) Gs (take 1 (set (c .before .before .before .before .before .before .before .before .before .before .before .before .before .before .before .before .args .out .now) 0 j)) js) (set (c .before .before .before .before .before .before .before .before .before .before .before .before .before .before .before .before .args .out .now) 0 j) (c .before .before .go-on .last .1 .1 .1 .1 .1 .0) (c .before .before .go-on .result)) (part-to-end (c .before .before .before .before .before .before .before .before .before .before .before .before .before .before .before .before .args .numbers .now) from) (c .before .before .go-on .ensures .1 u Gs e rep))),
     )
 
 halves-sub-halves : (t : ℕ) → halves-lts.Need-sub-halves (halves-calls t) (halves-at t) halves.Post
@@ -246,15 +248,15 @@ halves-halves-requires t c κs =
     let w = down (c .before .before .before .before .before .before) (p .0) (p .1) (p .2) (p .3) .0 in
     let half = ap length (part-start (length (c .before .before .before .before .before .before .before .before .before .before .before .before .before .before .args .numbers .now) / 2) (c .before .before .before .before .before .before .before .before .before .before .before .before .before .before .args .numbers .now)) in
     let size = length-take-le (length (c .before .before .before .before .before .before .before .before .before .before .before .before .before .before .args .numbers .now) / 2) (c .before .before .before .before .before .before .before .before .before .before .before .before .before .before .args .numbers .now) (omega arith) in
-    (omega (arith, c .before .before .before .before .before .before .before .before .before .before .before .before .before .before .pre .0, half, size, c .before .before .before .before .before .before .before .before .before .if1 .left), (subst (TokensRepresent (c .before .before .before .before .before .before .before .before .before .before .before .before .before .before .args .n) (group (c .before .before .before .before .before .before .before .before .before .before .before .before .before .before .args .book .now))) (sym (part-start (c .before .before .before .before .before .before .walk .result .tokens) (c .before .before .before .before .before .before .walk .last .1 .1 .1 .1 .0))) (walked-stands w (p .4)), c .before .before .before .before .before .before .before .before .before .before .before .before .before .before .pre .1 .1, subst InBook (sym (part-start (length (c .before .before .before .before .before .before .before .before .before .before .before .before .before .before .args .numbers .now) / 2) (c .before .before .before .before .before .before .before .before .before .before .before .before .before .before .args .numbers .now))) (book-take (length (c .before .before .before .before .before .before .before .before .before .before .before .before .before .before .args .numbers .now) / 2) (c .before .before .before .before .before .before .before .before .before .before .before .before .before .before .args .numbers .now) (c .before .before .before .before .before .before .before .before .before .before .before .before .before .before .pre .1 .2)), omega (arith, half, size, c .before .before .before .before .before .before .before .before .before .before .before .before .before .before .pre .1 .3)))
+    (omega (arith, c .before .before .before .before .before .before .before .before .before .before .before .before .before .before .pre .0, half, size, c .before .before .before .before .before .before .before .before .before .if1 .left), (subst (TokensRepresent (c .before .before .before .before .before .before .before .before .before .before .before .before .before .before .args .n) (group-numbered (c .before .before .before .before .before .before .before .before .before .before .before .before .before .before .args .book .now))) (sym (part-start (c .before .before .before .before .before .before .walk .result .tokens) (c .before .before .before .before .before .before .walk .last .1 .1 .1 .1 .0))) (walked-stands w (p .4)), c .before .before .before .before .before .before .before .before .before .before .before .before .before .before .pre .1 .1, subst InBook (sym (part-start (length (c .before .before .before .before .before .before .before .before .before .before .before .before .before .before .args .numbers .now) / 2) (c .before .before .before .before .before .before .before .before .before .before .before .before .before .before .args .numbers .now))) (book-take (length (c .before .before .before .before .before .before .before .before .before .before .before .before .before .before .args .numbers .now) / 2) (c .before .before .before .before .before .before .before .before .before .before .before .before .before .before .args .numbers .now) (c .before .before .before .before .before .before .before .before .before .before .before .before .before .before .pre .1 .2)), omega (arith, half, size, c .before .before .before .before .before .before .before .before .before .before .before .before .before .before .pre .1 .3)))
 
 -- What is kept of the first half.
-first : {t : ℕ} (c : halves-lts.After-halves (halves-calls t) (halves-at t) halves.Post) (u : Forest) (Gs : List Restriction) → c .before .before .before .before .before .before .before .before .before .before .before .before .before .before .before .args .toks .now ≡ flat u → Represents (c .before .before .before .before .before .before .before .before .before .before .before .before .before .before .before .args .n) (group (c .before .before .before .before .before .before .before .before .before .before .before .before .before .before .before .args .book .now)) Gs u
-    → Wrote (keeps (c .before .before .before .before .before .before .before .before .before .before .before .before .before .before .before .args .n) (group (c .before .before .before .before .before .before .before .before .before .before .before .before .before .before .before .args .book .now)) (Gs ++ map (group (c .before .before .before .before .before .before .before .before .before .before .before .before .before .before .before .args .book .now)) (drop (length (c .before .before .before .before .before .before .before .before .before .before .before .before .before .before .before .args .numbers .now) / 2) (c .before .before .before .before .before .before .before .before .before .before .before .before .before .before .before .args .numbers .now))) (take (length (c .before .before .before .before .before .before .before .before .before .before .before .before .before .before .before .args .numbers .now) / 2) (c .before .before .before .before .before .before .before .before .before .before .before .before .before .before .before .args .numbers .now))) (c .before .before .before .before .before .before .before .before .before .before .before .before .before .before .before .args .out .now) (c .halves .last .1 .1 .1 .1 .0) (c .halves .result)
+first : {t : ℕ} (c : halves-lts.After-halves (halves-calls t) (halves-at t) halves.Post) (u : Forest) (Gs : List Restriction) → c .before .before .before .before .before .before .before .before .before .before .before .before .before .before .before .args .toks .now ≡ flat u → Represents (c .before .before .before .before .before .before .before .before .before .before .before .before .before .before .before .args .n) (group-numbered (c .before .before .before .before .before .before .before .before .before .before .before .before .before .before .before .args .book .now)) Gs u
+    → Wrote (leave-out (possible? (c .before .before .before .before .before .before .before .before .before .before .before .before .before .before .before .args .n)) (group-numbered (c .before .before .before .before .before .before .before .before .before .before .before .before .before .before .before .args .book .now)) (Gs ++ map (group-numbered (c .before .before .before .before .before .before .before .before .before .before .before .before .before .before .before .args .book .now)) (drop (length (c .before .before .before .before .before .before .before .before .before .before .before .before .before .before .before .args .numbers .now) / 2) (c .before .before .before .before .before .before .before .before .before .before .before .before .before .before .before .args .numbers .now))) (take (length (c .before .before .before .before .before .before .before .before .before .before .before .before .before .before .before .args .numbers .now) / 2) (c .before .before .before .before .before .before .before .before .before .before .before .before .before .before .before .args .numbers .now))) (c .before .before .before .before .before .before .before .before .before .before .before .before .before .before .before .args .out .now) (c .halves .last .1 .1 .1 .1 .0) (c .halves .result)
 first c u Gs e rep =
     let w = down (c .before .before .before .before .before .before .before) u Gs e rep .0 in
-    subst (λ js. Wrote (keeps (c .before .before .before .before .before .before .before .before .before .before .before .before .before .before .before .args .n) (group (c .before .before .before .before .before .before .before .before .before .before .before .before .before .before .before .args .book .now)) (Gs ++ map (group (c .before .before .before .before .before .before .before .before .before .before .before .before .before .before .before .args .book .now)) (drop (length (c .before .before .before .before .before .before .before .before .before .before .before .before .before .before .before .args .numbers .now) / 2) (c .before .before .before .before .before .before .before .before .before .before .before .before .before .before .before .args .numbers .now))) js) (c .before .before .before .before .before .before .before .before .before .before .before .before .before .before .before .args .out .now) (c .halves .last .1 .1 .1 .1 .0) (c .halves .result)) (part-start (length (c .before .before .before .before .before .before .before .before .before .before .before .before .before .before .before .args .numbers .now) / 2) (c .before .before .before .before .before .before .before .before .before .before .before .before .before .before .before .args .numbers .now))
-    (c .halves .ensures .1 (w .tree) (Gs ++ map (group (c .before .before .before .before .before .before .before .before .before .before .before .before .before .before .before .args .book .now)) (drop (length (c .before .before .before .before .before .before .before .before .before .before .before .before .before .before .before .args .numbers .now) / 2) (c .before .before .before .before .before .before .before .before .before .before .before .before .before .before .before .args .numbers .now))) (part-start (c .before .before .before .before .before .before .before .walk .result .tokens) (c .before .before .before .before .before .before .before .walk .last .1 .1 .1 .1 .0) ∙ w .text) (walked-all w (omega (arith, c .before .before .before .before .before .if2 .left))))
+    subst (λ js. Wrote (leave-out (possible? (c .before .before .before .before .before .before .before .before .before .before .before .before .before .before .before .args .n)) (group-numbered (c .before .before .before .before .before .before .before .before .before .before .before .before .before .before .before .args .book .now)) (Gs ++ map (group-numbered (c .before .before .before .before .before .before .before .before .before .before .before .before .before .before .before .args .book .now)) (drop (length (c .before .before .before .before .before .before .before .before .before .before .before .before .before .before .before .args .numbers .now) / 2) (c .before .before .before .before .before .before .before .before .before .before .before .before .before .before .before .args .numbers .now))) js) (c .before .before .before .before .before .before .before .before .before .before .before .before .before .before .before .args .out .now) (c .halves .last .1 .1 .1 .1 .0) (c .halves .result)) (part-start (length (c .before .before .before .before .before .before .before .before .before .before .before .before .before .before .before .args .numbers .now) / 2) (c .before .before .before .before .before .before .before .before .before .before .before .before .before .before .before .args .numbers .now))
+    (c .halves .ensures .1 (w .tree) (Gs ++ map (group-numbered (c .before .before .before .before .before .before .before .before .before .before .before .before .before .before .before .args .book .now)) (drop (length (c .before .before .before .before .before .before .before .before .before .before .before .before .before .before .before .args .numbers .now) / 2) (c .before .before .before .before .before .before .before .before .before .before .before .before .before .before .before .args .numbers .now))) (part-start (c .before .before .before .before .before .before .before .walk .result .tokens) (c .before .before .before .before .before .before .before .walk .last .1 .1 .1 .1 .0) ∙ w .text) (walked-all w (omega (arith, c .before .before .before .before .before .if2 .left))))
 
 halves-mul-go-on-2 : (t : ℕ) → halves-lts.Need-mul-go-on-2 (halves-calls t) (halves-at t) halves.Post
 halves-mul-go-on-2 t c = omega arith
@@ -276,7 +278,7 @@ halves-go-on-requires-2 t c κs =
     let size = length-drop (length (c .before .before .before .before .before .before .before .before .before .before .before .before .before .before .before .before .before .before .before .args .numbers .now) / 2) (c .before .before .before .before .before .before .before .before .before .before .before .before .before .before .before .before .before .before .before .args .numbers .now) in
     let half = ap length (part-start (length (c .before .before .before .before .before .before .before .before .before .before .before .before .before .before .before .before .before .before .before .args .numbers .now) / 2) (c .before .before .before .before .before .before .before .before .before .before .before .before .before .before .before .before .before .before .before .args .numbers .now)) in
     let size-2 = length-take-le (length (c .before .before .before .before .before .before .before .before .before .before .before .before .before .before .before .before .before .before .before .args .numbers .now) / 2) (c .before .before .before .before .before .before .before .before .before .before .before .before .before .before .before .before .before .before .before .args .numbers .now) (omega arith) in
-    (omega (arith, c .before .before .before .before .before .before .before .before .before .before .before .before .before .before .before .before .before .before .before .pre .0, rest, size, c .before .before .before .before .before .before .before .before .before .before .before .before .before .before .if1 .left), (c .before .before .before .before .before .before .before .before .before .before .before .before .before .before .before .before .before .before .before .pre .1 .0, c .before .before .before .before .before .before .before .before .before .before .before .before .before .before .before .before .before .before .before .pre .1 .1, subst InBook (sym (part-to-end (c .before .before .before .before .before .before .before .before .before .before .before .before .before .before .before .before .before .before .before .args .numbers .now) (length (c .before .before .before .before .before .before .before .before .before .before .before .before .before .before .before .before .before .before .before .args .numbers .now) / 2))) (book-drop (length (c .before .before .before .before .before .before .before .before .before .before .before .before .before .before .before .before .before .before .before .args .numbers .now) / 2) (c .before .before .before .before .before .before .before .before .before .before .before .before .before .before .before .before .before .before .before .args .numbers .now) (c .before .before .before .before .before .before .before .before .before .before .before .before .before .before .before .before .before .before .before .pre .1 .2)), omega (arith, c .before .before .before .before .halves .ensures .0, half, size-2, rest, size, c .before .before .before .before .before .before .before .before .before .before .before .before .before .before .before .before .before .before .before .pre .1 .3, c .before .before .before .before .halves .kept .1 .1 .1 .1 .0), subst InBook (sym (read-back a)) (keeps-all (c .before .before .before .before .before .before .before .before .before .before .before .before .before .before .before .before .before .before .before .args .n) (group (c .before .before .before .before .before .before .before .before .before .before .before .before .before .before .before .before .before .before .before .args .book .now)) (λ j. (1 ≤ j) × (j ≤ 96)) (p .1 ++ map (group (c .before .before .before .before .before .before .before .before .before .before .before .before .before .before .before .before .before .before .before .args .book .now)) (drop (length (c .before .before .before .before .before .before .before .before .before .before .before .before .before .before .before .before .before .before .before .args .numbers .now) / 2) (c .before .before .before .before .before .before .before .before .before .before .before .before .before .before .before .before .before .before .before .args .numbers .now))) (take (length (c .before .before .before .before .before .before .before .before .before .before .before .before .before .before .before .before .before .before .before .args .numbers .now) / 2) (c .before .before .before .before .before .before .before .before .before .before .before .before .before .before .before .before .before .before .before .args .numbers .now)) (book-take (length (c .before .before .before .before .before .before .before .before .before .before .before .before .before .before .before .before .before .before .before .args .numbers .now) / 2) (c .before .before .before .before .before .before .before .before .before .before .before .before .before .before .before .before .before .before .before .args .numbers .now) (c .before .before .before .before .before .before .before .before .before .before .before .before .before .before .before .before .before .before .before .pre .1 .2)))))
+    (omega (arith, c .before .before .before .before .before .before .before .before .before .before .before .before .before .before .before .before .before .before .before .pre .0, rest, size, c .before .before .before .before .before .before .before .before .before .before .before .before .before .before .if1 .left), (c .before .before .before .before .before .before .before .before .before .before .before .before .before .before .before .before .before .before .before .pre .1 .0, c .before .before .before .before .before .before .before .before .before .before .before .before .before .before .before .before .before .before .before .pre .1 .1, subst InBook (sym (part-to-end (c .before .before .before .before .before .before .before .before .before .before .before .before .before .before .before .before .before .before .before .args .numbers .now) (length (c .before .before .before .before .before .before .before .before .before .before .before .before .before .before .before .before .before .before .before .args .numbers .now) / 2))) (book-drop (length (c .before .before .before .before .before .before .before .before .before .before .before .before .before .before .before .before .before .before .before .args .numbers .now) / 2) (c .before .before .before .before .before .before .before .before .before .before .before .before .before .before .before .before .before .before .before .args .numbers .now) (c .before .before .before .before .before .before .before .before .before .before .before .before .before .before .before .before .before .before .before .pre .1 .2)), omega (arith, c .before .before .before .before .halves .ensures .0, half, size-2, rest, size, c .before .before .before .before .before .before .before .before .before .before .before .before .before .before .before .before .before .before .before .pre .1 .3, c .before .before .before .before .halves .kept .1 .1 .1 .1 .0), subst InBook (sym (read-back a)) (part-all (λ j. (1 ≤ j) × (j ≤ 96)) (leave-out-kept (ring-tests (c .before .before .before .before .before .before .before .before .before .before .before .before .before .before .before .before .before .before .before .args .n)) (group-numbered (c .before .before .before .before .before .before .before .before .before .before .before .before .before .before .before .before .before .before .before .args .book .now)) (p .1 ++ map (group-numbered (c .before .before .before .before .before .before .before .before .before .before .before .before .before .before .before .before .before .before .before .args .book .now)) (drop (length (c .before .before .before .before .before .before .before .before .before .before .before .before .before .before .before .before .before .before .before .args .numbers .now) / 2) (c .before .before .before .before .before .before .before .before .before .before .before .before .before .before .before .before .before .before .before .args .numbers .now))) (take (length (c .before .before .before .before .before .before .before .before .before .before .before .before .before .before .before .before .before .before .before .args .numbers .now) / 2) (c .before .before .before .before .before .before .before .before .before .before .before .before .before .before .before .before .before .before .before .args .numbers .now)) .part) (book-take (length (c .before .before .before .before .before .before .before .before .before .before .before .before .before .before .before .before .before .before .before .args .numbers .now) / 2) (c .before .before .before .before .before .before .before .before .before .before .before .before .before .before .before .before .before .before .before .args .numbers .now) (c .before .before .before .before .before .before .before .before .before .before .before .before .before .before .before .before .before .before .before .pre .1 .2)))))
 
 halves-same-length-3 : (t : ℕ) → halves-lts.Need-same-length-3 (halves-calls t) (halves-at t) halves.Post
 halves-same-length-3 t c = c .before .before .go-on2 .kept .1 .1 .1 .1 .1 .0 ∙ c .before .before .before .before .before .before .before .halves .kept .1 .1 .1 .1 .0
@@ -285,9 +287,9 @@ halves-returns-3 : (t : ℕ) → halves-lts.Need-returns-3 (halves-calls t) (hal
 halves-returns-3 t c = (
   omega (arith, c .before .before .go-on2 .ensures .0, c .before .before .before .before .before .before .before .halves .ensures .0, ap length (part-to-end (c .before .before .before .before .before .before .before .before .before .before .before .before .before .before .before .before .before .before .before .before .before .before .args .numbers .now) (length (c .before .before .before .before .before .before .before .before .before .before .before .before .before .before .before .before .before .before .before .before .before .before .args .numbers .now) / 2)), length-drop (length (c .before .before .before .before .before .before .before .before .before .before .before .before .before .before .before .before .before .before .before .before .before .before .args .numbers .now) / 2) (c .before .before .before .before .before .before .before .before .before .before .before .before .before .before .before .before .before .before .before .before .before .before .args .numbers .now), ap length (part-start (length (c .before .before .before .before .before .before .before .before .before .before .before .before .before .before .before .before .before .before .before .before .before .before .args .numbers .now) / 2) (c .before .before .before .before .before .before .before .before .before .before .before .before .before .before .before .before .before .before .before .before .before .before .args .numbers .now)), length-take-le (length (c .before .before .before .before .before .before .before .before .before .before .before .before .before .before .before .before .before .before .before .before .before .before .args .numbers .now) / 2) (c .before .before .before .before .before .before .before .before .before .before .before .before .before .before .before .before .before .before .before .before .before .before .args .numbers .now) (omega arith)),
   λ u Gs e rep.
-      rw (keeps-halves (c .before .before .before .before .before .before .before .before .before .before .before .before .before .before .before .before .before .before .before .before .before .before .args .n) (group (c .before .before .before .before .before .before .before .before .before .before .before .before .before .before .before .before .before .before .before .before .before .before .args .book .now)) Gs (c .before .before .before .before .before .before .before .before .before .before .before .before .before .before .before .before .before .before .before .before .before .before .args .numbers .now) (length (c .before .before .before .before .before .before .before .before .before .before .before .before .before .before .before .before .before .before .before .before .before .before .args .numbers .now) / 2))
-      (went-on (c .before .before .before .before .before .before .before .before .before .before .before .before .before .before .before .before .before .before .before .before .before .before .args .n) (group (c .before .before .before .before .before .before .before .before .before .before .before .before .before .before .before .before .before .before .before .before .before .before .args .book .now)) Gs (drop (length (c .before .before .before .before .before .before .before .before .before .before .before .before .before .before .before .before .before .before .before .before .before .before .args .numbers .now) / 2) (c .before .before .before .before .before .before .before .before .before .before .before .before .before .before .before .before .before .before .before .before .before .before .args .numbers .now)) (first (c .before .before .before .before .before .before .before) u Gs e rep)
-      (subst (λ js. Wrote (goes-on (c .before .before .before .before .before .before .before .before .before .before .before .before .before .before .before .before .before .before .before .before .before .before .args .n) (group (c .before .before .before .before .before .before .before .before .before .before .before .before .before .before .before .before .before .before .before .before .before .before .args .book .now)) Gs (take (c .before .before .before .before .before .before .before .halves .result) (c .before .before .before .before .before .before .before .halves .last .1 .1 .1 .1 .0)) js) (c .before .before .before .before .before .before .before .halves .last .1 .1 .1 .1 .0) (c .before .before .go-on2 .last .1 .1 .1 .1 .1 .0) (c .before .before .go-on2 .result)) (part-to-end (c .before .before .before .before .before .before .before .before .before .before .before .before .before .before .before .before .before .before .before .before .before .before .args .numbers .now) (length (c .before .before .before .before .before .before .before .before .before .before .before .before .before .before .before .before .before .before .before .before .before .before .args .numbers .now) / 2)) (c .before .before .go-on2 .ensures .1 u Gs e rep))),
+      rw (rule-halves (ring-tests (c .before .before .before .before .before .before .before .before .before .before .before .before .before .before .before .before .before .before .before .before .before .before .args .n)) (group-numbered (c .before .before .before .before .before .before .before .before .before .before .before .before .before .before .before .before .before .before .before .before .before .before .args .book .now)) Gs (c .before .before .before .before .before .before .before .before .before .before .before .before .before .before .before .before .before .before .before .before .before .before .args .numbers .now) (length (c .before .before .before .before .before .before .before .before .before .before .before .before .before .before .before .before .before .before .before .before .before .before .args .numbers .now) / 2))
+      (went-on (possible? (c .before .before .before .before .before .before .before .before .before .before .before .before .before .before .before .before .before .before .before .before .before .before .args .n)) (group-numbered (c .before .before .before .before .before .before .before .before .before .before .before .before .before .before .before .before .before .before .before .before .before .before .args .book .now)) Gs (drop (length (c .before .before .before .before .before .before .before .before .before .before .before .before .before .before .before .before .before .before .before .before .before .before .args .numbers .now) / 2) (c .before .before .before .before .before .before .before .before .before .before .before .before .before .before .before .before .before .before .before .before .before .before .args .numbers .now)) (first (c .before .before .before .before .before .before .before) u Gs e rep)
+      (subst (λ js. Wrote (goes-on (possible? (c .before .before .before .before .before .before .before .before .before .before .before .before .before .before .before .before .before .before .before .before .before .before .args .n)) (group-numbered (c .before .before .before .before .before .before .before .before .before .before .before .before .before .before .before .before .before .before .before .before .before .before .args .book .now)) Gs (take (c .before .before .before .before .before .before .before .halves .result) (c .before .before .before .before .before .before .before .halves .last .1 .1 .1 .1 .0)) js) (c .before .before .before .before .before .before .before .halves .last .1 .1 .1 .1 .0) (c .before .before .go-on2 .last .1 .1 .1 .1 .1 .0) (c .before .before .go-on2 .result)) (part-to-end (c .before .before .before .before .before .before .before .before .before .before .before .before .before .before .before .before .before .before .before .before .before .before .args .numbers .now) (length (c .before .before .before .before .before .before .before .before .before .before .before .before .before .before .before .before .before .before .before .before .before .before .args .numbers .now) / 2)) (c .before .before .go-on2 .ensures .1 u Gs e rep))),
 )
 
 pub +go-on+halves-spec : {M : Type 1} → statement M

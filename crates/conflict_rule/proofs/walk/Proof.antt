@@ -9,7 +9,7 @@ use Rattle.spec_orders.specs.Tree.{Forest}
 use Rattle.tree_tokens.proofs.Writes.{read-back, wrote-most}
 use Rattle.tree_pieces.specs.Writers.{flat}
 use Rattle.tree_update.proofs.Updates.{tokens-short}
-use Rattle.conflict_leaves.specs.StandIn.{group}
+use Rattle.spec_calls.specs.Calls.{group-numbered}
 use Rattle.conflict_rule.specs.LeavingOut.{Represents, Walked}
 use Rattle.conflict_rule.proofs.Places.{part-group, part-start, book-at}
 use Rattle.conflict_rule.proofs.Trees.{stands-within, walk-begins, walk-joins, walk-stops, walk-ends}
@@ -20,7 +20,7 @@ use Rattle.conflict_rule.proofs.walk.Tie as tie
 abbrev Inv-loop : tie.InvT-loop
 Inv-loop toks book n numbers out₀ m₀ left₀ out m left =
     (left ≤ length numbers) × (length out ≡ length out₀) × (m ≤ length out)
-    × ((t : Forest) (Gs : List Restriction) → toks ≡ flat t → Represents n (group book) Gs t → Walked n (group book) Gs numbers left (take m out))
+    × ((t : Forest) (Gs : List Restriction) → toks ≡ flat t → Represents n (group-numbered book) Gs t → Walked n (group-numbered book) Gs numbers left (take m out))
 
 abbrev μ-loop : tie.MeasureT-loop
 μ-loop toks book n numbers out₀ m₀ left₀ out m left = left
@@ -94,8 +94,8 @@ sub-copy : tie.Need-sub-copy Inv-loop μ-loop
 sub-copy c = omega (arith, c .before .before .before .before .before .before .before .before .before .before .loop-test .taken, c .before .before .before .before .before .before .before .before .before .before .before .loop .inv .0)
 
 -- The tree with one group more.
-after : (c : tie.After-known-told Inv-loop μ-loop) (t : Forest) (Gs : List Restriction) (e : c .before .before .before .before .before .before .before .before .before .before .before .before .before .before .before .before .before .before .before .before .args .toks .now ≡ flat t) (rep : Represents (c .before .before .before .before .before .before .before .before .before .before .before .before .before .before .before .before .before .before .before .before .args .n) (group (c .before .before .before .before .before .before .before .before .before .before .before .before .before .before .before .before .before .before .before .before .args .book .now)) Gs t)
-    → Next (group (c .before .before .before .before .before .before .before .before .before .before .before .before .before .before .before .before .before .before .before .before .args .book .now) (getD (c .before .before .before .before .before .before .before .before .before .before .before .before .before .before .before .before .before .before .before .before .args .numbers .now) (c .before .before .before .before .before .before .before .before .before .before .before .loop .left - 1) 0)) (c .before .before .before .before .before .before .before .before .before .before .before .loop .inv .3 t Gs e rep .tree) (c .before .before .before .before .join .last .1 .1 .1 .0) (c .before .got .given .0 .0)
+after : (c : tie.After-known-told Inv-loop μ-loop) (t : Forest) (Gs : List Restriction) (e : c .before .before .before .before .before .before .before .before .before .before .before .before .before .before .before .before .before .before .before .before .args .toks .now ≡ flat t) (rep : Represents (c .before .before .before .before .before .before .before .before .before .before .before .before .before .before .before .before .before .before .before .before .args .n) (group-numbered (c .before .before .before .before .before .before .before .before .before .before .before .before .before .before .before .before .before .before .before .before .args .book .now)) Gs t)
+    → Next (group-numbered (c .before .before .before .before .before .before .before .before .before .before .before .before .before .before .before .before .before .before .before .before .args .book .now) (getD (c .before .before .before .before .before .before .before .before .before .before .before .before .before .before .before .before .before .before .before .before .args .numbers .now) (c .before .before .before .before .before .before .before .before .before .before .before .loop .left - 1) 0)) (c .before .before .before .before .before .before .before .before .before .before .before .loop .inv .3 t Gs e rep .tree) (c .before .before .before .before .join .last .1 .1 .1 .0) (c .before .got .given .0 .0)
 after c t Gs e rep =
     let w = c .before .before .before .before .before .before .before .before .before .before .before .loop .inv .3 t Gs e rep in
     next-tree (w .tree) (part-group (c .before .before .before .before .before .before .before .before .before .before .before .before .before .before .before .before .before .before .before .before .args .book .now) (getD (c .before .before .before .before .before .before .before .before .before .before .before .before .before .before .before .before .before .before .before .before .args .numbers .now) (c .before .before .before .before .before .before .before .before .before .before .before .loop .left - 1) 0)) (c .before .got .given .1) (c .before .before .before .before .join .ensures (w .tree) (part-start (c .before .before .before .before .before .before .before .before .before .before .before .loop .m) (c .before .before .before .before .before .before .before .before .before .before .before .loop .out) ∙ w .text))
@@ -136,7 +136,7 @@ returns-2 c = (
   c .before .loop .inv .2,
   λ t Gs e rep.
       let z : c .before .loop .left ≡ 0 = omega (arith, c .loop-test .left) in
-      (subst (λ i. Walked (c .before .before .before .before .before .before .before .before .before .before .args .n) (group (c .before .before .before .before .before .before .before .before .before .before .args .book .now)) Gs (c .before .before .before .before .before .before .before .before .before .before .args .numbers .now) i (take (c .before .loop .m) (c .before .loop .out))) z (c .before .loop .inv .3 t Gs e rep), walk-ends),
+      (subst (λ i. Walked (c .before .before .before .before .before .before .before .before .before .before .args .n) (group-numbered (c .before .before .before .before .before .before .before .before .before .before .args .book .now)) Gs (c .before .before .before .before .before .before .before .before .before .before .args .numbers .now) i (take (c .before .loop .m) (c .before .loop .out))) z (c .before .loop .inv .3 t Gs e rep), walk-ends),
 )
 
 pub walk-spec : {M : Type 1} → statement M
