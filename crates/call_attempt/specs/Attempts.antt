@@ -9,8 +9,7 @@ use Rattle.spec_orders.specs.CircularOrder.{group-of}
 use Rattle.spec_orders.specs.Tree.{Forest}
 use Rattle.spec_orders.specs.Form.{InForm}
 use Rattle.spec_orders.specs.Join.{join}
-use Rattle.tree_tokens.specs.Tokens.{Wrote}
-use Rattle.tree_pieces.specs.Writers.{flat}
+use Rattle.tree_tokens.specs.Tokens.{Wrote, flat}
 use Rattle.spec_calls.specs.declared.Refusal.{Refusal}
 use Rattle.spec_calls.specs.declared.Refusal.the-variants.{BookFull, Impossible}
 use Rattle.spec_calls.specs.Tables.{Nodes, leaves, Book}

@@ -2,8 +2,8 @@
 ghost use mathlib.Core.Path.{_≡_};
 ghost use Prim.Native.Nat.{_≤_};
 ghost use lib.ListN.{length};
+ghost use Rattle.tree_tokens.specs.Tokens.{flat};
 ghost use Rattle.spec_orders.specs.Tree.{Forest};
-ghost use Rattle.tree_pieces.specs.Writers.{flat};
 ghost use Rattle.spec_calls.specs.Tables.{lent-nodes, lent-book};
 ghost use Rattle.tree_update.specs.Update.{Published};
 ghost use Rattle.call_attempt.specs.Attempts.{AttemptsOn, Attempts};

@@ -22,7 +22,6 @@ use Rattle.spec_calls.proofs.NodeTables.{tree-in-holds}
 use Rattle.spec_calls.proofs.Demands.{size-fine, nodes-fine}
 use Rattle.table_walk.specs.declared.Walked.the-variants.{Found}
 use Rattle.table_walk.specs.Walks.{Loads}
-use Rattle.tree_pieces.specs.Writers.{flat}
 use Rattle.call_checks.specs.declared.Lent.{Lent}
 use Rattle.call_checks.specs.declared.Lent.the-variants.{Refused}
 use Rattle.call_checks.specs.Lent.{TreeLent, LendsTree, RingLent, LendsRing}
@@ -96,7 +95,6 @@ module _ (nodes : Nodes) (other : Bool) where
     no-tree t = first-refusal-none (table-checks nodes other) of-tree e ∙ rw t
 
     pub tree-lent : {old new : List ℕ} {k : ℕ} → Loads (leaves nodes) (nodes .rows) old new (Found k) → TreeLent nodes other old new k
-    unfolding flat
     tree-lent h =
         let w = tables-whole nodes other e in
         record {

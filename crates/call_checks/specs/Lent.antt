@@ -5,8 +5,7 @@ use mathlib.Core.Option.{none, some}
 use mathlib.Core.List.{List}
 use Prim.Native.Nat.{ℕ}
 use Rattle.spec_orders.specs.Tree.{Forest}
-use Rattle.tree_tokens.specs.Tokens.{Wrote}
-use Rattle.tree_pieces.specs.Writers.{flat}
+use Rattle.tree_tokens.specs.Tokens.{Wrote, flat}
 use Rattle.spec_calls.specs.Tables.{Nodes, Book}
 use Rattle.spec_calls.specs.Refusals.{first-refusal}
 use Rattle.spec_calls.specs.Calls.{tree-checks, ring-checks}

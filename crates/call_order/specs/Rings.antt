@@ -4,6 +4,7 @@ use mathlib.Core.Bool.{cond, _||_}
 use mathlib.Core.List.{List}
 use Prim.Native.Nat.{ℕ}
 use lib.Dec.{eqb, ltb}
+use Rattle.tree_tokens.specs.Tokens.{flat}
 use Rattle.spec_orders.specs.Tree.{Forest}
 use Rattle.spec_orders.specs.Form.{standard}
 use Rattle.spec_calls.specs.declared.Refusal.the-variants.{NoSuchGroup}
@@ -12,7 +13,6 @@ use Rattle.spec_calls.specs.declared.Answer.the-variants.{Refused}
 use Rattle.spec_calls.specs.Tables.{Nodes, Book}
 use Rattle.spec_calls.specs.Calls.{group-numbered}
 use Rattle.spec_calls.specs.Demands.{LentTree, LentBook}
-use Rattle.tree_pieces.specs.Writers.{flat}
 use Rattle.call_order.specs.Starts.{aim-in}
 
 -- The tokens of the tree of some lent node table, and a book in form for it.

@@ -3,11 +3,11 @@
 ghost use mathlib.Core.Path.{_≡_};
 ghost use Prim.Native.Nat.{_+_, _≤_, _<_};
 ghost use lib.ListN.{length};
+ghost use Rattle.tree_tokens.specs.Tokens.{flat};
 ghost use Rattle.spec_orders.specs.Tree.{Forest};
 ghost use Rattle.spec_orders.specs.Conflict.{consecutive?};
 ghost use Rattle.spec_orders.specs.Aim.{start-after, aim-of};
 ghost use Rattle.mark_words.specs.Marks.{marked, leaves-of};
-ghost use Rattle.tree_pieces.specs.Writers.{flat};
 ghost use Rattle.spec_calls.specs.Tables.{lent-nodes, lent-book};
 ghost use Rattle.spec_calls.specs.Refusals.{report};
 ghost use Rattle.spec_calls.specs.Promises.{OrderPromise, AimPromise};

@@ -13,17 +13,16 @@ use Rattle.spec_calls.specs.Tables.{Nodes, leaves, over}
 use Rattle.spec_calls.specs.Refusals.{reply, reported, first-refusal, short}
 use Rattle.spec_calls.specs.Calls.{filled-as, tree-checks, write-refusal, write-call}
 use Rattle.spec_calls.proofs.Demands.{lent-held}
-use Rattle.tree_tokens.specs.Tokens.{tree, plain, encode, Wrote}
+use Rattle.tree_tokens.specs.Tokens.{tree, plain, Wrote, flat}
 use Rattle.tree_tokens.proofs.Sequences.{tree-plain}
 use Rattle.tree_tokens.proofs.Writes.{read-part}
-use Rattle.tree_pieces.specs.Writers.{flat}
 use Rattle.table_row.specs.Rows.{Formed}
 use Rattle.table_store.proofs.Forms.{formed-is}
 use Rattle.call_checks.specs.Lent.{TreeLent}
 use Rattle.call_text.specs.Fills.{Fills}
 
 -- The text of a tree in form fits.
-pub formed-text : {l : List ℕ} (f : Formed l) (t : Forest) → l ≡ encode (plain t) → length (tree-text (tree (plain t))) ≤ 2048
+pub formed-text : {l : List ℕ} (f : Formed l) (t : Forest) → l ≡ flat t → length (tree-text (tree (plain t))) ≤ 2048
 formed-text f t e = subst (λ (u : Forest). length (tree-text u) ≤ 2048) (sym (tree-plain t)) (text-length (f .size) t (formed-is f t e) (f .few))
 
 -- The text, and zeros up to 2,048 bytes.
@@ -41,7 +40,6 @@ module _ (nodes : Nodes) (bytes : List ℕ) where
 
   module _ {old toks : List ℕ} {k : ℕ} (h : TreeLent nodes (short 2048 bytes) old toks k) where
     pub lent-formed : Formed (take (k - 0) (drop 0 toks))
-    unfolding flat
     lent-formed =
         record { size = leaves nodes; shown = h .tree; is = read-part (h .wrote); in-form = h .lent .tree .in-form; few = h .lent .few-leaves }
 

@@ -10,8 +10,7 @@ use Rattle.spec_orders.specs.Lists.{those-of, numbers-from}
 use Rattle.spec_orders.specs.CircularOrder.{others, Restriction}
 use Rattle.spec_orders.specs.Tree.{items}
 use Rattle.spec_orders.specs.Join.{leaf-items}
-use Rattle.tree_tokens.specs.Tokens.{leaf-token, encode}
-use Rattle.tree_pieces.specs.Writers.{flat}
+use Rattle.tree_tokens.specs.Tokens.{leaf-token, encode, flat}
 use Rattle.tree_pieces.proofs.Laws.{flat-p}
 use Rattle.conflict_leaves.specs.StandIn.{start}
 
@@ -26,7 +25,7 @@ module _ (p : Restriction) where
   from-two (suc n) = let e : n ≡ suc n + 1 - 2 = omega arith in ap (λ (k : ℕ). flat (leaf-items (those-of p (numbers-from 2 k)))) e
 
   pub from-end : (b n : ℕ) → n < b → from p b n ≡ []
-  unfolding from flat encode
+  unfolding from encode
   from-end b n h = let e : n + 1 - b ≡ 0 = omega arith in rw e
 
   -- The next leaf passes; it does not.
@@ -37,7 +36,7 @@ module _ (p : Restriction) where
       ap (numbers-from b) e ∙ ap (λ (i : ℕ). b ∷ numbers-from i (n + 1 - (b + 1))) s
 
   first-token : (b : ℕ) (l : List ℕ) → flat (leaf-items (b ∷ l)) ≡ (16 * b) ∷ flat (leaf-items l)
-  unfolding flat encode leaf-token
+  unfolding encode leaf-token
   first-token b l = let e : 16 * b + 0 ≡ 16 * b = omega arith in rw e
 
   pub from-next : (b n : ℕ) → b ≤ n → p b ≡ true → from p b n ≡ (16 * b) ∷ from p (b + 1) n
@@ -50,7 +49,7 @@ module _ (p : Restriction) where
 
 -- Fewer than two leaves are no node; two or more are one P-node.
 leaves-length : (l : List ℕ) → length (items (leaf-items l)) ≡ length (flat (leaf-items l))
-unfolding flat encode
+unfolding encode
 leaves-length [] = refl
 leaves-length (b ∷ l) = ap suc (leaves-length l)
 

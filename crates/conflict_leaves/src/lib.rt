@@ -7,8 +7,7 @@ ghost use Rattle.spec_orders.specs.CircularOrder.{others};
 ghost use Rattle.spec_orders.specs.Join.{leaf-items};
 ghost use Rattle.mark_words.specs.Marks.{marked, words-of};
 ghost use Rattle.spec_calls.specs.Calls.{group-numbered};
-ghost use Rattle.tree_tokens.specs.Tokens.{Wrote};
-ghost use Rattle.tree_pieces.specs.Writers.{flat};
+ghost use Rattle.tree_tokens.specs.Tokens.{Wrote, flat};
 ghost use Rattle.conflict_leaves.specs.StandIn.{either, Below, FirstUnmarked, Chosen, start};
 
 // Marks in words, beside its own leaves, those of more, which has as many words.

@@ -8,9 +8,8 @@ use lib.ListN.{length, take, drop, length-append}
 use Rattle.spec_orders.specs.CircularOrder.{Restriction}
 use Rattle.spec_orders.specs.Tree.{Forest}
 use Rattle.spec_orders.specs.Join.{join}
-use Rattle.tree_tokens.specs.Tokens.{Wrote}
+use Rattle.tree_tokens.specs.Tokens.{Wrote, flat}
 use Rattle.tree_tokens.proofs.Writes.{read-part}
-use Rattle.tree_pieces.specs.Writers.{flat}
 use Rattle.tree_update.specs.declared.Updated.{Updated}
 use Rattle.tree_update.specs.declared.Updated.the-variants.{Impossible, Tokens}
 use Rattle.tree_update.specs.Update.{TokensWithin, Answers, impossible, written}

@@ -7,6 +7,7 @@ use Prim.Native.Nat.{ℕ, _+_, _-_, _≤_, _<_}
 use native.Mathlib.Omega.{arith}
 use lib.ListN.{length, take, drop, getD, take-append-drop}
 use lib.Seq.{drop-length, drop-drop}
+use Rattle.tree_tokens.specs.Tokens.{flat}
 use Rattle.spec_orders.specs.CircularOrder.{Restriction, Consecutive, AllConsecutive, Possible}
 use Rattle.spec_orders.specs.Tree.{Forest, Allowed}
 use Rattle.spec_orders.specs.Form.{standard}
@@ -16,7 +17,6 @@ use Rattle.spec_orders.proofs.StandardOrders.{standard-allowed}
 use Rattle.spec_orders.proofs.Joining.{Allows, orders-left}
 use Rattle.spec_orders.specs.Conflict.{possible?, leave-out, conflict-list}
 use Rattle.spec_orders.proofs.Conflicts.{list-empty, list-kept, ring-tests}
-use Rattle.tree_pieces.specs.Writers.{flat}
 use Rattle.tree_update.specs.Update.{TokensWithin}
 use Rattle.tree_update.proofs.Updates.{join-form}
 use Rattle.conflict_leaves.specs.StandIn.{OrderOf}

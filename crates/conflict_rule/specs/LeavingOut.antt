@@ -5,11 +5,11 @@ use mathlib.Core.Bool.{Bool}
 use mathlib.Core.List.{List, _++_, map}
 use Prim.Native.Nat.{ℕ, _-_, _<_, _≤_}
 use lib.ListN.{drop}
+use Rattle.tree_tokens.specs.Tokens.{flat}
 use Rattle.spec_orders.specs.Lists.{All}
 use Rattle.spec_orders.specs.CircularOrder.{Restriction, AllConsecutive, Possible}
 use Rattle.spec_orders.specs.Tree.{Forest, Allowed}
 use Rattle.spec_orders.specs.Conflict.{leave-out}
-use Rattle.tree_pieces.specs.Writers.{flat}
 use Rattle.tree_update.specs.Update.{FormWithin}
 use Rattle.conflict_leaves.specs.StandIn.{OrderOf, StandIn}
 

@@ -7,8 +7,7 @@ ghost use Rattle.spec_orders.specs.CircularOrder.{Restriction};
 ghost use Rattle.spec_orders.specs.Tree.{Forest};
 ghost use Rattle.spec_orders.specs.Conflict.{possible?, leave-out, conflict-list};
 ghost use Rattle.spec_calls.specs.Calls.{group-numbered};
-ghost use Rattle.tree_tokens.specs.Tokens.{Wrote};
-ghost use Rattle.tree_pieces.specs.Writers.{flat};
+ghost use Rattle.tree_tokens.specs.Tokens.{Wrote, flat};
 ghost use Rattle.conflict_rule.specs.LeavingOut.{InBook, Represents, TokensRepresent, Walked, Stops, goes-on};
 use tree_update::Updated;
 

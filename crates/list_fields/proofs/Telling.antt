@@ -13,10 +13,9 @@ use Rattle.spec_orders.specs.Circles.{bytes}
 use Rattle.spec_calls.specs.Tables.{lent-book}
 use Rattle.spec_calls.specs.Book.{groups}
 use Rattle.spec_calls.specs.Calls.{conflicts-of}
-use Rattle.list_ring.specs.Ledger.{Outcome, kept, refused, RingState, joined, outcome, next}
+use Rattle.spec_listing.specs.Listing.{Outcome, kept, refused, RingState, joined, outcome, next, name, commas, fields}
 use Rattle.list_ring.specs.Stands.{RingStands}
 use Rattle.list_ring.proofs.Outcomes.{outcome-empty, outcome-full, outcome-joined}
-use Rattle.list_fields.specs.Fields.{name, commas, fields}
 use Rattle.list_fields.proofs.Conflicting.{conflicts-listed}
 
 module _ (names : List (List ℕ)) (ord : List ℕ) (n : ℕ) (s : RingState) (list : List ℕ) where

@@ -11,9 +11,8 @@ ghost use Rattle.spec_calls.specs.Tables.{lent-book};
 ghost use Rattle.spec_calls.specs.Calls.{conflicts-of};
 ghost use Rattle.list_bytes.specs.Appends.{Appends};
 ghost use Rattle.file_read.specs.RingFile.{FileHolds};
-ghost use Rattle.list_ring.specs.Ledger.{RingState, outcome, next};
+ghost use Rattle.spec_listing.specs.Listing.{RingState, outcome, next, name, commas, fields};
 ghost use Rattle.list_ring.specs.Stands.{RingStands, Line};
-ghost use Rattle.list_fields.specs.Fields.{name, commas, fields};
 ghost use Rattle.list_fields.specs.Ordered.{Ordered};
 use list_bytes::put;
 

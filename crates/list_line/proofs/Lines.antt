@@ -9,9 +9,7 @@ use lib.Seq.{getD-append-add}
 use Rattle.spec_orders.specs.Form.{standard}
 use Rattle.spec_orders.specs.TreeText.{digits}
 use Rattle.spec_orders.specs.Circles.{bytes}
-use Rattle.list_ring.specs.Ledger.{RingState, opened, outcome, next, run, state-at}
-use Rattle.list_fields.specs.Fields.{fields}
-use Rattle.list_line.specs.Listing.{group-lines, listing}
+use Rattle.spec_listing.specs.Listing.{RingState, opened, outcome, next, run, state-at, fields, group-lines, listing}
 use Rattle.list_line.specs.Printing.{group-line, final, ending}
 
 -- The group lines.

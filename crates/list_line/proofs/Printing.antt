@@ -15,11 +15,9 @@ use Rattle.tree_update.specs.Update.{Published}
 use Rattle.list_bytes.specs.Appends.{Appends}
 use Rattle.list_bytes.proofs.Laws.{appends-then, appends-as}
 use Rattle.file_read.specs.RingFile.{leaves-on, FileHolds}
-use Rattle.list_ring.specs.Ledger.{outcome, state-at}
+use Rattle.spec_listing.specs.Listing.{outcome, state-at, spaced-names, fields, listing}
 use Rattle.list_ring.specs.Stands.{lists-of, StandsAt}
 use Rattle.list_ring.proofs.Files.{list-at, lists-length}
-use Rattle.list_fields.specs.Fields.{spaced-names, fields}
-use Rattle.list_line.specs.Listing.{listing}
 use Rattle.list_line.specs.Printing.{group-line, final, ending}
 use Rattle.list_line.proofs.Lines.{listing-length, head-line, middle-line, end-line}
 

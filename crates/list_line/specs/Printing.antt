@@ -3,15 +3,14 @@ use mathlib.Core.Path.{_≡_}
 use mathlib.Core.List.{List, [], _∷_, _++_}
 use Prim.Native.Nat.{ℕ, _+_, _-_, _≤_}
 use lib.ListN.{length, getD}
+use Rattle.tree_tokens.specs.Tokens.{flat}
 use Rattle.spec_orders.specs.Tree.{Forest}
 use Rattle.spec_orders.specs.Form.{standard}
 use Rattle.spec_orders.specs.TreeText.{digits, tree-text}
 use Rattle.spec_orders.specs.Circles.{bytes}
-use Rattle.tree_pieces.specs.Writers.{flat}
 use Rattle.file_read.specs.RingFile.{FileHolds}
-use Rattle.list_ring.specs.Ledger.{opened, outcome, run, state-at}
+use Rattle.spec_listing.specs.Listing.{opened, outcome, run, state-at, spaced-names, fields}
 use Rattle.list_ring.specs.Stands.{lists-of, StandsAt}
-use Rattle.list_fields.specs.Fields.{spaced-names, fields}
 
 -- The line of group line l, from 0, without its byte 10.
 unfoldable pub group-line : List (List ℕ) → List ℕ → List (List ℕ) → ℕ → List ℕ

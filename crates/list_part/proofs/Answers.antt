@@ -12,10 +12,9 @@ use Rattle.spec_orders.specs.Circles.{bytes}
 use Rattle.spec_orders.proofs.TextTree.{form-length}
 use Rattle.spec_calls.specs.declared.Refusal.{Refusal}
 use Rattle.spec_calls.specs.Refusals.{reported}
-use Rattle.tree_tokens.specs.Tokens.{tree, plain, Wrote}
+use Rattle.tree_tokens.specs.Tokens.{tree, plain, Wrote, flat}
 use Rattle.tree_tokens.proofs.Sequences.{tree-plain}
 use Rattle.tree_tokens.proofs.Writes.{read-part}
-use Rattle.tree_pieces.specs.Writers.{flat}
 use Rattle.tree_update.specs.Update.{Published}
 use Rattle.list_bytes.specs.Appends.{Appends}
 use Rattle.list_bytes.proofs.Laws.{appends-then}
@@ -25,16 +24,14 @@ use Rattle.file_read.specs.RingFile.{Value, leaves-on, Accepted, FileRefused, F
 use Rattle.file_read.proofs.Answers.{ring-holds, refused-at}
 use Rattle.spec_orders.proofs.FirstByte.{not-refused, refused-once}
 use Rattle.file_syntax.proofs.Exact.{parts-once}
-use Rattle.list_ring.specs.Ledger.{RingState, opened, run, state-at}
+use Rattle.spec_listing.specs.Listing.{RingState, opened, run, state-at, listing, error-line, Lists, accepted, too-long, malformed}
 use Rattle.list_ring.specs.Stands.{lists-of, StandsAt}
 use Rattle.list_ring.proofs.Runs.{state-all}
 use Rattle.list_ring.proofs.Files.{few-names, lists-length}
 use Rattle.list_fields.specs.Ordered.{Ordered}
 use Rattle.list_part.specs.declared.Piece.{Piece}
-use Rattle.list_line.specs.Listing.{listing, error-line}
 use Rattle.list_line.specs.Printing.{final, Final}
-use Rattle.list_part.specs.Parts.{Parts}
-use Rattle.list_part.specs.Lists.{Lists, accepted, too-long, malformed, Listed}
+use Rattle.list_part.specs.Parts.{Parts, Listed}
 use Rattle.list_part.proofs.Parts.{shown-none, shown-more, whole-part}
 
 -- The ring after all lines.

@@ -16,8 +16,8 @@ use Rattle.list_bytes.proofs.Laws.{appends-then}
 use Rattle.file_read.specs.RingFile.{line, value-lines, FileHolds}
 use Rattle.file_read.proofs.Values.{lines-long}
 use Rattle.list_part.specs.declared.Piece.{Piece}
-use Rattle.list_line.specs.Listing.{printed}
-use Rattle.list_part.specs.Parts.{printable, lines-from, Parts}
+use Rattle.spec_listing.specs.Listing.{printed, printable, lines-from}
+use Rattle.list_part.specs.Parts.{Parts}
 
 -- A file has fewer group lines than bytes.
 pub lines-few : {x : List ℕ} {n h k : ℕ} → FileHolds x n h k → k ≤ 65536

@@ -8,7 +8,7 @@ use Rattle.spec_orders.specs.Lists.{All}
 use Rattle.file_read.specs.RingFile.{Value, leaves-on, FileHolds}
 use Rattle.file_read.proofs.Values.{line-length}
 use Rattle.file_read.proofs.Groups.{leaves-different, leaves-within}
-use Rattle.list_ring.specs.Ledger.{RingState, opened, outcome, next, state-at}
+use Rattle.spec_listing.specs.Listing.{RingState, opened, outcome, next, state-at}
 use Rattle.list_ring.specs.Stands.{RingStands, Line, lists-of, StandsAt}
 use Rattle.list_ring.proofs.Runs.{state-none, state-more}
 

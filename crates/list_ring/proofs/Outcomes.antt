@@ -18,14 +18,13 @@ use Rattle.mark_words.specs.Marks.{marked, words-of}
 use Rattle.mark_words.proofs.Leaves.{marked-group}
 use Rattle.spec_calls.specs.Tables.{lent-book}
 use Rattle.spec_calls.specs.Book.{groups, booked}
-use Rattle.tree_tokens.specs.Tokens.{Wrote}
+use Rattle.tree_tokens.specs.Tokens.{Wrote, flat}
 use Rattle.tree_tokens.proofs.Writes.{read-part, wrote-most}
-use Rattle.tree_pieces.specs.Writers.{flat}
 use Rattle.tree_update.specs.declared.Updated.{Updated}
 use Rattle.tree_update.specs.declared.Updated.the-variants.{Impossible, Tokens}
 use Rattle.tree_update.specs.Update.{Answers as Joined, Published}
 use Rattle.conflict_rule.proofs.Joined.{answers-tree, no-tree}
-use Rattle.list_ring.specs.Ledger.{Outcome, kept, empty, full, RingState, opened, joined, outcome, next}
+use Rattle.spec_listing.specs.Listing.{Outcome, kept, empty, full, RingState, opened, joined, outcome, next}
 use Rattle.list_ring.specs.declared.Tried.{Tried}
 use Rattle.list_ring.specs.declared.Tried.the-variants.{Kept, Stays}
 use Rattle.list_ring.specs.Stands.{RingStands, Line, LineAnswers, is-kept, is-refused, is-empty, is-full}

@@ -6,7 +6,7 @@ use native.Mathlib.Omega.{arith}
 use native.Mathlib.Numerals.{add-one}
 use lib.ListN.{length, getD, take}
 use lib.Seq.{take-length}
-use Rattle.list_ring.specs.Ledger.{RingState, opened, outcome, next, run, state-at}
+use Rattle.spec_listing.specs.Listing.{RingState, opened, outcome, next, run, state-at}
 
 module _ (n : ℕ) where
   run-more : (s : RingState) (k : ℕ) (lists : List (List ℕ)) (l : ℕ) → l < length lists

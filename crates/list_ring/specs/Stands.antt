@@ -8,10 +8,9 @@ use Rattle.spec_orders.specs.Tree.{Forest}
 use Rattle.spec_orders.specs.Form.{InForm}
 use Rattle.spec_calls.specs.Tables.{lent-book}
 use Rattle.spec_calls.specs.Book.{groups}
-use Rattle.tree_tokens.specs.Tokens.{Wrote}
-use Rattle.tree_pieces.specs.Writers.{flat}
+use Rattle.tree_tokens.specs.Tokens.{Wrote, flat}
 use Rattle.file_read.specs.RingFile.{leaves-on, FileHolds}
-use Rattle.list_ring.specs.Ledger.{Outcome, kept, refused, empty, full, RingState, state-at}
+use Rattle.spec_listing.specs.Listing.{Outcome, kept, refused, empty, full, RingState, state-at}
 use Rattle.list_ring.specs.declared.Tried.{Tried}
 use Rattle.list_ring.specs.declared.Tried.the-variants.{Kept, Stays}
 

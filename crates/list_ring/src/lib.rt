@@ -3,10 +3,10 @@ ghost use mathlib.Core.Path.{_≡_};
 ghost use mathlib.Core.List.{List};
 ghost use Prim.Native.Nat.{ℕ, _+_, _≤_, _<_};
 ghost use lib.ListN.{length};
+ghost use Rattle.tree_tokens.specs.Tokens.{flat};
 ghost use Rattle.file_read.specs.RingFile.{FileHolds};
-ghost use Rattle.tree_pieces.specs.Writers.{flat};
 ghost use Rattle.tree_update.specs.Update.{Published};
-ghost use Rattle.list_ring.specs.Ledger.{RingState, opened, outcome, next};
+ghost use Rattle.spec_listing.specs.Listing.{RingState, opened, outcome, next};
 ghost use Rattle.list_ring.specs.Stands.{RingStands, Line, LineAnswers, StandsAt, Tables};
 use tree_update::Updated;
 

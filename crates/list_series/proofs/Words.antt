@@ -7,7 +7,7 @@ use lib.ListN.{length, getD}
 use Rattle.spec_orders.specs.Lists.{All}
 use Rattle.spec_orders.proofs.ListLaws.{all-at, tail, tail-is}
 use Rattle.file_read.specs.RingFile.{Name, FileHolds}
-use Rattle.list_series.specs.Series.{between}
+use Rattle.spec_listing.specs.Listing.{between}
 
 module _ (c : ℕ) (g : ℕ → List ℕ) where
   pub words-none : (l : List ℕ) → length l ≡ 0 → between c (map g l) ≡ []

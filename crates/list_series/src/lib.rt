@@ -4,7 +4,7 @@ ghost use lib.ListN.{length};
 ghost use Rattle.spec_orders.specs.Lists.{All};
 ghost use Rattle.list_bytes.specs.Appends.{Appends};
 ghost use Rattle.file_read.specs.RingFile.{FileHolds};
-ghost use Rattle.list_series.specs.Series.{spaced-names, commas};
+ghost use Rattle.spec_listing.specs.Listing.{spaced-names, commas};
 use list_bytes::put;
 use list_bytes::put_number;
 

@@ -6,7 +6,7 @@ use lib.ListN.{length}
 use Rattle.spec_orders.specs.Tree.{Forest, items}
 use Rattle.spec_orders.specs.Form.{Every, nodes, InForm}
 use Rattle.spec_calls.specs.Tables.{padded}
-use Rattle.tree_tokens.specs.Tokens.{Judged, tree, plain, encode}
+use Rattle.tree_tokens.specs.Tokens.{Judged, tree, encode, flat}
 
 -- The row of a node: the number of its kind, how many items it has, their places, and zeros.
 abbrev pub row : ℕ → List ℕ → List ℕ
@@ -31,6 +31,6 @@ pub record Rowed (toks : List ℕ) (r room : ℕ) : Type 0 where
 pub record Formed (toks : List ℕ) : Type 0 where
   pub size : ℕ
   pub shown : Forest
-  pub is : toks ≡ encode (plain shown)
+  pub is : toks ≡ flat shown
   pub in-form : InForm size shown
   pub few : size ≤ 256

@@ -9,14 +9,14 @@ use Rattle.spec_orders.specs.Lists.{same}
 use Rattle.spec_orders.specs.Tree.{Forest}
 use Rattle.spec_orders.specs.Form.{in-form?}
 use Rattle.spec_calls.specs.NodeTable.{table-of, Holds, spelled-tree, tree-in}
-use Rattle.tree_tokens.specs.Tokens.{plain, encode, Wrote}
+use Rattle.tree_tokens.specs.Tokens.{Wrote, flat}
 use Rattle.table_walk.specs.declared.Walked.{Walked}
 use Rattle.table_walk.specs.declared.Walked.the-variants.{Found, Bad}
 use Rattle.table_walk.specs.Walks.{Spells}
 
 -- What a walk answers.
 pub spells-found : (n : ℕ) (table old new : List ℕ) {r : Walked} {k : ℕ} → r ≡ Found k → Spells n table old new r
-    → Wrote (encode (plain (spelled-tree n table))) old new k
+    → Wrote (flat (spelled-tree n table)) old new k
 spells-found n table old new e s = subst (Spells n table old new) e s
 
 pub spells-bad : (n : ℕ) (table old new : List ℕ) {r : Walked} → r ≡ Bad → Spells n table old new r → (t : Forest) → Holds n table t → ⊥

@@ -7,7 +7,7 @@ ghost use Rattle.spec_orders.specs.Lists.{same, begins-with};
 ghost use Rattle.spec_orders.specs.Tree.{Forest};
 ghost use Rattle.spec_calls.specs.Tables.{over};
 ghost use Rattle.spec_calls.specs.NodeTable.{entries, rows, table-of};
-ghost use Rattle.tree_tokens.specs.Tokens.{Judged, tree, plain, encode, Wrote};
+ghost use Rattle.tree_tokens.specs.Tokens.{Judged, tree, encode, Wrote, flat};
 ghost use Rattle.table_row.specs.Rows.{row, Placed, Rowed, Formed};
 ghost use Rattle.table_walk.specs.Walks.{Loads};
 use table_walk::Walked;
@@ -41,7 +41,7 @@ fn write_rows(toks: &[u16], r: usize, out: &mut [u16]) -> usize
 // Writes the table of a tree in form: its rows, and zeros up to 65,792 numbers. What stands after them stays.
 pub fn store(toks: &[u16], table: &mut [u16])
     requires { ⌜ (Formed (now toks)) × (65792 ≤ length (now table)) ⌝ }
-    ensures { λ _. ⌜ ((t : Forest) → now (toks .entry) ≡ encode (plain t)
+    ensures { λ _. ⌜ ((t : Forest) → now (toks .entry) ≡ flat t
         → now (table .exit) ≡ over (table-of t) (now (table .entry))) ⌝ }
 {
     let k = write_rows(toks, 0, table);
@@ -102,7 +102,7 @@ fn rows_match(toks: &[u16], r: usize, table: &[u16]) -> bool
 // Whether the first 65,792 numbers are the table of a tree in form.
 pub fn matches(toks: &[u16], table: &[u16]) -> bool
     requires { ⌜ (Formed (now toks)) × (65792 ≤ length (now table)) ⌝ }
-    ensures { λ r. ⌜ ((t : Forest) → now (toks .entry) ≡ encode (plain t)
+    ensures { λ r. ⌜ ((t : Forest) → now (toks .entry) ≡ flat t
         → r ≡ same (take 65792 (now (table .entry))) (table-of t)) ⌝ }
 {
     if !rows_match(toks, 0, table) {

@@ -14,14 +14,14 @@ use Rattle.spec_orders.proofs.Forms.{form-more}
 use Rattle.spec_orders.proofs.TextTree.{form-length}
 use Rattle.spec_calls.specs.NodeTable.{rows, Holds, spelled, spelled-tree}
 use Rattle.spec_calls.proofs.NodeTables.{form-narrow, form-leaves, form-few, table-rows}
-use Rattle.tree_tokens.specs.Tokens.{plain, encode, Wrote}
+use Rattle.tree_tokens.specs.Tokens.{plain, encode, Wrote, flat}
 use Rattle.tree_tokens.proofs.Counts.{leaves-and-nodes}
 use Rattle.tree_tokens.proofs.Sequences.{tree-plain}
 use Rattle.tree_tokens.proofs.FreshTree.{fresh-none, fresh-few}
 use Rattle.table_walk.specs.Walks.{NodeStands}
 
 -- With at most two leaves there is no node.
-pub small-tree : (n : ℕ) (table : List ℕ) → n ≤ 2 → encode (plain (fresh n)) ≡ encode (plain (spelled-tree n table))
+pub small-tree : (n : ℕ) (table : List ℕ) → n ≤ 2 → flat (fresh n) ≡ flat (spelled-tree n table)
 unfolding spelled-tree encode
 small-tree zero table h = fresh-none
 small-tree (suc zero) table h = fresh-few 1 0 refl (omega arith)
@@ -33,7 +33,7 @@ unfolding spelled-tree
 large-tree n table h = rw (lt-leb n 2 h)
 
 -- A tree in form has at most 510 tokens.
-pub form-tokens : (n : ℕ) (t : Forest) → InForm n t → n ≤ 256 → length (encode (plain t)) ≤ 510
+pub form-tokens : (n : ℕ) (t : Forest) → InForm n t → n ≤ 256 → length (flat t) ≤ 510
 form-tokens n t h l =
     omega (
       arith,

@@ -11,7 +11,7 @@ use Rattle.spec_orders.specs.Form.{nodes}
 use Rattle.spec_orders.proofs.ListLaws.{all-left, all-right, part-is}
 use Rattle.spec_calls.specs.NodeTable.{entries, rows, spelled}
 use Rattle.spec_calls.proofs.NodeTables.{row, first-row, rows-after, entries-length, row-length, at-count, at-places, at-next, spelled-node, spelled-entries}
-use Rattle.tree_tokens.specs.Tokens.{plain, encode}
+use Rattle.tree_tokens.specs.Tokens.{encode, flat}
 use Rattle.table_walk.specs.Walks.{RowsStand, NodeStands, PlacesStand}
 
 -- A leaf first.
@@ -31,14 +31,14 @@ leaf-rest s = (
 )
 
 -- A node first: its size, and that of what follows.
-node-size : (k : Kind) (i f : Forest) → length (encode (plain (node k i f))) ≡ length (encode (plain (node k i nil))) + length (encode (plain f))
+node-size : (k : Kind) (i f : Forest) → length (flat (node k i f)) ≡ length (flat (node k i nil)) + length (flat f)
 unfolding encode
 node-size k i f =
-    omega (arith, length-append (encode (plain i)) (encode (plain f)), length-append (encode (plain i)) [])
+    omega (arith, length-append (flat i) (flat f), length-append (flat i) [])
 
-node-inner : (k : Kind) (i : Forest) → length (encode (plain (node k i nil))) ≡ suc (length (encode (plain i)))
+node-inner : (k : Kind) (i : Forest) → length (flat (node k i nil)) ≡ suc (length (flat i))
 unfolding encode
-node-inner k i = ap suc (length-append (encode (plain i)) [] ∙ omega arith)
+node-inner k i = ap suc (length-append (flat i) [] ∙ omega arith)
 
 node-first : {table : List ℕ} {r d room : ℕ} {k : Kind} {i f : Forest} → RowsStand table r (node k i f) d room → NodeStands table r d room
 node-first {table} {r} {k = k} {i} {f} s = record {
@@ -62,7 +62,7 @@ next-row table r k i f more w at =
     at-next table r k (entries (suc r) i) (rows (suc r) i ++ (rows (suc r + nodes i) f ++ more)) (first-row table r k i f more at) (row-length k (suc r) i w)
 
 node-rest : {table : List ℕ} {r d room : ℕ} {k : Kind} {i f : Forest} → RowsStand table r (node k i f) d room
-    → RowsStand table (suc r + nodes i) f d (room - length (encode (plain (node k i nil))))
+    → RowsStand table (suc r + nodes i) f d (room - length (flat (node k i nil)))
 node-rest {table} {r} {k = k} {i} {f} s = record {
   more = s .more;
   at = rows-after table (suc r) i (rows (suc r + nodes i) f ++ s .more) (s .narrow .0 .1) (next-row table r k i f (s .more) (s .narrow .0 .0) (s .at));
@@ -157,7 +157,7 @@ node-here table v vs d room q (node k i f) e s h =
     subst (λ (x : ℕ). NodeStands table x d room) n (node-first s)
 
 node-after : (table : List ℕ) (v : ℕ) (vs : List ℕ) (d room q : ℕ) (f : Forest) → v ∷ vs ≡ entries q f → RowsStand table q f d room → 256 < v
-    → PlacesStand table vs d (room - length (encode (plain (spelled d table (v - 256)))))
+    → PlacesStand table vs d (room - length (flat (spelled d table (v - 256))))
 unfolding node-first
 node-after table v vs d room q nil e s h = absurd (omega (arith, ap length e))
 node-after table v vs d room q (leaf b f) e s h = absurd (omega (arith, head-eq-of-cons-eq e, s .leaves .0))
@@ -169,7 +169,7 @@ node-after table v vs d room q (node k i f) e s h =
 pub node-head : (table l : List ℕ) (i d room : ℕ) → i < length l → 256 < getD l i 0 → PlacesStand table (drop i l) d room → NodeStands table (getD l i 0 - 256) d room
 node-head table l i d room n h p = node-here table (getD l i 0) (drop (suc i) l) d room (p .first) (p .seq) (sym (drop-cons l i 0 n) ∙ p .are) (p .stands) h
 
-pub node-tail : (table l : List ℕ) (i d room : ℕ) {m : ℕ} → i < length l → 256 < getD l i 0 → m ≡ length (encode (plain (spelled d table (getD l i 0 - 256))))
+pub node-tail : (table l : List ℕ) (i d room : ℕ) {m : ℕ} → i < length l → 256 < getD l i 0 → m ≡ length (flat (spelled d table (getD l i 0 - 256)))
     → PlacesStand table (drop i l) d room → PlacesStand table (drop (i + 1) l) d (room - m)
 node-tail table l i d room n h e p =
     rw (add-one, e) (node-after table (getD l i 0) (drop (suc i) l) d room (p .first) (p .seq) (sym (drop-cons l i 0 n) ∙ p .are) (p .stands) h)

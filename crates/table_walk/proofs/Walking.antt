@@ -11,7 +11,7 @@ use lib.Seq.{drop-cons}
 use Rattle.spec_orders.specs.Tree.{Kind, Forest, nil, leaf, node, append}
 use Rattle.spec_orders.proofs.ListLaws.{part-to-end}
 use Rattle.spec_calls.specs.NodeTable.{kind-of, spelled-items, spelled}
-use Rattle.tree_tokens.specs.Tokens.{E, plain, leaf-token, node-token, encode}
+use Rattle.tree_tokens.specs.Tokens.{E, plain, leaf-token, node-token, encode, flat}
 use Rattle.tree_tokens.proofs.Laws.{encode-node}
 use Rattle.tree_tokens.proofs.Sequences.{encode-append, plain-append}
 use Rattle.table_walk.specs.Walks.{NodeStands, PlacesStand, Walks}
@@ -54,7 +54,7 @@ walks-node Inside {i = i} {part} {m} {h} k old ne w e f =
       most = omega (arith, w .most);
       wrote = λ l.
           let u = w .wrote (omega arith) in
-          let tok : h ≡ node-token E k (length (encode (plain i))) = e ∙ ap (node-token E k) (u .many) in
+          let tok : h ≡ node-token E k (length (flat i)) = e ∙ ap (node-token E k) (u .many) in
           rw (encode-node E k (plain i), ← tok) (wrote-head h old ne u);
       not-there = λ l t. w .not-there (omega arith) (subst Inside n (f t));
     }
@@ -62,7 +62,7 @@ walks-node Inside {i = i} {part} {m} {h} k old ne w e f =
 -- ---- the places, one after the other
 
 abbrev pub texts : List ℕ → ℕ → List ℕ → List ℕ
-texts table d places = encode (plain (spelled-items (spelled d table) places))
+texts table d places = flat (spelled-items (spelled d table) places)
 
 -- The tokens of the items before place i were written, k of them; if the places are those of a sequence that stands in the table, so are those left.
 pub record Walking (table : List ℕ) (d : ℕ) (places old new : List ℕ) (k i : ℕ) : Type 0 where
@@ -115,7 +115,7 @@ module _ {table places old new : List ℕ} {d k i : ℕ} (g : Walking table d pl
         let u = w .wrote (omega (arith, room)) in
         let z : length old - (k + m) ≡ length old - k - m = omega arith in
         record {
-          written = written-then (texts table d (drop (i + 1) places)) (ap (λ (x : Forest). encode (plain x)) (spelled-branch (spelled d table) places i n h) ∙ ap encode (plain-append f _) ∙ encode-append (plain f) _) u (g .written);
+          written = written-then (texts table d (drop (i + 1) places)) (ap (λ (x : Forest). flat x) (spelled-branch (spelled d table) places i n h) ∙ ap encode (plain-append f _) ∙ encode-append (plain f) _) u (g .written);
           stands = λ p. rw z (node-tail table places i d (length old - k) n h (u .many) (g .stands p));
         }
 

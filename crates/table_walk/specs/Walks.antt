@@ -8,7 +8,7 @@ use Rattle.spec_orders.specs.Lists.{All}
 use Rattle.spec_orders.specs.Tree.{Kind, Forest, nil, node, items, frontier}
 use Rattle.spec_orders.specs.Form.{Every, nodes}
 use Rattle.spec_calls.specs.NodeTable.{entries, rows, Holds, spelled-tree, tree-in}
-use Rattle.tree_tokens.specs.Tokens.{plain, encode, Wrote}
+use Rattle.tree_tokens.specs.Tokens.{Wrote, flat}
 use Rattle.table_walk.specs.declared.Walked.{Walked}
 use Rattle.table_walk.specs.declared.Walked.the-variants.{Found, Bad}
 
@@ -20,7 +20,7 @@ pub record RowsStand (table : List ℕ) (r : ℕ) (f : Forest) (d room : ℕ) : 
   pub narrow : Every (λ k i. length (items i) ≤ 255) f
   pub deep : nodes f ≤ d
   pub last : r + nodes f ≤ 256
-  pub fits : length (encode (plain f)) ≤ room
+  pub fits : length (flat f) ≤ room
 
 -- A node stands in record r.
 pub record NodeStands (table : List ℕ) (r d room : ℕ) : Type 0 where
@@ -39,14 +39,14 @@ pub record PlacesStand (table places : List ℕ) (d room : ℕ) : Type 0 where
 -- The tokens of f were written to the start of old, and k says how many; or k is more than old has places, and then `There` is not so.
 pub record Walks (f : Forest) (There : Type 0) (old new : List ℕ) (k : ℕ) : Type 0 where
   pub most : k ≤ suc (length old)
-  pub wrote : k ≤ length old → Wrote (encode (plain f)) old new k
+  pub wrote : k ≤ length old → Wrote (flat f) old new k
   pub not-there : length old < k → There → ⊥
 
 -- What `walk` and `load` answer.
 abbrev pub Spells : ℕ → List ℕ → List ℕ → List ℕ → Walked → Type 0
-Spells n table old new (Found k) = Wrote (encode (plain (spelled-tree n table))) old new k
+Spells n table old new (Found k) = Wrote (flat (spelled-tree n table)) old new k
 Spells n table old new Bad = (t : Forest) → Holds n table t → ⊥
 
 abbrev pub Loads : ℕ → List ℕ → List ℕ → List ℕ → Walked → Type 0
-Loads n table old new (Found k) = (t : Forest) × (tree-in n table ≡ some t) × Wrote (encode (plain t)) old new k
+Loads n table old new (Found k) = (t : Forest) × (tree-in n table ≡ some t) × Wrote (flat t) old new k
 Loads n table old new Bad = tree-in n table ≡ none

@@ -9,7 +9,7 @@ use lib.Seq.{getD-set-other}
 use Rattle.spec_orders.specs.Tree.{Forest, nil, leaf}
 use Rattle.spec_orders.specs.TreeText.{digits}
 use Rattle.spec_orders.proofs.Digits.{digits-one}
-use Rattle.tree_tokens.specs.Tokens.{plain, leaf-token, encode, Wrote}
+use Rattle.tree_tokens.specs.Tokens.{leaf-token, encode, Wrote, flat}
 use Rattle.tree_tokens.proofs.Writes.{wrote-one}
 use Rattle.text_scanner.specs.Scan.{TextState, due, num, need, letter?, run-at, refused}
 use Rattle.text_scanner.specs.Unused.{unused, any-start}
@@ -25,7 +25,7 @@ pub refused-at : {x : List ℕ} {at : ℕ} {spell : Forest → List ℕ} {start 
     → Passed x at spell start end want many kept spared used old new (record { ok = false; at = p; left = 0; count = 0 })
 refused-at p h = record { stops = λ e. h; goes = λ e. absurd (true≢false (sym e)) }
 
-leaf-wrote : (b : ℕ) (old : List ℕ) → 0 < length old → Wrote (encode (plain (leaf b nil))) old (set old 0 (16 * b)) 1
+leaf-wrote : (b : ℕ) (old : List ℕ) → 0 < length old → Wrote (flat (leaf b nil)) old (set old 0 (16 * b)) 1
 unfolding encode leaf-token
 leaf-wrote b old h = let e : 16 * b + 0 ≡ 16 * b = omega arith in rw e (wrote-one (16 * b) old h)
 

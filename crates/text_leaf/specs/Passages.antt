@@ -7,7 +7,7 @@ use lib.Dec.{eqb}
 use lib.ListN.{length, drop, getD}
 use Rattle.spec_orders.specs.Tree.{Kind, P, C, Forest, items}
 use Rattle.spec_orders.specs.TreeText.{text}
-use Rattle.tree_tokens.specs.Tokens.{plain, encode, Wrote}
+use Rattle.tree_tokens.specs.Tokens.{Wrote, flat}
 use Rattle.text_scanner.specs.Scan.{TextState, open-due, due, after, need, run-at, refused}
 use Rattle.text_scanner.specs.Unused.{unused}
 use Rattle.text_leaf.specs.declared.Reached.{Reached}
@@ -24,7 +24,7 @@ pub record Passage (x : List ℕ) (at : ℕ) (spell : Forest → List ℕ) (star
     (used old new : List ℕ) (r : Reached) : Type 0 where
   pub forest : Forest
   pub some-item : 1 ≤ length (items forest)
-  pub wrote : Wrote (encode (plain forest)) old new (r .count)
+  pub wrote : Wrote (flat forest) old new (r .count)
   pub bytes : drop at x ≡ spell forest ++ drop (r .at) x
   pub moves : (cs : List ℕ) → need cs ≡ want → run-at x at (start cs) ≡ run-at x (r .at) (end cs (unused 0 used))
   pub marks : Marks (r .left) used

@@ -12,7 +12,7 @@ use lib.Dec.{eqb}
 use lib.ListN.{length, take, drop, getD, set}
 use Rattle.spec_orders.specs.Tree.{Kind, P, C, Forest, nil, leaf, node, items, append}
 use Rattle.spec_orders.specs.TreeText.{digits, letter, text, more}
-use Rattle.tree_tokens.specs.Tokens.{E, plain, node-token, encode, Wrote}
+use Rattle.tree_tokens.specs.Tokens.{E, plain, node-token, Wrote, flat}
 use Rattle.tree_tokens.proofs.Laws.{encode-node}
 use Rattle.tree_tokens.proofs.Sequences.{encode-append, plain-append}
 use Rattle.tree_tokens.proofs.Writes.{wrote-then, wrote-head}
@@ -60,13 +60,13 @@ letter-kind b e = go (eqb b 80) refl (eqb b 67) refl e
 
 -- A node's tokens, from those of its items.
 pub node-wrote : {old part : List ℕ} {k t : ℕ} (j : Kind) (f : Forest) → 0 < length old → t ≡ node-token E j k
-    → Wrote (encode (plain f)) (take (length old - 1) (drop 1 old)) part k
-    → Wrote (encode (plain (node j f nil))) old (set (putMid 1 (length old - 1) old part) 0 t) (1 + k)
+    → Wrote (flat f) (take (length old - 1) (drop 1 old)) part k
+    → Wrote (flat (node j f nil)) old (set (putMid 1 (length old - 1) old part) 0 t) (1 + k)
 node-wrote {old} {part} {k} {t} j f h e w =
-    let m = length (encode (plain f)) in
+    let m = length (flat f) in
     let token = node-token E j m in
     rw (encode-node E j (plain f), e, w .many)
-    (subst (λ n. Wrote (token ∷ encode (plain f)) old (set (putMid 1 (length old - 1) old part) 0 token) (1 + n)) (w .many) (wrote-head token old h w))
+    (subst (λ n. Wrote (token ∷ flat f) old (set (putMid 1 (length old - 1) old part) 0 token) (1 + n)) (w .many) (wrote-head token old h w))
 
 module _ (x : List ℕ) (at c want many : ℕ) (used : List ℕ) (m : Marks many used) where
   pub item-ends : {used' old new : List ℕ} → length x ≤ at → ItemRead x at c want many used used' old new (record { ok = false; at = at; left = 0; count = 0 })

@@ -6,7 +6,7 @@ use Prim.Native.Nat.{ℕ, _≤_, _<_}
 use lib.ListN.{length, getD}
 use Rattle.spec_orders.specs.Tree.{Forest}
 use Rattle.spec_orders.specs.TreeText.{tree-text, Shaped, ShapeRefused}
-use Rattle.tree_tokens.specs.Tokens.{plain, encode, Wrote}
+use Rattle.tree_tokens.specs.Tokens.{Wrote, flat}
 use Rattle.text_scanner.specs.Scan.{lit, pre, letter?, run-at, accepted, refused}
 use Rattle.text_leaf.specs.declared.Reached.{Reached}
 
@@ -30,7 +30,7 @@ pub record Opening (x : List ℕ) (r : ℕ) : Type 0 where
 pub record Whole (x l old new : List ℕ) (r : Reached) : Type 0 where
   pub spelled : Forest
   pub bytes : x ≡ tree-text spelled
-  pub wrote : Wrote (encode (plain spelled)) old new (r .count)
+  pub wrote : Wrote (flat spelled) old new (r .count)
   pub all-used : run-at x 0 (pre (49 ∷ 32 ∷ []) l) ≡ accepted
   pub few : r .count ≤ 512
 
@@ -43,7 +43,7 @@ pub record Spelled (n : ℕ) (x old new : List ℕ) (k : ℕ) : Type 0 where
   pub shown : Forest
   pub shaped : Shaped n shown
   pub bytes : x ≡ tree-text shown
-  pub wrote : Wrote (encode (plain shown)) old new k
+  pub wrote : Wrote (flat shown) old new k
   pub few : k ≤ 512
 
 pub record ShapeRead (n : ℕ) (x old new : List ℕ) (r : Reached) : Type 0 where

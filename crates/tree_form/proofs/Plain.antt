@@ -11,7 +11,7 @@ use lib.Dec.{eqb}
 use lib.ListN.{length, take, drop, getD, length-take, length-drop, take-append-drop, drop-of-length-le}
 use lib.Seq.{drop-cons, drop-drop}
 use Rattle.spec_orders.specs.Tree.{Kind, P, C, Forest, nil, leaf, node}
-use Rattle.tree_tokens.specs.Tokens.{E, number, Judged, tree, plain, leaf-token, node-token, encode}
+use Rattle.tree_tokens.specs.Tokens.{E, number, Judged, tree, plain, leaf-token, node-token, encode, flat}
 use Rattle.tree_tokens.specs.Views.{state-of, items-of, rest-of}
 use Rattle.spec_orders.specs.Form.{in-form?}
 use Rattle.spec_orders.proofs.FormTests.{form-decides}
@@ -79,7 +79,7 @@ leaf-on l ne g p = subst Plain (sym (part-rest (plain (p .0)) (p .1) (size-leaf 
 node-cons : (t : ℕ) (l : List ℕ) → t % 8 ≡ 0 → (t / 8 % 2 ≡ 0 → ⊥) → t / 32 ≤ length l → Plain (take (t / 32) l) → Plain (drop (t / 32) l) → Plain (t ∷ l)
 unfolding encode
 node-cons t l h g b p q =
-    let n : t / 32 ≡ length (encode (plain (p .0))) = omega (arith, ap length (p .1), length-take (t / 32) l) in
+    let n : t / 32 ≡ length (flat (p .0)) = omega (arith, ap length (p .1), length-take (t / 32) l) in
     let k = node-by t h g in (
       node (k .0) (p .0) (q .0),
       ap₂ _∷_ (k .1 ∙ ap (node-token E (k .0)) n) (sym (take-append-drop (t / 32) l) ∙ ap₂ _++_ (p .1) (q .1)),

@@ -4,10 +4,10 @@ use mathlib.Core.List.{List}
 use Prim.Native.Nat.{ℕ}
 use Rattle.spec_orders.specs.Tree.{Forest}
 use Rattle.spec_orders.specs.Form.{InForm}
-use Rattle.tree_tokens.specs.Tokens.{plain, encode}
+use Rattle.tree_tokens.specs.Tokens.{flat}
 
 abbrev pub Plain : List ℕ → Type 0
-Plain l = (f : Forest) × (l ≡ encode (plain f))
+Plain l = (f : Forest) × (l ≡ flat f)
 
 abbrev pub TreeFor : ℕ → List ℕ → Type 0
-TreeFor n l = (t : Forest) × InForm n t × (l ≡ encode (plain t))
+TreeFor n l = (t : Forest) × InForm n t × (l ≡ flat t)

@@ -11,7 +11,7 @@ use Rattle.spec_orders.specs.Tree.{Kind, Forest, nil, leaf, node, items, fronti
 use Rattle.spec_orders.specs.Form.{TwoItems}
 use Rattle.spec_orders.specs.Reduce.{complement, class, class-by}
 use Rattle.spec_orders.proofs.Laws.{Forked}
-use Rattle.tree_tokens.specs.Tokens.{State, E, F, tree, plain, encode}
+use Rattle.tree_tokens.specs.Tokens.{State, E, F, tree, encode, flat}
 use Rattle.tree_judge.specs.Judge.{all-empty, all-full, linear?, reduced?, partial-state, leaf-state, node-state, states, judge}
 use Rattle.tree_judge.proofs.Words.{each}
 
@@ -22,12 +22,12 @@ module _ (S : Restriction) where
   tree-judge (leaf b f) = ap (leaf b) (tree-judge f)
   tree-judge (node k i f) = ap (λ g. node k g (tree (judge S f))) (tree-judge i) ∙ ap (node k i) (tree-judge f)
 
-  pub judge-length : (f : Forest) → length (encode (judge S f)) ≡ length (encode (plain f))
+  pub judge-length : (f : Forest) → length (encode (judge S f)) ≡ length (flat f)
   unfolding judge encode
   judge-length nil = refl
   judge-length (leaf b f) = omega (arith, judge-length f)
   judge-length (node k i f) =
-      omega (arith, length-append (encode (judge S i)) (encode (judge S f)), length-append (encode (plain i)) (encode (plain f)), judge-length i, judge-length f)
+      omega (arith, length-append (encode (judge S i)) (encode (judge S f)), length-append (flat i) (flat f), judge-length i, judge-length f)
 
 -- A node is E (F) iff its items all are.
 empty-by : (a f l r : Bool) (ss : List State) → all-empty (cond a E (cond f F (partial-state l r)) ∷ ss) ≡ a && all-empty ss

@@ -9,12 +9,12 @@ use lib.ListN.{length, length-append}
 use Rattle.spec_orders.specs.Tree.{Kind, P, C, Forest, nil, node, append}
 use Rattle.spec_orders.specs.Reduce.{pack}
 use Rattle.spec_orders.proofs.Laws.{forest-assoc, forest-nil}
-use Rattle.tree_tokens.specs.Tokens.{State, E, F, L, R, X, number, Judged, j-nil, j-leaf, j-node, tree, plain, encode}
+use Rattle.tree_tokens.specs.Tokens.{State, E, F, L, R, X, number, Judged, j-nil, j-leaf, j-node, tree, encode, flat}
 use Rattle.tree_tokens.specs.Views.{shape-of, state-of, first-of, items-of, rest-of}
 use Rattle.tree_spans.specs.Spans.{is-not, passing, beyond}
 use Rattle.tree_judge.specs.Judge.{rises}
 use Rattle.tree_judge.specs.Total.{Total, states-of, whole-of, partial-of, linear-of, mirrored-of, total-by, totals}
-use Rattle.tree_pieces.specs.Writers.{flat, with-state, from-partial, in-line, first-in-line, all-in-line, near, far, p-in-line, c-in-line}
+use Rattle.tree_pieces.specs.Writers.{with-state, from-partial, in-line, first-in-line, all-in-line, near, far, p-in-line, c-in-line}
 use Rattle.tree_pieces.proofs.Laws.{AtFirst, at-first, totals-none, flat-append}
 use Rattle.tree_pieces.proofs.Walks.{passing-text}
 use Rattle.tree_pieces.proofs.States.{not-state}
@@ -43,16 +43,16 @@ node-kept true L k i ts h = absurd (h refl)
 node-kept true R k i ts h = refl
 node-kept true X k i ts h = refl
 
-pub line-leaf : (back : Bool) (j : Judged) → shape-of j ≡ 1 → flat (first-in-line back (totals j)) ≡ encode (plain (tree (first-of j)))
-unfolding totals shape-of first-of flat
+pub line-leaf : (back : Bool) (j : Judged) → shape-of j ≡ 1 → flat (first-in-line back (totals j)) ≡ flat (tree (first-of j))
+unfolding totals shape-of first-of
 line-leaf back j-nil h = absurd (omega arith)
 line-leaf false (j-leaf s b j) h = refl
 line-leaf true (j-leaf s b j) h = refl
 line-leaf back (j-node s P i j) h = absurd (omega arith)
 line-leaf back (j-node s C i j) h = absurd (omega arith)
 
-pub line-kept : (back : Bool) (j : Judged) → (number (state-of j) ≡ 2 → ⊥) → flat (first-in-line back (totals j)) ≡ encode (plain (tree (first-of j)))
-unfolding totals state-of first-of flat
+pub line-kept : (back : Bool) (j : Judged) → (number (state-of j) ≡ 2 → ⊥) → flat (first-in-line back (totals j)) ≡ flat (tree (first-of j))
+unfolding totals state-of first-of
 line-kept back j-nil h = refl
 line-kept false (j-leaf s b j) h = refl
 line-kept true (j-leaf s b j) h = refl
@@ -121,7 +121,7 @@ lines-length back {j} a =
 
 -- Items in other states than L stand as they are.
 pub lines-until : (back : Bool) (j : Judged)
-    → flat (all-in-line back (totals j)) ≡ encode (plain (tree (passing (is-not 2) j))) ++ flat (all-in-line back (totals (beyond (is-not 2) j)))
+    → flat (all-in-line back (totals j)) ≡ flat (tree (passing (is-not 2) j)) ++ flat (all-in-line back (totals (beyond (is-not 2) j)))
 lines-until back = passing-text (is-not 2) (λ j. flat (all-in-line back (totals j)))
     (λ k h t. lines-split back (at-first k h) ∙ ap (λ (l : List ℕ). l ++ flat (all-in-line back (totals (rest-of k)))) (line-kept back k (not-state t)))
 

@@ -15,52 +15,47 @@ use Rattle.spec_orders.proofs.Laws.{items-append}
 use Rattle.spec_orders.proofs.Parts.{put-one, items-put}
 use Rattle.spec_orders.proofs.PutSorted.{put-sorted-perm}
 use Rattle.spec_orders.proofs.Tests.{cond-cases}
-use Rattle.tree_tokens.specs.Tokens.{State, E, F, L, R, X, number, Judged, j-nil, j-leaf, j-node, tree, plain, j-rev, node-token, encode}
+use Rattle.tree_tokens.specs.Tokens.{State, E, F, L, R, X, number, Judged, j-nil, j-leaf, j-node, tree, plain, j-rev, node-token, encode, flat}
 use Rattle.tree_tokens.specs.Views.{shape-of, state-of, first-of, rest-of}
 use Rattle.tree_tokens.proofs.Laws.{at-end}
 use Rattle.tree_tokens.proofs.Sequences.{encode-append, plain-append, plain-rev, tree-plain, rev-length, plain-length, bare-is, encode-injective}
 use Rattle.tree_judge.specs.Judge.{all-empty, all-full, rises}
 use Rattle.tree_judge.specs.Total.{Total, states-of, whole-of, c-node-of, unchanged, total-by, totals}
-use Rattle.tree_pieces.specs.Writers.{flat, with-state, all-with-state, from-partial}
+use Rattle.tree_pieces.specs.Writers.{with-state, all-with-state, from-partial}
 
 -- The tokens of no tree, of one sequence after another, of one node; the tokens say what the tree is.
 pub flat-nil : flat nil ≡ []
-unfolding flat encode
+unfolding encode
 flat-nil = refl
 
 pub flat-append : (f g : Forest) → flat (append f g) ≡ flat f ++ flat g
-unfolding flat
 flat-append f g = rw (plain-append f g) (encode-append (plain f) (plain g))
 
 pub flat-put : (t : Item) (f : Forest) → flat (put t f) ≡ flat (one t) ++ flat f
 flat-put t f = ap flat (sym (put-one t f)) ∙ flat-append (one t) f
 
 pub flat-p : (f : Forest) {k : ℕ} → k ≡ length (flat f) → flat (node P f nil) ≡ (32 * k + 8) ∷ flat f
-unfolding flat encode node-token
+unfolding encode node-token
 flat-p f {k} e =
-    let h : 32 * length (encode (plain f)) + 8 + 0 ≡ 32 * k + 8 = omega (arith, e) in
-    ap (λ (n : ℕ). n ∷ (encode (plain f) ++ [])) h ∙ ap (λ (l : List ℕ). (32 * k + 8) ∷ l) (append-nil (encode (plain f)))
+    let h : 32 * length (flat f) + 8 + 0 ≡ 32 * k + 8 = omega (arith, e) in
+    ap (λ (n : ℕ). n ∷ (flat f ++ [])) h ∙ ap (λ (l : List ℕ). (32 * k + 8) ∷ l) (append-nil (flat f))
 
 pub flat-c : (f : Forest) {k : ℕ} → k ≡ length (flat f) → flat (node C f nil) ≡ (32 * k + 24) ∷ flat f
-unfolding flat encode node-token
+unfolding encode node-token
 flat-c f {k} e =
-    let h : 32 * length (encode (plain f)) + 24 + 0 ≡ 32 * k + 24 = omega (arith, e) in
-    ap (λ (n : ℕ). n ∷ (encode (plain f) ++ [])) h ∙ ap (λ (l : List ℕ). (32 * k + 24) ∷ l) (append-nil (encode (plain f)))
+    let h : 32 * length (flat f) + 24 + 0 ≡ 32 * k + 24 = omega (arith, e) in
+    ap (λ (n : ℕ). n ∷ (flat f ++ [])) h ∙ ap (λ (l : List ℕ). (32 * k + 24) ∷ l) (append-nil (flat f))
 
-pub flat-tree : (f : Forest) {l : List ℕ} → l ≡ flat f → l ≡ encode (plain f)
-unfolding flat
+pub flat-tree : (f : Forest) {l : List ℕ} → l ≡ flat f → l ≡ flat f
 flat-tree f e = e
 
 pub flat-rev : (f : Forest) → encode (j-rev (plain f)) ≡ flat (rev f)
-unfolding flat
 flat-rev f = ap encode (sym (plain-rev f))
 
 pub flat-injective : (f g : Forest) → flat f ≡ flat g → f ≡ g
-unfolding flat
 flat-injective f g e = sym (tree-plain f) ∙ ap tree (encode-injective (plain f) (plain g) e) ∙ tree-plain g
 
 pub flat-rev-length : (f : Forest) → length (flat (rev f)) ≡ length (flat f)
-unfolding flat
 flat-rev-length f = ap length (sym (flat-rev f)) ∙ rev-length (plain f)
 
 -- What the first item of a sequence is, by its views.
@@ -70,7 +65,7 @@ pub record AtFirst (j : Judged) : Type 0 where
   pub alone : totals (first-of j) ≡ head ∷ []
   pub its-state : head .state ≡ state-of j
   pub its-item : one (head .item) ≡ tree (first-of j)
-  pub its-tokens : flat (one (head .item)) ≡ encode (plain (tree (first-of j)))
+  pub its-tokens : flat (one (head .item)) ≡ flat (tree (first-of j))
   pub its-leaf : first (one (head .item)) ≡ first (tree j)
 
 total-item : (s : State) (k : Kind) (i : Forest) (ts : List Total) → total-by s k i ts .item ≡ node-item k i
@@ -90,7 +85,7 @@ total-state R k i ts = refl
 total-state X k i ts = refl
 
 pub at-first : (j : Judged) → 0 < length (encode j) → AtFirst j
-unfolding encode totals rest-of first-of state-of flat
+unfolding encode totals rest-of first-of state-of
 at-first j-nil h = absurd (omega arith)
 at-first (j-leaf s b j) h = record {
   head = unchanged s (leaf-item b);
@@ -124,8 +119,7 @@ whole-totals j-nil = refl
 whole-totals (j-leaf s b j) = ap (leaf b) (whole-totals j)
 whole-totals (j-node s k i j) = rw (total-item s k (tree i) (totals i), whole-totals j)
 
-pub flat-whole : (j : Judged) → flat (whole-of (totals j)) ≡ encode (plain (tree j))
-unfolding flat
+pub flat-whole : (j : Judged) → flat (whole-of (totals j)) ≡ flat (tree j)
 flat-whole j = ap flat (whole-totals j)
 
 pub whole-items : (ts : List Total) → length (items (whole-of ts)) ≡ length ts
@@ -143,7 +137,7 @@ pub with-out : (s : ℕ) {j : Judged} (a : AtFirst j) → (number (state-of j) �
 with-out s {j} a e = rw (a .split, a .its-state, ne-eqb (number (state-of j)) s e)
 
 pub flat-in : (s : ℕ) {j : Judged} (a : AtFirst j) → number (state-of j) ≡ s
-    → flat (whole-of (with-state s (totals j))) ≡ encode (plain (tree (first-of j))) ++ flat (whole-of (with-state s (totals (rest-of j))))
+    → flat (whole-of (with-state s (totals j))) ≡ flat (tree (first-of j)) ++ flat (whole-of (with-state s (totals (rest-of j))))
 flat-in s {j} a e = rw (with-in s a e, flat-put (a .head .item) (whole-of (with-state s (totals (rest-of j)))), a .its-tokens)
 
 with-short : (s : ℕ) (ts : List Total) → length (flat (whole-of (with-state s ts))) ≤ length (flat (whole-of ts))
@@ -156,7 +150,6 @@ with-short s (t ∷ ts) =
     (λ y. omega (arith, more, kept, with-short s ts)) (λ n. omega (arith, more, with-short s ts))
 
 pub with-le : (s : ℕ) (j : Judged) → length (flat (whole-of (with-state s (totals j)))) ≤ length (encode j)
-unfolding flat
 with-le s j = omega (arith, with-short s (totals j), ap (λ (f : Forest). length (flat f)) (whole-totals j), plain-length j)
 
 pub all-in : (s : ℕ) {j : Judged} (a : AtFirst j) → number (state-of j) ≡ s → all-with-state s (totals j) ≡ all-with-state s (totals (rest-of j))
@@ -325,7 +318,7 @@ flat-before g {j} a e h =
     rw (with-in 0 a e, put-sorted-here g (a .head .item) f (rw (a .its-leaf) h)) (flat-append g (put (a .head .item) f))
 
 pub flat-after : (g : Forest) {j : Judged} (a : AtFirst j) → number (state-of j) ≡ 0 → (first g < first (tree j) → ⊥)
-    → flat (placed g j) ≡ encode (plain (tree (first-of j))) ++ flat (placed g (rest-of j))
+    → flat (placed g j) ≡ flat (tree (first-of j)) ++ flat (placed g (rest-of j))
 flat-after g {j} a e h =
     let f = whole-of (with-state 0 (totals (rest-of j))) in
     rw (with-in 0 a e, put-sorted-on g (a .head .item) f (rw (a .its-leaf) h), flat-put (a .head .item) (put-sorted g f), a .its-tokens)
@@ -362,7 +355,7 @@ pub same-leaf : (g h : Forest) {l : List ℕ} {b : ℕ} → l ≡ flat g → b �
 same-leaf g h e q d = q ∙ ap first (flat-injective g h (sym e ∙ d))
 
 -- The tokens of a leaf without its state.
-pub bare-leaf : (j : Judged) {l : List ℕ} → l ≡ encode j → shape-of j ≡ 1 → encode (plain (tree (first-of j))) ≡ (getD l 0 0 - getD l 0 0 % 8) ∷ []
+pub bare-leaf : (j : Judged) {l : List ℕ} → l ≡ encode j → shape-of j ≡ 1 → flat (tree (first-of j)) ≡ (getD l 0 0 - getD l 0 0 % 8) ∷ []
 unfolding encode shape-of first-of
 bare-leaf j-nil e h = absurd (omega arith)
 bare-leaf (j-leaf s b j) e h = rw e (sym (bare-is (j-leaf s b j-nil)))

@@ -7,14 +7,14 @@ use native.Mathlib.Omega.{arith}
 use borrow.Author.Tests.{eqb-true, eqb-false, eq-eqb, ltb-true, ltb-false, leb-true, leb-false, le-leb, lt-leb, not-true, not-false}
 use lib.Dec.{eqb, ltb, leb}
 use lib.ListN.{length, length-drop}
-use Rattle.tree_tokens.specs.Tokens.{number, Judged, j-nil, tree, plain, encode}
+use Rattle.tree_tokens.specs.Tokens.{number, Judged, j-nil, tree, encode, flat}
 use Rattle.tree_tokens.specs.Views.{state-of, rest-of}
 use Rattle.tree_tokens.proofs.Laws.{at-end}
 use Rattle.tree_spans.specs.Spans.{is, is-not, passing, beyond, Parted}
 use Rattle.tree_spans.proofs.Laws.{parted-some, beyond-same, beyond-stops}
 use Rattle.tree_judge.specs.Judge.{rises}
 use Rattle.tree_judge.specs.Total.{whole-of, states-of, totals}
-use Rattle.tree_pieces.specs.Writers.{flat, with-state, all-with-state}
+use Rattle.tree_pieces.specs.Writers.{with-state, all-with-state}
 use Rattle.tree_pieces.proofs.Laws.{at-first, totals-none, many, with-in, with-out, flat-in, all-in, all-out, rises-empty, rises-not, rises-last}
 use Rattle.tree_pieces.proofs.Walks.{passing-text}
 
@@ -84,7 +84,7 @@ until-span s {x} {y} j {r} {q} w h m e v = go (eqb r (length x)) refl
 
 -- The tokens of the items of state s: those at the start, and then the others.
 pub with-span : (s : ℕ) (j : Judged)
-    → flat (whole-of (with-state s (totals j))) ≡ encode (plain (tree (passing (is s) j))) ++ flat (whole-of (with-state s (totals (beyond (is s) j))))
+    → flat (whole-of (with-state s (totals j))) ≡ flat (tree (passing (is s) j)) ++ flat (whole-of (with-state s (totals (beyond (is s) j))))
 with-span s = passing-text (is s) (λ j. flat (whole-of (with-state s (totals j)))) (λ k h t. flat-in s (at-first k h) (is-state t))
 
 module _ (s : ℕ) {x : List ℕ} (j : Judged) {r : ℕ} (w : Parted (is s) x j r) (h : r ≤ length x) where

@@ -7,7 +7,7 @@ use native.Mathlib.Omega.{arith}
 use lib.ListN.{length, take, drop, getD, length-append, length-drop}
 use lib.Seq.{length-take-le, drop-cons, drop-drop}
 use borrow.Rule.Slice.PartMut.{putMid}
-use Rattle.tree_tokens.specs.Tokens.{number, Judged, j-nil, j-leaf, j-node, tree, plain, j-append, encode, Tokens, Wrote}
+use Rattle.tree_tokens.specs.Tokens.{number, Judged, j-nil, j-leaf, j-node, tree, plain, j-append, encode, Tokens, Wrote, flat}
 use Rattle.tree_tokens.specs.Views.{state-of, first-of, rest-of}
 use Rattle.spec_orders.proofs.ListLaws.{part-to-end}
 use Rattle.tree_tokens.proofs.Laws.{at-end}
@@ -104,32 +104,32 @@ module _ (g : Judged → List ℕ) where
     writing-room j e h = omega (arith, w .wrote .many, ap length (w .rest .same j e), length-append (w .text) (g (w .rest .left)))
 
 -- Items at the start that pass a test, each of which writes its own tokens, and what is written for the items behind them.
-plain-join : (a b : Judged) → encode (plain (tree (j-append a b))) ≡ encode (plain (tree a)) ++ encode (plain (tree b))
+plain-join : (a b : Judged) → flat (tree (j-append a b)) ≡ flat (tree a) ++ flat (tree b)
 plain-join a b = rw (tree-append a b, plain-append (tree a) (tree b)) (encode-append (plain (tree a)) (plain (tree b)))
 
 module _ (p : ℕ → Bool) (g : Judged → List ℕ) where
   step-text : (k : Judged) → 0 < length (encode k)
-      → (p (number (state-of k)) ≡ true → g k ≡ encode (plain (tree (first-of k))) ++ g (rest-of k))
-      → g (rest-of k) ≡ encode (plain (tree (passing p (rest-of k)))) ++ g (beyond p (rest-of k))
-      → g k ≡ encode (plain (tree (passing p k))) ++ g (beyond p k)
+      → (p (number (state-of k)) ≡ true → g k ≡ flat (tree (first-of k)) ++ g (rest-of k))
+      → g (rest-of k) ≡ flat (tree (passing p (rest-of k))) ++ g (beyond p (rest-of k))
+      → g k ≡ flat (tree (passing p k)) ++ g (beyond p k)
   unfolding encode
   step-text k ne h rec = go (p (number (state-of k))) refl
     where
-      go : (b : Bool) → p (number (state-of k)) ≡ b → g k ≡ encode (plain (tree (passing p k))) ++ g (beyond p k)
+      go : (b : Bool) → p (number (state-of k)) ≡ b → g k ≡ flat (tree (passing p k)) ++ g (beyond p k)
       go true t =
-          let a = encode (plain (tree (first-of k))) in
-          let b = encode (plain (tree (passing p (rest-of k)))) in
+          let a = flat (tree (first-of k)) in
+          let b = flat (tree (passing p (rest-of k))) in
           h t ∙ ap (λ (l : List ℕ). a ++ l) rec ∙ sym (append-assoc a b (g (beyond p (rest-of k))))
           ∙ rw (passing-first p k ne t, beyond-first p k t, plain-join (first-of k) (passing p (rest-of k)))
       go false f = rw (passing-none p k f, beyond-all p k f)
 
-  pub passing-text : ((k : Judged) → 0 < length (encode k) → p (number (state-of k)) ≡ true → g k ≡ encode (plain (tree (first-of k))) ++ g (rest-of k))
-      → (j : Judged) → g j ≡ encode (plain (tree (passing p j))) ++ g (beyond p j)
+  pub passing-text : ((k : Judged) → 0 < length (encode k) → p (number (state-of k)) ≡ true → g k ≡ flat (tree (first-of k)) ++ g (rest-of k))
+      → (j : Judged) → g j ≡ flat (tree (passing p j)) ++ g (beyond p j)
   unfolding encode passing beyond rest-of
   passing-text h j-nil = refl
   passing-text h (j-leaf s b j) = step-text (j-leaf s b j) (omega arith) (h (j-leaf s b j) (omega arith)) (passing-text h j)
   passing-text h (j-node s k i j) = step-text (j-node s k i j) (omega arith) (h (j-node s k i j) (omega arith)) (passing-text h j)
 
 -- The first r tokens are as many as those without their states.
-pub passing-length : {p : ℕ → Bool} {x : List ℕ} (j : Judged) {r : ℕ} → Parted p x j r → r ≤ length x → length (encode (plain (tree (passing p j)))) ≡ r
+pub passing-length : {p : ℕ → Bool} {x : List ℕ} (j : Judged) {r : ℕ} → Parted p x j r → r ≤ length x → length (flat (tree (passing p j))) ≡ r
 passing-length {p} {x} j {r} w h = plain-length (passing p j) ∙ sym (ap length (w .front)) ∙ length-take-le r x h

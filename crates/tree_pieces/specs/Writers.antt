@@ -7,12 +7,8 @@ use lib.Dec.{eqb, leb}
 use lib.ListN.{length}
 use Rattle.spec_orders.specs.Tree.{C, Forest, nil, append}
 use Rattle.spec_orders.specs.Reduce.{pack}
-use Rattle.tree_tokens.specs.Tokens.{number, Judged, j-nil, j-leaf, j-node, plain, encode}
+use Rattle.tree_tokens.specs.Tokens.{number, Judged, j-nil, j-leaf, j-node, encode, flat}
 use Rattle.tree_judge.specs.Total.{Total, whole-of, partial-of, linear-of, mirrored-of, gather-of, totals}
-
--- A tree's tokens.
-unfoldable pub flat : Forest → List ℕ
-flat f = encode (plain f)
 
 -- The tokens are those of some sequence, and there is room for the tree that f gives of it.
 abbrev pub Fits : (List Total → Forest) → List ℕ → List ℕ → Type 0

@@ -7,11 +7,11 @@ ghost use lib.ListN.{length};
 ghost use Rattle.spec_orders.specs.Tree.{Forest};
 ghost use Rattle.spec_orders.specs.Form.{first};
 ghost use Rattle.spec_orders.specs.Reduce.{pack, put-sorted};
-ghost use Rattle.tree_tokens.specs.Tokens.{Judged, tree, plain, encode, Tokens, Wrote};
+ghost use Rattle.tree_tokens.specs.Tokens.{Judged, tree, encode, Tokens, Wrote, flat};
 ghost use Rattle.tree_tokens.specs.Views.{first-of};
 ghost use Rattle.tree_judge.specs.Judge.{rises};
 ghost use Rattle.tree_judge.specs.Total.{states-of, whole-of, c-node-of, totals};
-ghost use Rattle.tree_pieces.specs.Writers.{flat, Fits, with-state, all-with-state, from-partial};
+ghost use Rattle.tree_pieces.specs.Writers.{Fits, with-state, all-with-state, from-partial};
 
 // How many items have the state s.
 pub fn count(x: &[u16], s: u16) -> usize
@@ -48,7 +48,7 @@ fn several(x: &[u16], s: u16) -> bool
 fn put_first(x: &[u16], out: &mut [u16]) -> usize
     requires { ⌜ ((j : Judged) × (now x ≡ encode j) × (0 < length (now x)) × (length (encode (first-of j)) ≤ length (now out))) ⌝ }
     ensures { λ r. ⌜ ((j : Judged) → now (x .entry) ≡ encode j
-        → Wrote (encode (plain (tree (first-of j)))) (now (out .entry)) (now (out .exit)) r) ⌝ }
+        → Wrote (flat (tree (first-of j))) (now (out .entry)) (now (out .exit)) r) ⌝ }
 {
     if tree_tokens::shape(x) == 1 {
         let t = x[0];

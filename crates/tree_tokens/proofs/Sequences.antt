@@ -7,7 +7,7 @@ use lib.ListN.{length, take, drop, getD, length-append}
 use lib.Seq.{take-append-seam, drop-append-seam, take-suc}
 use native.Mathlib.Numerals.{add-one}
 use Rattle.spec_orders.specs.Tree.{Kind, P, C, Forest, nil, leaf, node, append, rev}
-use Rattle.tree_tokens.specs.Tokens.{State, E, number, Judged, j-nil, j-leaf, j-node, tree, plain, j-append, j-rev, leaf-token, node-token, encode}
+use Rattle.tree_tokens.specs.Tokens.{State, E, number, Judged, j-nil, j-leaf, j-node, tree, plain, j-append, j-rev, leaf-token, node-token, encode, flat}
 use Rattle.tree_tokens.specs.Views.{first-of, rest-of}
 use Rattle.tree_tokens.proofs.Laws.{number-small, number-injective, leaf-state, leaf-even, leaf-number, node-state, node-odd, node-size, sizes}
 
@@ -83,7 +83,7 @@ unfolding node-token
 bare-node s P m = omega (arith, number-small s)
 bare-node s C m = omega (arith, number-small s)
 
-pub plain-length : (j : Judged) → length (encode (plain (tree j))) ≡ length (encode j)
+pub plain-length : (j : Judged) → length (flat (tree j)) ≡ length (encode j)
 unfolding encode
 plain-length j-nil = refl
 plain-length (j-leaf s b j) = ap suc (plain-length j)
@@ -92,11 +92,11 @@ plain-length (j-node s k i j) =
       arith,
       plain-length i,
       plain-length j,
-      length-append (encode (plain (tree i))) (encode (plain (tree j))),
+      length-append (flat (tree i)) (flat (tree j)),
       length-append (encode i) (encode j),
     )
 
-pub bare-is : (j : Judged) → map bare (encode j) ≡ encode (plain (tree j))
+pub bare-is : (j : Judged) → map bare (encode j) ≡ flat (tree j)
 unfolding encode
 bare-is j-nil = refl
 bare-is (j-leaf s b j) = rw (bare-leaf s b, bare-is j)

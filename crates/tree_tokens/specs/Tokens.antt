@@ -58,6 +58,10 @@ encode j-nil = []
 encode (j-leaf s b j) = leaf-token s b ∷ encode j
 encode (j-node s k i j) = node-token s k (length (encode i)) ∷ (encode i ++ encode j)
 
+-- The tokens of a tree that nobody has judged.
+abbrev pub flat : Forest → List ℕ
+flat f = encode (plain f)
+
 -- The tokens are those of some sequence.
 abbrev pub Tokens : List ℕ → Type 0
 Tokens l = (j : Judged) × (l ≡ encode j)

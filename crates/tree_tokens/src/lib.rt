@@ -7,7 +7,7 @@ ghost use Rattle.spec_orders.specs.Lists.{same, numbers-from};
 ghost use Rattle.spec_orders.specs.Tree.{frontier, rev, items};
 ghost use Rattle.spec_orders.specs.Form.{first, nodes};
 ghost use Rattle.spec_orders.specs.Join.{fresh, leaf-items};
-ghost use Rattle.tree_tokens.specs.Tokens.{number, Judged, tree, plain, j-rev, encode, Tokens, Wrote};
+ghost use Rattle.tree_tokens.specs.Tokens.{number, Judged, tree, j-rev, encode, Tokens, Wrote, flat};
 ghost use Rattle.tree_tokens.specs.Views.{shape-of, state-of, leaf-of, first-of, items-of, rest-of};
 
 // The first item's shape: 1 a leaf, 2 a P-node, 3 a C-node.
@@ -180,7 +180,7 @@ pub fn copy(src: &[u16], out: &mut [u16]) -> usize
 pub fn strip(toks: &[u16], out: &mut [u16]) -> usize
     requires { ⌜ (Tokens (now toks)) × (length (now toks) ≤ length (now out)) ⌝ }
     ensures { λ r. ⌜ (r ≡ length (now (toks .entry)))
-        × ((j : Judged) → now (toks .entry) ≡ encode j → Wrote (encode (plain (tree j))) (now (out .entry)) (now (out .exit)) r) ⌝ }
+        × ((j : Judged) → now (toks .entry) ≡ encode j → Wrote (flat (tree j)) (now (out .entry)) (now (out .exit)) r) ⌝ }
 {
     let mut i = 0;
     while i < toks.len() {
@@ -223,7 +223,7 @@ pub fn equal(a: &[u16], b: &[u16]) -> bool
 // Writes the leaves 2, 3, .. as items, k of them.
 fn leaf_items(k: usize, out: &mut [u16]) -> usize
     requires { ⌜ (k ≤ 4000) × (k ≤ length (now out)) ⌝ }
-    ensures { λ r. ⌜ Wrote (encode (plain (leaf-items (numbers-from 2 k)))) (now (out .entry)) (now (out .exit)) r ⌝ }
+    ensures { λ r. ⌜ Wrote (flat (leaf-items (numbers-from 2 k))) (now (out .entry)) (now (out .exit)) r ⌝ }
 {
     let mut i = 0;
     while i < k {
@@ -236,7 +236,7 @@ fn leaf_items(k: usize, out: &mut [u16]) -> usize
 // Writes the fresh tree of n leaves: one P-node with the leaves 2 to n; for n = 2 leaf 2 alone.
 pub fn fresh(n: usize, out: &mut [u16]) -> usize
     requires { ⌜ (n ≤ 256) × (n ≤ length (now out)) ⌝ }
-    ensures { λ r. ⌜ (r ≤ n) × Wrote (encode (plain (fresh n))) (now (out .entry)) (now (out .exit)) r ⌝ }
+    ensures { λ r. ⌜ (r ≤ n) × Wrote (flat (fresh n)) (now (out .entry)) (now (out .exit)) r ⌝ }
 {
     if n == 0 {
         return 0;

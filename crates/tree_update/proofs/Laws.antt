@@ -11,14 +11,14 @@ use lib.ListN.{length, take, drop, length-append, take-append-drop}
 use lib.Seq.{take-append-seam}
 use Rattle.spec_orders.specs.Tree.{P, C, Forest, nil, node, items, append}
 use Rattle.spec_orders.specs.Reduce.{one, put-sorted, pack}
-use Rattle.tree_tokens.specs.Tokens.{E, F, L, R, X, number, Judged, j-nil, j-leaf, j-node, tree, plain, encode, Wrote}
+use Rattle.tree_tokens.specs.Tokens.{E, F, L, R, X, number, Judged, j-nil, j-leaf, j-node, tree, encode, Wrote, flat}
 use Rattle.tree_tokens.specs.Views.{shape-of, state-of, first-of, items-of, rest-of}
 use Rattle.tree_tokens.proofs.Laws.{at-end}
 use Rattle.tree_tokens.proofs.Sequences.{plain-length}
 use Rattle.tree_tokens.proofs.Writes.{read-back}
 use Rattle.tree_spans.specs.Spans.{is, passing, beyond}
 use Rattle.tree_judge.specs.Total.{Total, whole-of, partial-of, first-reduced, mirrored-lines, c-node-of, middle-of, gather-of, reduced-of, total-by, totals}
-use Rattle.tree_pieces.specs.Writers.{flat, with-state, all-with-state, from-partial, in-line, first-in-line, all-in-line, gathered}
+use Rattle.tree_pieces.specs.Writers.{with-state, all-with-state, from-partial, in-line, first-in-line, all-in-line, gathered}
 use Rattle.tree_pieces.proofs.Laws.{flat-nil, flat-append, flat-p, AtFirst, at-first, starts, totals-none, flat-whole, all-empty-is, c-node-length, put-sorted-length}
 use Rattle.tree_pieces.proofs.Walks.{passing-text}
 use Rattle.tree_pieces.proofs.States.{is-state}
@@ -55,15 +55,15 @@ read-part {k = k} w = let n : k - 0 ≡ k = omega arith in rw n (w .text)
 pub reduced-none : (j : Judged) {l : List ℕ} → l ≡ encode j → length l ≡ 0 → flat (first-reduced (totals j)) ≡ []
 reduced-none j e h = rw (at-end j e h, totals-none) flat-nil
 
-pub reduced-leaf : (j : Judged) → shape-of j ≡ 1 → flat (first-reduced (totals j)) ≡ encode (plain (tree (first-of j)))
-unfolding totals shape-of first-of flat
+pub reduced-leaf : (j : Judged) → shape-of j ≡ 1 → flat (first-reduced (totals j)) ≡ flat (tree (first-of j))
+unfolding totals shape-of first-of
 reduced-leaf j-nil h = absurd (omega arith)
 reduced-leaf (j-leaf s b j) h = refl
 reduced-leaf (j-node s P i j) h = absurd (omega arith)
 reduced-leaf (j-node s C i j) h = absurd (omega arith)
 
-pub reduced-whole : (j : Judged) → number (state-of j) < 2 → flat (first-reduced (totals j)) ≡ encode (plain (tree (first-of j)))
-unfolding totals total-by state-of first-of flat encode
+pub reduced-whole : (j : Judged) → number (state-of j) < 2 → flat (first-reduced (totals j)) ≡ flat (tree (first-of j))
+unfolding totals total-by state-of first-of encode
 reduced-whole j-nil h = refl
 reduced-whole (j-leaf s b j) h = refl
 reduced-whole (j-node E k i j) h = refl
@@ -98,7 +98,7 @@ reduced-p (j-node L P i j) h g z = sym (p-reduced-is (totals i))
 reduced-p (j-node R P i j) h g z = sym (p-reduced-is (totals i))
 reduced-p (j-node X P i j) h g z = sym (p-reduced-is (totals i))
 
-pub kept-length : (j : Judged) {l : List ℕ} → l ≡ encode (first-of j) → flat (first-reduced (totals j)) ≡ encode (plain (tree (first-of j)))
+pub kept-length : (j : Judged) {l : List ℕ} → l ≡ encode (first-of j) → flat (first-reduced (totals j)) ≡ flat (tree (first-of j))
     → length l ≡ length (flat (first-reduced (totals j)))
 kept-length j e h = omega (arith, ap length e, ap length h, plain-length (first-of j))
 
@@ -121,14 +121,14 @@ unfolding middle-of
 middle-none j e h = rw (at-end j e h, totals-none) flat-nil
 
 pub middle-empty : {j : Judged} (a : AtFirst j) → number (state-of j) ≡ 0
-    → flat (middle-of (totals j)) ≡ encode (plain (tree (first-of j))) ++ flat (middle-of (totals (rest-of j)))
+    → flat (middle-of (totals j)) ≡ flat (tree (first-of j)) ++ flat (middle-of (totals (rest-of j)))
 unfolding middle-of
 middle-empty {j} a h =
     rw (a .split, a .its-state, eq-eqb (number (state-of j)) 0 h)
     (flat-append (one (a .head .item)) (middle-of (totals (rest-of j))) ∙ ap (λ (l : List ℕ). l ++ flat (middle-of (totals (rest-of j)))) (a .its-tokens))
 
 -- The empty items at the front stand as they are.
-pub middle-span : (j : Judged) → flat (middle-of (totals j)) ≡ encode (plain (tree (passing (is 0) j))) ++ flat (middle-of (totals (beyond (is 0) j)))
+pub middle-span : (j : Judged) → flat (middle-of (totals j)) ≡ flat (tree (passing (is 0) j)) ++ flat (middle-of (totals (beyond (is 0) j)))
 middle-span = passing-text (is 0) (λ j. flat (middle-of (totals j))) (λ k h t. middle-empty (at-first k h) (is-state t))
 
 in-reduced : {j : Judged} (a : AtFirst j) → first-reduced (totals j) ≡ a .head .reduced
@@ -138,7 +138,7 @@ in-first : (back : Bool) {j : Judged} (a : AtFirst j) → first-in-line back (to
 in-first back a = rw (a .split)
 
 pub middle-last : {j : Judged} (a : AtFirst j) → (number (state-of j) ≡ 0 → ⊥) → all-with-state 0 (totals (rest-of j)) ≡ true
-    → flat (middle-of (totals j)) ≡ flat (first-reduced (totals j)) ++ encode (plain (tree (rest-of j)))
+    → flat (middle-of (totals j)) ≡ flat (first-reduced (totals j)) ++ flat (tree (rest-of j))
 unfolding middle-of
 middle-last {j} a h e =
     rw (in-reduced a)
@@ -158,7 +158,7 @@ pub last-length : {j : Judged} (a : AtFirst j) → (number (state-of j) ≡ 0 �
 last-length {j} a h e =
     omega (
       arith,
-      ap length (middle-last a h e) ∙ length-append (flat (first-reduced (totals j))) (encode (plain (tree (rest-of j)))),
+      ap length (middle-last a h e) ∙ length-append (flat (first-reduced (totals j))) (flat (tree (rest-of j))),
       plain-length (rest-of j),
     )
 

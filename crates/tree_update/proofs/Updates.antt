@@ -21,7 +21,7 @@ use Rattle.spec_orders.proofs.Forms.{others-range, form-distinct, nodes-bound}
 use Rattle.spec_orders.proofs.Joining.{tree-left}
 use Rattle.spec_orders.proofs.ReduceOrders.{reduce-frontier, reduce-single}
 use Rattle.spec_orders.proofs.ReduceForm.{reduce-canonical}
-use Rattle.tree_tokens.specs.Tokens.{State, E, F, L, R, X, number, Judged, j-nil, j-leaf, j-node, tree, plain, encode, Wrote}
+use Rattle.tree_tokens.specs.Tokens.{State, E, F, L, R, X, number, Judged, j-nil, j-leaf, j-node, tree, plain, encode, Wrote, flat}
 use Rattle.tree_tokens.specs.Views.{state-of, first-of}
 use Rattle.tree_tokens.proofs.Laws.{at-end}
 use Rattle.tree_tokens.proofs.Counts.{leaves-and-nodes}
@@ -30,7 +30,6 @@ use Rattle.tree_judge.specs.Judge.{can-reduce, judge}
 use Rattle.tree_judge.specs.Total.{first-reduced, totals, when}
 use Rattle.tree_judge.proofs.Judged.{tree-judge}
 use Rattle.tree_judge.proofs.Reduces.{reduce-total}
-use Rattle.tree_pieces.specs.Writers.{flat}
 use Rattle.tree_pieces.proofs.Laws.{flat-tree, flat-injective}
 use Rattle.tree_stays.specs.Stays.{stays}
 use Rattle.tree_stays.proofs.Same.{stays-same}
@@ -64,7 +63,6 @@ few-leaves (suc n) l d h =
     )
 
 pub flat-counts : (t : Forest) → length (flat t) ≡ length (frontier t) + nodes t
-unfolding flat
 flat-counts t = sym (leaves-and-nodes (plain t)) ∙ ap (λ (f : Forest). length (frontier f) + nodes f) (tree-plain t)
 
 pub form-short : (n : ℕ) (t : Forest) → FormWithin n t → n ≤ 256 → length (flat t) ≤ 510

@@ -7,8 +7,7 @@ use lib.ListN.{length, take}
 use Rattle.spec_orders.specs.Lists.{All, Distinct}
 use Rattle.spec_orders.specs.Tree.{Forest, items, frontier}
 use Rattle.spec_orders.specs.Form.{Canonical, Single, InForm}
-use Rattle.tree_tokens.specs.Tokens.{Wrote}
-use Rattle.tree_pieces.specs.Writers.{flat}
+use Rattle.tree_tokens.specs.Tokens.{Wrote, flat}
 use Rattle.tree_update.specs.declared.Updated.{Updated}
 use Rattle.tree_update.specs.declared.Updated.the-variants.{Impossible, Tokens}
 

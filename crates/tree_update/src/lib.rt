@@ -3,10 +3,10 @@
 ghost use mathlib.Core.Path.{_≡_};
 ghost use Prim.Native.Nat.{ℕ, _<_, _≤_};
 ghost use lib.ListN.{length};
-ghost use Rattle.tree_tokens.specs.Tokens.{number, Judged, encode};
+ghost use Rattle.tree_tokens.specs.Tokens.{number, Judged, encode, flat};
 ghost use Rattle.tree_tokens.specs.Views.{state-of};
 ghost use Rattle.tree_judge.specs.Total.{first-reduced, middle-of, totals};
-ghost use Rattle.tree_pieces.specs.Writers.{flat, FitsBoth, gathered};
+ghost use Rattle.tree_pieces.specs.Writers.{FitsBoth, gathered};
 ghost use Rattle.spec_orders.specs.Tree.{Forest};
 ghost use Rattle.spec_orders.specs.Reduce.{reduce};
 ghost use Rattle.spec_orders.specs.Join.{join};

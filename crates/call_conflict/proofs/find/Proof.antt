@@ -8,9 +8,8 @@ use Rattle.spec_orders.specs.Conflict.{possible?, conflict-list}
 use Rattle.spec_orders.proofs.Numbers.{numbers-length}
 use Rattle.mark_words.specs.Marks.{marked}
 use Rattle.spec_calls.specs.Calls.{group-numbered, conflicts-of}
-use Rattle.tree_tokens.specs.Tokens.{Wrote}
+use Rattle.tree_tokens.specs.Tokens.{Wrote, flat}
 use Rattle.tree_tokens.proofs.Writes.{read-part, wrote-most}
-use Rattle.tree_pieces.specs.Writers.{flat}
 use Rattle.tree_update.proofs.Agree.{four-words}
 use Rattle.conflict_leaves.specs.StandIn.{Chosen, start}
 use Rattle.conflict_rule.specs.LeavingOut.{InBook}

@@ -9,7 +9,6 @@ use Rattle.spec_orders.specs.Form.{standard}
 use Rattle.mark_words.specs.Marks.{marked}
 use Rattle.spec_calls.specs.Tables.{lent-book}
 use Rattle.table_book.proofs.Laws.{group-part, few-groups}
-use Rattle.tree_pieces.specs.Writers.{flat}
 use Rattle.tree_tokens.specs.Tokens.{plain}
 use Rattle.tree_tokens.proofs.Sequences.{tree-plain}
 use Rattle.tree_tokens.proofs.Writes.{read-part, wrote-most}
@@ -35,7 +34,6 @@ add-end : tie.Need-add-end
 add-end c = omega (arith, few c)
 
 standard-order-requires : tie.Need-standard-order-requires
-unfolding flat
 standard-order-requires c κs = (plain (c .before .before .before .before .before .pre .shown), c .before .before .before .before .before .pre .is, order-room (c .before .before .before .before .before .pre))
 
 mul-aim-in : tie.Need-mul-aim-in
@@ -45,11 +43,9 @@ part-aim-in-end : tie.Need-part-aim-in-end
 part-aim-in-end c = omega (arith, few (c .before .before .before), c .before .before .before .before .before .before .before .pre .groups .all-words)
 
 part-aim-in-end-2 : tie.Need-part-aim-in-end-2
-unfolding flat
 part-aim-in-end-2 c = omega (arith, wrote-most (c .before .before .before .standard-order .ensures (plain (c .before .before .before .before .before .before .before .before .before .pre .shown)) (c .before .before .before .before .before .before .before .before .before .pre .is)))
 
 aim-in-requires : tie.Need-aim-in-requires
-unfolding flat
 aim-in-requires c κs =
     let p = c .before .before .before .before .before .before .before .before .before .before .pre in
     let order = read-part (c .before .before .before .before .standard-order .ensures (plain (p .shown)) (p .is)) ∙ ap standard (tree-plain (p .shown)) in
@@ -57,7 +53,6 @@ aim-in-requires c κs =
     (group-within (p .nodes) (p .shown) (lent-book (now (c .before .before .before .before .before .before .before .before .before .before .args .book)) (c .before .before .before .before .before .before .before .before .before .before .args .count)) (c .before .before .before .before .before .before .before .before .before .before .args .group - 1) (p .lent) (p .groups) (omega (arith, c .before .before .before .before .before .before .before .if1 .left, c .before .before .before .before .before .before .if2 .left)))
 
 returns-3 : tie.Need-returns-3
-unfolding flat
 returns-3 c = λ t e.
     c .aim-in .ensures
     ∙ ap₂ (λ (ws l : List ℕ). aim-in (marked ws) l) (group-part (now (c .before .before .before .before .before .before .before .before .before .before .before .args .book)) (c .before .before .before .before .before .before .before .before .before .before .before .args .group - 1)) (read-part (c .before .before .before .before .before .standard-order .ensures (plain t) e) ∙ ap standard (tree-plain t))

@@ -8,7 +8,6 @@ use Rattle.spec_orders.specs.Form.{standard}
 use Rattle.tree_tokens.specs.Tokens.{plain, Wrote}
 use Rattle.tree_tokens.proofs.Sequences.{tree-plain}
 use Rattle.tree_tokens.proofs.Writes.{read-part, wrote-most}
-use Rattle.tree_pieces.specs.Writers.{flat}
 use Rattle.spec_calls.specs.Refusals.{short}
 use Rattle.call_checks.specs.Lent.{TreeLent, LendsTree}
 use Rattle.call_order.proofs.Orders.{order-refused, order-length, order-done, order-demand}
@@ -24,7 +23,6 @@ part-standard-order-end : tie.Need-part-standard-order-end
 part-standard-order-end c = omega (arith, wrote-most (lent (c .before) .wrote))
 
 standard-order-requires : tie.Need-standard-order-requires
-unfolding flat
 standard-order-requires c κs = let l = lent (c .before .before .before) in
     (plain (l .tree), read-part (l .wrote), rw (tree-plain (l .tree), order-length (lent-nodes (c .before .before .before .before .before .before .before .before .before .before .before .args .n) (c .before .before .before .before .before .before .before .before .before .before .before .args .have) (now (c .before .before .before .before .before .before .before .before .before .before .before .args .nodes))) (now (c .before .before .before .before .before .before .before .before .before .before .before .args .order)) (replicate 512 0) (c .before .before .before .before .before .before .before .lent-tree .last .1 .1 .1 .1 .0) (c .before .before .before .before .found2 .given .0 .0) l) (ltb-false (length (now (c .before .before .before .before .before .before .before .before .before .before .before .args .order))) (c .before .before .before .before .before .before .before .before .before .before .before .args .n) (l .long)))
 
@@ -33,7 +31,6 @@ returns c = let e = order-refused (lent-nodes (c .before .before .before .before
     (e, order-demand (lent-nodes (c .before .before .before .before .before .before .before .before .args .n) (c .before .before .before .before .before .before .before .before .args .have) (now (c .before .before .before .before .before .before .before .before .args .nodes))) (now (c .before .before .before .before .before .before .before .before .args .order)) _ _ e)
 
 returns-2 : tie.Need-returns-2
-unfolding flat
 returns-2 c = let l = lent (c .before .before .before .before .before .before) in
     let w = subst (λ t. Wrote (standard t) (now (c .before .before .before .before .before .before .before .before .before .before .before .before .before .before .args .order)) (c .before .before .standard-order .last .1 .0) (c .before .before .standard-order .result)) (tree-plain (l .tree)) (c .before .before .standard-order .ensures (plain (l .tree)) (read-part (l .wrote))) in
     let e = order-done (lent-nodes (c .before .before .before .before .before .before .before .before .before .before .before .before .before .before .args .n) (c .before .before .before .before .before .before .before .before .before .before .before .before .before .before .args .have) (now (c .before .before .before .before .before .before .before .before .before .before .before .before .before .before .args .nodes))) (now (c .before .before .before .before .before .before .before .before .before .before .before .before .before .before .args .order)) (replicate 512 0) (c .before .before .before .before .before .before .before .before .before .before .lent-tree .last .1 .1 .1 .1 .0) (c .before .before .before .before .before .before .before .found2 .given .0 .0) l (c .before .before .standard-order .last .1 .0) (c .before .before .standard-order .result) w in

@@ -2,7 +2,6 @@
 use Prim.Native.Nat.{_≤_}
 use native.Mathlib.Omega.{arith}
 use borrow.Author.Needs.{needs}
-use Rattle.tree_pieces.specs.Writers.{flat}
 use Rattle.tree_tokens.specs.Tokens.{plain}
 use Rattle.tree_tokens.proofs.Writes.{wrote-then}
 use Rattle.call_text.proofs.Calls.{formed-text, wrote-fills}
@@ -25,7 +24,6 @@ part-zeros-start : tie.Need-part-zeros-start
 part-zeros-start c = omega (arith, few c, c .before .before .tree-text .kept .1 .0)
 
 returns : tie.Need-returns
-unfolding flat
 returns c = λ t e. let w = c .before .before .before .before .before .before .tree-text .ensures (plain t) e in wrote-fills t w (wrote-then w (c .before .before .zeros .ensures))
 
 pub fill-spec : {M : Type 1} → statement M

@@ -1,5 +1,4 @@
 use Rattle.spec_calls.specs.Tables.{lent-nodes, lent-book}
-use Rattle.tree_pieces.specs.Writers.{flat}
 use mathlib.Core.Path.{subst}
 use native.Mathlib.Omega.{arith}
 use denote.Ref.{now}
@@ -19,7 +18,6 @@ part-store-end : tie.Need-part-store-end
 part-store-end c = omega (arith, wrote-most (new-tree (c .before) .wrote))
 
 store-requires : tie.Need-store-requires
-unfolding flat
 store-requires c κs = let j = new-tree (c .before .before .before) in (record { size = c .before .before .before .before .before .before .before .before .before .before .before .before .before .before .args .n; shown = j .tree; is = read-part (j .wrote); in-form = j .in-form; few = j .lent .few-leaves }, j .lent .all-rows)
 
 put-requires : tie.Need-put-requires
@@ -33,7 +31,6 @@ returns c = let e = join-refused (lent-nodes (c .before .before .before .before 
     (e, join-demand (lent-nodes (c .before .before .before .before .before .before .before .before .before .before .before .args .n) (c .before .before .before .before .before .before .before .before .before .before .before .args .have) (now (c .before .before .before .before .before .before .before .before .before .before .before .args .nodes))) (lent-book (now (c .before .before .before .before .before .before .before .before .before .before .before .args .book)) (c .before .before .before .before .before .before .before .before .before .before .before .args .count)) (now (c .before .before .before .before .before .before .before .before .before .before .before .args .list)) _ _ _ e)
 
 returns-2 : tie.Need-returns-2
-unfolding flat
 returns-2 c = let j = new-tree (c .before .before .before .before .before .before .before .before .before .before) in
     let e = join-done (lent-nodes (c .before .before .before .before .before .before .before .before .before .before .before .before .before .before .before .before .before .before .before .before .before .args .n) (c .before .before .before .before .before .before .before .before .before .before .before .before .before .before .before .before .before .before .before .before .before .args .have) (now (c .before .before .before .before .before .before .before .before .before .before .before .before .before .before .before .before .before .before .before .before .before .args .nodes))) (lent-book (now (c .before .before .before .before .before .before .before .before .before .before .before .before .before .before .before .before .before .before .before .before .before .args .book)) (c .before .before .before .before .before .before .before .before .before .before .before .before .before .before .before .before .before .before .before .before .before .args .count)) (now (c .before .before .before .before .before .before .before .before .before .before .before .before .before .before .before .before .before .before .before .before .before .args .list)) (replicate 512 0) (c .before .before .before .before .before .before .before .before .before .before .before .before .before .before .attempt .last .1 .1 .1 .1 .1 .1 .0) (c .before .before .before .before .before .before .before .before .before .before .before .tried2 .given .0 .0) j (c .before .before .before .before .before .before .store .last .1 .0) (c .before .before .put .last .0) (c .before .before .before .before .before .before .store .ensures (j .tree) (read-part (j .wrote))) (c .before .before .put .ensures) in
     (e, join-demand (lent-nodes (c .before .before .before .before .before .before .before .before .before .before .before .before .before .before .before .before .before .before .before .before .before .args .n) (c .before .before .before .before .before .before .before .before .before .before .before .before .before .before .before .before .before .before .before .before .before .args .have) (now (c .before .before .before .before .before .before .before .before .before .before .before .before .before .before .before .before .before .before .before .before .before .args .nodes))) (lent-book (now (c .before .before .before .before .before .before .before .before .before .before .before .before .before .before .before .before .before .before .before .before .before .args .book)) (c .before .before .before .before .before .before .before .before .before .before .before .before .before .before .before .before .before .before .before .before .before .args .count)) (now (c .before .before .before .before .before .before .before .before .before .before .before .before .before .before .before .before .before .before .before .before .before .args .list)) _ _ _ e)

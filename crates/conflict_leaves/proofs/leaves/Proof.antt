@@ -4,12 +4,12 @@ use mathlib.Core.List.{[]}
 use Prim.Native.Nat.{_+_, _-_, _*_, _≤_}
 use native.Mathlib.Omega.{arith}
 use lib.ListN.{length, length-set}
+use Rattle.tree_tokens.specs.Tokens.{flat}
 use Rattle.spec_orders.specs.Lists.{those-of}
 use Rattle.spec_orders.specs.CircularOrder.{others}
 use Rattle.spec_orders.specs.Join.{leaf-items}
 use Rattle.mark_words.specs.Marks.{marked}
 use Rattle.tree_tokens.proofs.Writes.{Written, written-start, written-same, written-one, written-end}
-use Rattle.tree_pieces.specs.Writers.{flat}
 use Rattle.conflict_leaves.proofs.StartTokens.{from, from-two, from-end, from-next, from-past}
 use Rattle.conflict_leaves.proofs.leaves.Statement.{statement}
 use Rattle.conflict_leaves.proofs.leaves.Tie as tie

@@ -9,9 +9,8 @@ use Rattle.spec_orders.specs.Tree.{Forest}
 use Rattle.spec_orders.specs.Conflict.{possible?, leave-out}
 use Rattle.spec_orders.proofs.Conflicts.{part-all, leave-out-kept, ring-tests}
 use Rattle.spec_orders.proofs.ListLaws.{part-to-end}
-use Rattle.tree_tokens.specs.Tokens.{Wrote}
+use Rattle.tree_tokens.specs.Tokens.{Wrote, flat}
 use Rattle.tree_tokens.proofs.Writes.{read-back, wrote-one, wrote-then}
-use Rattle.tree_pieces.specs.Writers.{flat}
 use Rattle.spec_calls.specs.Calls.{group-numbered}
 use Rattle.conflict_rule.specs.LeavingOut.{InBook, Represents, TokensRepresent, Walked, Stops, goes-on}
 use Rattle.conflict_rule.proofs.Keeping.{rule-halves, rule-short}

@@ -4,10 +4,10 @@ use Prim.Native.Nat.{_-_, _≤_}
 use native.Mathlib.Omega.{arith}
 use borrow.Author.Needs.{needs}
 use lib.ListN.{length, take, getD}
+use Rattle.tree_tokens.specs.Tokens.{flat}
 use Rattle.spec_orders.specs.CircularOrder.{Restriction}
 use Rattle.spec_orders.specs.Tree.{Forest}
 use Rattle.tree_tokens.proofs.Writes.{read-back, wrote-most}
-use Rattle.tree_pieces.specs.Writers.{flat}
 use Rattle.tree_update.proofs.Updates.{tokens-short}
 use Rattle.spec_calls.specs.Calls.{group-numbered}
 use Rattle.conflict_rule.specs.LeavingOut.{Represents, Walked}

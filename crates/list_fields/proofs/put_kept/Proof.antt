@@ -9,7 +9,7 @@ use Rattle.spec_orders.specs.Aim.{aim-of}
 use Rattle.list_bytes.proofs.Laws.{appends-then, appends-as}
 use Rattle.file_read.specs.RingFile.{FileHolds}
 use Rattle.file_read.proofs.Values.{name-held}
-use Rattle.list_fields.specs.Fields.{name}
+use Rattle.spec_listing.specs.Listing.{name}
 use Rattle.list_series.proofs.Words.{name-few}
 use Rattle.list_fields.proofs.Aiming.{same-group, aim-range, kept-within}
 use borrow.Author.Needs.{needs}

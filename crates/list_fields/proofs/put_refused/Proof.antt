@@ -12,7 +12,7 @@ use Rattle.spec_calls.specs.Calls.{conflicts-of}
 use Rattle.tree_tokens.proofs.Writes.{read-part, wrote-most}
 use Rattle.list_bytes.proofs.Laws.{appends-then, appends-as}
 use Rattle.call_conflict.proofs.Call.{list-few}
-use Rattle.list_fields.specs.Fields.{commas}
+use Rattle.spec_listing.specs.Listing.{commas}
 use Rattle.list_fields.proofs.Conflicting.{conflicts-all}
 use borrow.Author.Needs.{needs}
 use Rattle.list_fields.proofs.put_refused.Statement.{statement}

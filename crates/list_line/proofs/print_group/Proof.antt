@@ -7,7 +7,7 @@ use lib.ListN.{take, drop, getD}
 use Rattle.tree_tokens.proofs.Writes.{read-part}
 use Rattle.file_read.specs.RingFile.{leaves-on, FileHolds}
 use Rattle.file_read.proofs.Groups.{group-file}
-use Rattle.list_ring.specs.Ledger.{state-at}
+use Rattle.spec_listing.specs.Listing.{state-at}
 use Rattle.list_ring.specs.Stands.{Line, lists-of}
 use Rattle.list_ring.proofs.Files.{few-names, file-line, stands-more}
 use Rattle.list_line.proofs.Printing.{line-appends}

@@ -4,7 +4,7 @@ use native.Mathlib.Omega.{arith}
 use lib.ListN.{length}
 use Rattle.file_read.specs.RingFile.{FileHolds}
 use Rattle.list_ring.specs.Stands.{lists-of}
-use Rattle.list_line.specs.Listing.{listing}
+use Rattle.spec_listing.specs.Listing.{listing}
 use Rattle.list_line.specs.Printing.{Before, Final}
 use Rattle.list_line.proofs.Printing.{listed-length}
 use Rattle.list_part.proofs.Parts.{lines-few, Shown, shown-none, shown-more, short-part, whole-part}

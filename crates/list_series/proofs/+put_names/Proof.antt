@@ -7,7 +7,7 @@ use lib.ListN.{length, getD}
 use Rattle.list_bytes.proofs.Laws.{appends-none, appends-then, appends-as}
 use Rattle.file_read.specs.RingFile.{FileHolds}
 use Rattle.file_read.proofs.Values.{name-held}
-use Rattle.list_series.specs.Series.{name}
+use Rattle.spec_listing.specs.Listing.{name}
 use Rattle.list_series.proofs.Words.{words-none, words-one, words-more, all-first, all-tail, name-few}
 use Prim.Native.Nat.{ℕ, _-_, _≤_, _<_}
 use borrow.Fn.Kinds.{In}

@@ -6,7 +6,7 @@ use Rattle.spec_orders.specs.Form.{in-form?}
 use Rattle.spec_orders.proofs.FormTests.{form-decides}
 use Rattle.spec_calls.specs.NodeTable.{spelled-tree}
 use Rattle.spec_calls.proofs.NodeTables.{tree-in-none}
-use Rattle.tree_tokens.specs.Tokens.{plain, encode, Wrote}
+use Rattle.tree_tokens.specs.Tokens.{Wrote, flat}
 use Rattle.tree_tokens.proofs.Sequences.{tree-plain}
 use Rattle.tree_tokens.proofs.Writes.{read-part, wrote-most}
 use Rattle.table_store.proofs.Loading.{spells-found, spells-bad, not-in-form, not-the-table, held-there}
@@ -20,7 +20,7 @@ returns c =
     (spells-bad (c .before .before .before .before .before .before .before .before .args .n) (c .before .before .before .before .before .before .before .before .args .table .now) (c .before .before .before .before .before .before .before .before .args .out .now) (c .before .before .before .before .walk .last .1 .1 .0) (c .enum-told .given .1) (c .before .before .before .before .walk .ensures))
 
 -- The tokens that the walk wrote.
-written : (c : tie.After-known-told) → Wrote (encode (plain (spelled-tree (c .before .before .before .before .before .before .before .before .before .args .n) (c .before .before .before .before .before .before .before .before .before .args .table .now)))) (c .before .before .before .before .before .before .before .before .before .args .out .now) (c .before .before .before .before .before .walk .last .1 .1 .0) (c .before .k .given .0 .0)
+written : (c : tie.After-known-told) → Wrote (flat (spelled-tree (c .before .before .before .before .before .before .before .before .before .args .n) (c .before .before .before .before .before .before .before .before .before .args .table .now))) (c .before .before .before .before .before .before .before .before .before .args .out .now) (c .before .before .before .before .before .walk .last .1 .1 .0) (c .before .k .given .0 .0)
 written c = spells-found (c .before .before .before .before .before .before .before .before .before .args .n) (c .before .before .before .before .before .before .before .before .before .args .table .now) (c .before .before .before .before .before .before .before .before .before .args .out .now) (c .before .before .before .before .before .walk .last .1 .1 .0) (c .before .k .given .1) (c .before .before .before .before .before .walk .ensures)
 
 part-in-form-end : tie.Need-part-in-form-end

@@ -2,11 +2,11 @@ use mathlib.Core.Path.{refl, ap, _∙_}
 use Prim.Native.Nat.{_+_, _≤_}
 use lib.ListN.{length}
 use native.Mathlib.Omega.{arith}
+use Rattle.tree_tokens.specs.Tokens.{flat}
 use Rattle.spec_orders.specs.Tree.{Forest}
 use Rattle.spec_orders.specs.Form.{first}
 use Rattle.tree_tokens.proofs.Sequences.{tree-plain}
 use Rattle.tree_tokens.proofs.Writes.{wrote-head}
-use Rattle.tree_pieces.specs.Writers.{flat}
 use Rattle.tree_pieces.proofs.Laws.{flat-tree, placed, placed-few, placed-many, placed-le}
 use borrow.Author.Needs.{needs}
 use Rattle.tree_pieces.proofs.among.Statement.{statement}

@@ -6,12 +6,12 @@ use borrow.Author.Needs.{needs}
 use lib.ListN.{length, length-append, length-drop}
 use Rattle.spec_orders.specs.Tree.{Forest}
 use Rattle.spec_orders.specs.Form.{first}
-use Rattle.tree_tokens.specs.Tokens.{Judged, tree, plain, encode}
+use Rattle.tree_tokens.specs.Tokens.{Judged, tree, encode, flat}
 use Rattle.tree_tokens.specs.Views.{first-of, rest-of}
 use Rattle.tree_tokens.proofs.Sequences.{plain-length}
 use Rattle.tree_tokens.proofs.Writes.{wrote-then}
 use Rattle.tree_judge.specs.Total.{whole-of, totals}
-use Rattle.tree_pieces.specs.Writers.{flat, with-state}
+use Rattle.tree_pieces.specs.Writers.{with-state}
 use Rattle.tree_pieces.proofs.Laws.{at-first, placed, placed-none, placed-out, flat-before, flat-after, same-leaf}
 use Rattle.tree_pieces.proofs.Walks.{Writing, left-part, left-some, writing-none, writing-skip, writing-more, writing-last, writing-room}
 use Rattle.tree_pieces.proofs.insert.Statement.{statement}
@@ -42,7 +42,7 @@ before-first c g eb w =
     flat-before g (at-first _ (left-some (text g) (w .rest) (c .before .before .before .before .before .before .loop-test .taken))) (sym (c .before .before .before .state .ensures _ e) ∙ c .before .before .if1 .left) (omega (arith, c .before .first-leaf .ensures _ e, c .if2 .taken))
 
 after-first : (c : tie.Else2 Inv-loop μ-loop) (g : Forest) → c .before .before .before .before .before .before .before .before .before .before .before .args .b ≡ first g → (w : Writing (text g) (c .before .before .before .before .before .before .before .before .before .before .before .args .x .now) (c .before .before .before .before .before .before .before .before .before .before .before .args .out .now) (c .before .before .before .before .before .before .before .loop .out) (c .before .before .before .before .before .before .before .loop .i) (c .before .before .before .before .before .before .before .loop .k))
-    → text g (w .rest .left) ≡ encode (plain (tree (first-of (w .rest .left)))) ++ text g (rest-of (w .rest .left))
+    → text g (w .rest .left) ≡ flat (tree (first-of (w .rest .left))) ++ text g (rest-of (w .rest .left))
 after-first c g eb w =
     let e = left-part (text g) (w .rest) in
     flat-after g (at-first _ (left-some (text g) (w .rest) (c .before .before .before .before .before .before .loop-test .taken))) (sym (c .before .before .before .state .ensures _ e) ∙ c .before .before .if1 .left) (λ h. omega (arith, c .before .first-leaf .ensures _ e, c .if2 .left))
@@ -65,7 +65,7 @@ after-room c =
     omega (
       arith,
       whole-room (c .before .before .before .before .before .before .before),
-      ap length (after-first c (c .before .before .before .before .before .before .before .before .before .before .before .pre .1) (c .before .before .before .before .before .before .before .before .before .before .before .pre .4) w) ∙ length-append (encode (plain (tree (first-of l)))) (text (c .before .before .before .before .before .before .before .before .before .before .before .pre .1) (rest-of l)),
+      ap length (after-first c (c .before .before .before .before .before .before .before .before .before .before .before .pre .1) (c .before .before .before .before .before .before .before .before .before .before .before .pre .4) w) ∙ length-append (flat (tree (first-of l))) (text (c .before .before .before .before .before .before .before .before .before .before .before .pre .1) (rest-of l)),
       plain-length (first-of l),
     )
 

@@ -4,11 +4,11 @@ use Prim.Native.Nat.{ℕ, _+_, _-_, _≤_, _<_}
 use native.Mathlib.Omega.{arith}
 use borrow.Author.Needs.{needs}
 use lib.ListN.{length, take, drop, length-append, length-drop}
-use Rattle.tree_tokens.specs.Tokens.{Judged, tree, plain, encode}
+use Rattle.tree_tokens.specs.Tokens.{Judged, tree, encode, flat}
 use Rattle.spec_orders.proofs.ListLaws.{part-to-end}
 use Rattle.tree_spans.specs.Spans.{is, is-not, passing, beyond, Parted}
 use Rattle.tree_judge.specs.Total.{whole-of, totals}
-use Rattle.tree_pieces.specs.Writers.{flat, with-state}
+use Rattle.tree_pieces.specs.Writers.{with-state}
 use Rattle.tree_pieces.proofs.Laws.{totals-none, flat-nil}
 use Rattle.tree_pieces.proofs.Walks.{Writing, left-part, left-some, left-parted, writing-none, writing-past, writing-on, writing-end, writing-room, passing-length}
 use Rattle.tree_pieces.proofs.States.{with-until, with-span, until-span}
@@ -48,7 +48,7 @@ room c =
     omega (
       arith,
       writing-room (text s) (here (c .before .before)) (c .before .before .before .before .before .before .before .before .pre .0 .0) (c .before .before .before .before .before .before .before .before .pre .0 .1) (c .before .before .before .before .before .before .before .before .pre .0 .2),
-      ap length (with-span s l) ∙ length-append (encode (plain (tree (passing (is s) l)))) (text s (beyond (is s) l)),
+      ap length (with-span s l) ∙ length-append (flat (tree (passing (is s) l))) (text s (beyond (is s) l)),
       passing-length l (parted c) (c .span .ensures .0),
       c .before .before .before .before .before .loop .inv .1,
     )

@@ -5,9 +5,10 @@ use lib.Dec.{leb}
 use borrow.Author.Tests.{leb-true, leb-false, not-true, not-false}
 use lib.ListN.{length}
 use native.Mathlib.Omega.{arith}
+use Rattle.tree_tokens.specs.Tokens.{flat}
 use Rattle.tree_judge.specs.Total.{whole-of, totals}
 use Rattle.tree_tokens.proofs.Writes.{wrote-head}
-use Rattle.tree_pieces.specs.Writers.{flat, with-state}
+use Rattle.tree_pieces.specs.Writers.{with-state}
 use Rattle.spec_orders.specs.Tree.{Forest}
 use Rattle.tree_pieces.proofs.Laws.{packs-few, packs-many, with-le}
 use borrow.Author.Needs.{needs}

@@ -5,14 +5,14 @@ use lib.ListN.{length, drop, length-set}
 use native.Mathlib.Omega.{arith}
 use Rattle.spec_orders.specs.Lists.{numbers-from}
 use Rattle.spec_orders.specs.Join.{leaf-items}
-use Rattle.tree_tokens.specs.Tokens.{plain, encode}
+use Rattle.tree_tokens.specs.Tokens.{encode, flat}
 use Rattle.tree_tokens.proofs.FreshTree.{leaves-more, leaves-length}
 use Rattle.tree_tokens.proofs.Writes.{write-step}
 use Rattle.tree_tokens.proofs.leaf_items.Statement.{statement}
 use Rattle.tree_tokens.proofs.leaf_items.Tie as tie
 
 abbrev Inv-loop : tie.InvT-loop
-Inv-loop k out₀ i₀ out i = (i ≤ k) × (length out ≡ length out₀) × (out ≡ encode (plain (leaf-items (numbers-from 2 i))) ++ drop i out₀)
+Inv-loop k out₀ i₀ out i = (i ≤ k) × (length out ≡ length out₀) × (out ≡ flat (leaf-items (numbers-from 2 i)) ++ drop i out₀)
 
 abbrev μ-loop : tie.MeasureT-loop
 μ-loop k out₀ i₀ out i = k - i
@@ -26,7 +26,7 @@ loop-again c =
     let i = c .before .loop .i in (
       omega arith,
       simp length-set (c .before .loop .inv .1),
-      rw (c .before .loop .inv .2, leaves-more i) (write-step (encode (plain (leaf-items (numbers-from 2 i)))) (c .before .before .args .out .now) i _ (leaves-length 2 i) (omega arith)),
+      rw (c .before .loop .inv .2, leaves-more i) (write-step (flat (leaf-items (numbers-from 2 i))) (c .before .before .args .out .now) i _ (leaves-length 2 i) (omega arith)),
     )
 
 same-length : tie.Need-same-length Inv-loop μ-loop

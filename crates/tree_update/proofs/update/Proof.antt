@@ -4,12 +4,11 @@ use lib.ListN.{length, take, drop}
 use native.Mathlib.Omega.{arith}
 use Rattle.spec_orders.specs.Tree.{Forest}
 use Rattle.mark_words.specs.Marks.{marked}
-use Rattle.tree_tokens.specs.Tokens.{number, plain, encode}
+use Rattle.tree_tokens.specs.Tokens.{number, plain, encode, flat}
 use Rattle.tree_tokens.specs.Views.{state-of}
 use Rattle.tree_tokens.proofs.Writes.{wrote-none}
 use Rattle.tree_judge.specs.Judge.{judge}
 use Rattle.tree_judge.specs.Total.{first-reduced, totals}
-use Rattle.tree_pieces.specs.Writers.{flat}
 use Rattle.tree_pieces.proofs.Laws.{flat-nil, flat-tree}
 use Rattle.tree_update.specs.Update.{impossible, written}
 use Rattle.tree_update.proofs.Laws.{read-part}

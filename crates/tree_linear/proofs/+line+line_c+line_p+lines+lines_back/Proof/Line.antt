@@ -2,12 +2,12 @@
 use mathlib.Core.Path.{sym, ap, _∙_}
 use lib.ListN.{length}
 use native.Mathlib.Omega.{arith}
+use Rattle.tree_tokens.specs.Tokens.{flat}
 use Rattle.spec_orders.specs.Tree.{Forest}
 use Rattle.tree_tokens.specs.Views.{first-of}
 use Rattle.tree_tokens.proofs.Laws.{at-end}
 use Rattle.tree_tokens.proofs.Sequences.{plain-length}
 use Rattle.tree_tokens.proofs.Writes.{wrote-none}
-use Rattle.tree_pieces.specs.Writers.{flat}
 use Rattle.tree_pieces.proofs.Laws.{totals-none, flat-nil}
 use Rattle.tree_linear.proofs.Laws.{line-leaf, line-kept, line-of-c, line-of-p}
 use Prim.Native.Nat.{ℕ}

@@ -2,9 +2,9 @@
 use mathlib.Core.Path.{ap}
 use lib.ListN.{length}
 use native.Mathlib.Omega.{arith}
+use Rattle.tree_tokens.specs.Tokens.{flat}
 use Rattle.spec_orders.specs.Tree.{Forest}
 use Rattle.tree_judge.specs.Total.{totals}
-use Rattle.tree_pieces.specs.Writers.{flat}
 use Rattle.tree_linear.proofs.Laws.{c-turned, c-kept}
 use Prim.Native.Nat.{ℕ}
 use Rattle.tree_linear.proofs.line.Reads as line

@@ -4,10 +4,11 @@ use Prim.Native.Nat.{_+_, _≤_}
 use lib.ListN.{length}
 use native.Mathlib.Omega.{arith}
 use borrow.Author.Needs.{needs}
+use Rattle.tree_tokens.specs.Tokens.{flat}
 use Rattle.spec_orders.specs.Reduce.{pack}
 use Rattle.tree_tokens.proofs.Writes.{wrote-then}
 use Rattle.tree_judge.specs.Total.{whole-of, totals}
-use Rattle.tree_pieces.specs.Writers.{flat, with-state, from-partial, first-in-line, far}
+use Rattle.tree_pieces.specs.Writers.{with-state, from-partial, first-in-line, far}
 use Rattle.tree_linear.proofs.Laws.{p-split, p-length, near-small, far-small}
 use Prim.Native.Nat.{ℕ}
 use Rattle.tree_linear.proofs.line.Reads as line

@@ -6,13 +6,13 @@ use Prim.Native.Nat.{ℕ, _+_, _-_, _≤_}
 use lib.ListN.{length, take, drop, length-append, length-drop}
 use native.Mathlib.Omega.{arith}
 use borrow.Author.Needs.{needs}
-use Rattle.tree_tokens.specs.Tokens.{Judged, tree, plain, encode}
+use Rattle.tree_tokens.specs.Tokens.{Judged, tree, encode, flat}
 use Rattle.tree_tokens.specs.Views.{rest-of}
 use Rattle.spec_orders.proofs.ListLaws.{part-to-end}
 use Rattle.tree_tokens.proofs.Writes.{wrote-then}
 use Rattle.tree_spans.specs.Spans.{is-not, passing, beyond}
 use Rattle.tree_judge.specs.Total.{totals}
-use Rattle.tree_pieces.specs.Writers.{flat, first-in-line, all-in-line}
+use Rattle.tree_pieces.specs.Writers.{first-in-line, all-in-line}
 use Rattle.tree_pieces.proofs.Laws.{AtFirst, at-first, totals-none, flat-nil}
 use Rattle.tree_pieces.proofs.Walks.{passing-length}
 use Rattle.tree_pieces.proofs.States.{none-beyond, some-beyond}
@@ -49,7 +49,7 @@ room t c =
     omega (
       arith,
       c .before .before .before .pre .1 .0 .2,
-      ap length (lines-until (c .before .before .before .args .back) j) ∙ length-append (encode (plain (tree (passing (is-not 2) j)))) (text (c .before .before .before .args .back) (beyond (is-not 2) j)),
+      ap length (lines-until (c .before .before .before .args .back) j) ∙ length-append (flat (tree (passing (is-not 2) j))) (text (c .before .before .before .args .back) (beyond (is-not 2) j)),
       passing-length j (c .until .ensures .1 j (c .before .before .before .pre .1 .0 .1)) (c .until .ensures .0),
     )
 
@@ -148,7 +148,7 @@ pub lines-returns-2 : (t : ℕ) → lines-lts.Need-returns-2 (lines-calls t) (li
 lines-returns-2 t c = λ j e.
     let back = c .before .before .before .before .before .before .before .before .before .before .before .before .before .before .before .before .before .before .before .args .back in
     let k = beyond (is-not 2) j in
-    let a = encode (plain (tree (passing (is-not 2) j))) in
+    let a = flat (tree (passing (is-not 2) j)) in
     let y = others t (c .before .before .before .before .before .before .before .before .before .before .before .before .before .before .before .before) j e in
     rw (lines-until back j ∙ ap (λ (l : List ℕ). a ++ l) (lines-split back (head t (c .before .before .before .before .before .before .before .before .before .before) j e)) ∙ sym (append-assoc a (flat (first-in-line back (totals k))) (text back (rest-of k))))
     (wrote-then (wrote-then (c .before .before .before .before .before .before .before .before .before .before .before .before .before .strip .ensures .1 _ (its t (c .before .before .before .before .before .before .before .before .before .before .before .before .before .before .before .before) j e)) (c .before .before .before .before .before .before .before .line .ensures k y)) (c .before .before .lines .ensures _ (c .before .before .before .before .rest .ensures .1 k y)))

@@ -4,10 +4,11 @@ use Prim.Native.Nat.{_+_, _≤_}
 use lib.ListN.{length}
 use native.Mathlib.Omega.{arith}
 use borrow.Author.Needs.{needs}
+use Rattle.tree_tokens.specs.Tokens.{flat}
 use Rattle.tree_tokens.proofs.Laws.{at-end}
 use Rattle.tree_tokens.proofs.Writes.{wrote-none, wrote-then}
 use Rattle.tree_judge.specs.Total.{totals}
-use Rattle.tree_pieces.specs.Writers.{flat, first-in-line}
+use Rattle.tree_pieces.specs.Writers.{first-in-line}
 use Rattle.tree_pieces.proofs.Laws.{starts, totals-none, flat-nil}
 use Rattle.tree_linear.proofs.Laws.{lines-back-split, lines-back-length}
 use Prim.Native.Nat.{ℕ}

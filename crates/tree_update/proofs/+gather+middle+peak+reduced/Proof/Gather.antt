@@ -5,10 +5,11 @@ use Prim.Native.Nat.{_+_, _≤_}
 use lib.ListN.{length}
 use native.Mathlib.Omega.{arith}
 use borrow.Author.Needs.{needs}
+use Rattle.tree_tokens.specs.Tokens.{flat}
 use Rattle.spec_orders.specs.Tree.{Forest}
 use Rattle.tree_tokens.proofs.Writes.{wrote-then}
 use Rattle.tree_judge.specs.Total.{totals}
-use Rattle.tree_pieces.specs.Writers.{flat, from-partial, first-in-line, gathered}
+use Rattle.tree_pieces.specs.Writers.{from-partial, first-in-line, gathered}
 use Rattle.tree_update.proofs.Laws.{begins, read-part, fulls, second, between, beside, gather-none, gather-two, gather-one, gather-some, between-text, beside-text, between-sum, beside-sum, between-length, beside-length}
 use Prim.Native.Nat.{ℕ}
 use Rattle.tree_update.proofs.gather.Reads as gather

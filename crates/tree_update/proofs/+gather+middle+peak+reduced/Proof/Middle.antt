@@ -5,13 +5,12 @@ use Prim.Native.Nat.{ℕ, _+_, _-_, _≤_}
 use lib.ListN.{length, take, drop, length-append, length-drop}
 use native.Mathlib.Omega.{arith}
 use borrow.Author.Needs.{needs}
-use Rattle.tree_tokens.specs.Tokens.{Judged, j-nil, number, tree, plain, encode}
+use Rattle.tree_tokens.specs.Tokens.{Judged, j-nil, number, tree, encode, flat}
 use Rattle.tree_tokens.specs.Views.{state-of}
 use Rattle.spec_orders.proofs.ListLaws.{part-to-end}
 use Rattle.tree_tokens.proofs.Sequences.{encode-injective}
 use Rattle.tree_spans.specs.Spans.{is, passing, beyond}
 use Rattle.tree_judge.specs.Total.{middle-of, totals}
-use Rattle.tree_pieces.specs.Writers.{flat}
 use Rattle.tree_pieces.proofs.Walks.{passing-length}
 use Rattle.tree_pieces.proofs.States.{none-beyond, span-state}
 use Rattle.tree_update.proofs.Laws.{begins, begins-then, middle-none, middle-span}
@@ -47,7 +46,7 @@ others t c j e = part-to-end (c .before .before .before .before .args .x .now) (
 room : (t : ℕ) (c : middle-lts.After-span (middle-calls t) (middle-at t) middle.Post) → (c .span .result + length (text (beyond (is 0) (c .before .before .before .before .pre .1 .0 .0))) ≤ length (c .before .before .before .before .args .out .now)) × (length (text (beyond (is 0) (c .before .before .before .before .pre .1 .0 .0))) ≤ length (c .before .before .before .before .args .tmp .now))
 room t c =
     let j = c .before .before .before .before .pre .1 .0 .0 in
-    let n = ap length (middle-span j) ∙ length-append (encode (plain (tree (passing (is 0) j)))) (text (beyond (is 0) j)) in
+    let n = ap length (middle-span j) ∙ length-append (flat (tree (passing (is 0) j))) (text (beyond (is 0) j)) in
     let m = passing-length j (c .span .ensures .1 j (c .before .before .before .before .pre .1 .0 .1)) (c .span .ensures .0) in
     (omega (arith, c .before .before .before .before .pre .1 .0 .2, n, m), omega (arith, c .before .before .before .before .pre .1 .0 .3, n, m))
 

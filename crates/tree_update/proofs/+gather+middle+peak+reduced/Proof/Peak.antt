@@ -5,11 +5,11 @@ use Prim.Native.Nat.{_+_, _≤_}
 use lib.ListN.{length}
 use native.Mathlib.Omega.{arith}
 use borrow.Author.Needs.{needs}
-use Rattle.tree_tokens.specs.Tokens.{encode}
+use Rattle.tree_tokens.specs.Tokens.{encode, flat}
 use Rattle.tree_tokens.specs.Views.{rest-of}
 use Rattle.tree_tokens.proofs.Writes.{wrote-then}
 use Rattle.tree_judge.specs.Total.{totals}
-use Rattle.tree_pieces.specs.Writers.{flat, all-in-line}
+use Rattle.tree_pieces.specs.Writers.{all-in-line}
 use Rattle.tree_pieces.proofs.Laws.{starts}
 use Rattle.tree_update.proofs.Laws.{begins, begins-then, middle-last, middle-more, last-length, more-length}
 use Prim.Native.Nat.{ℕ}

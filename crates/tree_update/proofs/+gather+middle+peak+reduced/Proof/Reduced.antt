@@ -2,15 +2,17 @@
 use mathlib.Core.Path.{sym, ap, _∙_}
 use lib.ListN.{length}
 use native.Mathlib.Omega.{arith}
+use Rattle.tree_tokens.specs.Tokens.{flat}
 use Rattle.spec_orders.specs.Tree.{Forest}
 use Rattle.tree_tokens.specs.Views.{items-of}
-use Rattle.tree_pieces.specs.Writers.{flat}
 use Rattle.tree_update.proofs.Laws.{begins, begins-none, read-part, reduced-none, reduced-leaf, reduced-whole, reduced-c, reduced-p, kept-length, c-length, placed-ge}
 use Prim.Native.Nat.{ℕ}
 use Rattle.tree_update.proofs.gather.Reads as gather
 use Rattle.tree_update.proofs.middle.Reads as middle
 use Rattle.tree_update.proofs.reduced.Reads as reduced
 use Rattle.tree_update.proofs.+gather+middle+peak+reduced.Lts-reduced as reduced-lts
+use Rattle.tree_judge.specs.Total.{totals}
+use Rattle.tree_pieces.specs.Writers.{gathered}
 use Rattle.tree_pieces.proofs.among.Reads as among-reads
 use Rattle.tree_pieces.proofs.c_node.Reads as c-node-reads
 use Rattle.tree_tokens.proofs.first.Reads as first-reads
@@ -102,7 +104,7 @@ pub reduced-part-among-end : (t : ℕ) → reduced-lts.Need-part-among-end (redu
 reduced-part-among-end t c = let p = c .before .before .before .before .before .before .before .before .before .before .before .before .before .before .before .before .before .before .before .pre .1 .0 in let l = ap (λ (f : Forest). length (flat f)) (reduced-p (p .0) (λ h. c .before .before .before .before .before .before .before .before .before .before .before .before .before .if2 .left (c .before .before .before .before .before .before .before .before .before .before .before .before .before .before .shape .ensures (p .0) (p .1) ∙ h)) (λ h. c .before .before .before .before .before .before .before .before .before .before .if4 .left (c .before .before .before .before .before .before .before .before .before .before .before .before .before .before .shape .ensures (p .0) (p .1) ∙ h)) (λ h. omega (arith, h, c .before .before .before .before .before .before .before .before .before .before .before .before .state .ensures (p .0) (p .1), c .before .before .before .before .before .before .before .before .before .before .before .if3 .left))) in omega (arith, l, p .3, placed-ge (items-of (p .0)), c .before .before .before .before .before .before .gather .ensures _ (c .before .before .before .before .before .before .before .before .before .items2 .ensures .1 (p .0) (p .1)) .many, c .before .before .before .before .before .before .gather .kept .1 .0)
 
 pub reduced-among-requires : (t : ℕ) → reduced-lts.Need-among-requires (reduced-calls t) (reduced-at t) reduced.Post
-reduced-among-requires t c κs = let p = c .before .before .before .before .before .before .before .before .before .before .before .before .before .before .before .before .before .before .before .before .before .pre .1 .0 in let l = ap (λ (f : Forest). length (flat f)) (reduced-p (p .0) (λ h. c .before .before .before .before .before .before .before .before .before .before .before .before .before .before .before .if2 .left (c .before .before .before .before .before .before .before .before .before .before .before .before .before .before .before .before .shape .ensures (p .0) (p .1) ∙ h)) (λ h. c .before .before .before .before .before .before .before .before .before .before .before .before .if4 .left (c .before .before .before .before .before .before .before .before .before .before .before .before .before .before .before .before .shape .ensures (p .0) (p .1) ∙ h)) (λ h. omega (arith, h, c .before .before .before .before .before .before .before .before .before .before .before .before .before .before .state .ensures (p .0) (p .1), c .before .before .before .before .before .before .before .before .before .before .before .before .before .if3 .left))) in let q = read-part (c .before .before .before .before .before .before .before .before .gather .ensures _ (c .before .before .before .before .before .before .before .before .before .before .before .items2 .ensures .1 (p .0) (p .1))) in (_, _, c .before .before .before .items3 .ensures .1 (p .0) (p .1), q, omega (arith, ap length q, l, p .3, placed-ge (items-of (p .0)), c .before .before .before .items3 .ensures .0, c .before .before .before .before .before .before .before .before .before .before .before .before .before .before .before .before .before .before .before .before .before .pre .1), omega (arith, l, p .2, c .before .before .before .before .before .before .before .before .gather .kept .1 .1 .0))
+reduced-among-requires t c κs = let p = c .before .before .before .before .before .before .before .before .before .before .before .before .before .before .before .before .before .before .before .before .before .pre .1 .0 in let l = ap (λ (f : Forest). length (flat f)) (reduced-p (p .0) (λ h. c .before .before .before .before .before .before .before .before .before .before .before .before .before .before .before .if2 .left (c .before .before .before .before .before .before .before .before .before .before .before .before .before .before .before .before .shape .ensures (p .0) (p .1) ∙ h)) (λ h. c .before .before .before .before .before .before .before .before .before .before .before .before .if4 .left (c .before .before .before .before .before .before .before .before .before .before .before .before .before .before .before .before .shape .ensures (p .0) (p .1) ∙ h)) (λ h. omega (arith, h, c .before .before .before .before .before .before .before .before .before .before .before .before .before .before .state .ensures (p .0) (p .1), c .before .before .before .before .before .before .before .before .before .before .before .before .before .if3 .left))) in let q = read-part (c .before .before .before .before .before .before .before .before .gather .ensures _ (c .before .before .before .before .before .before .before .before .before .before .before .items2 .ensures .1 (p .0) (p .1))) in (_, gathered (totals (items-of (p .0))), c .before .before .before .items3 .ensures .1 (p .0) (p .1), q, omega (arith, ap length q, l, p .3, placed-ge (items-of (p .0)), c .before .before .before .items3 .ensures .0, c .before .before .before .before .before .before .before .before .before .before .before .before .before .before .before .before .before .before .before .before .before .pre .1), omega (arith, l, p .2, c .before .before .before .before .before .before .before .before .gather .kept .1 .1 .0))
 
 pub reduced-same-length-5 : (t : ℕ) → reduced-lts.Need-same-length-5 (reduced-calls t) (reduced-at t) reduced.Post
 reduced-same-length-5 t c = c .before .before .among .kept .1 .1 .0 ∙ c .before .before .before .before .before .before .before .before .before .before .before .gather .kept .1 .1 .0

@@ -1,0 +1,2 @@
+-- The sample of document 01 is listed as the paper prints it.
+pub mod Sample

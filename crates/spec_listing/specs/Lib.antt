@@ -1,0 +1,2 @@
+-- The listing of a ring file.
+pub mod Listing
