@@ -11,7 +11,7 @@ use Rattle.tree_update.proofs.gather.Reads as gather
 use Rattle.tree_update.proofs.middle.Reads as middle
 use Rattle.tree_update.proofs.reduced.Reads as reduced
 use Rattle.tree_update.proofs.+gather+middle+peak+reduced.Lts-reduced as reduced-lts
-use Rattle.tree_judge.specs.Total.{totals}
+use Rattle.tree_judge.specs.Total.{middle-of, totals}
 use Rattle.tree_pieces.specs.Writers.{gathered}
 use Rattle.tree_pieces.proofs.among.Reads as among-reads
 use Rattle.tree_pieces.proofs.c_node.Reads as c-node-reads
@@ -74,7 +74,7 @@ pub reduced-part-c-node-end : (t : ℕ) → reduced-lts.Need-part-c-node-end (re
 reduced-part-c-node-end t c = let p = c .before .before .before .before .before .before .before .before .before .before .before .before .before .before .before .before .before .before .pre .1 .0 in omega (arith, c-length (p .0) (sym (c .before .before .before .before .before .before .before .before .before .before .before .before .before .shape .ensures (p .0) (p .1)) ∙ c .before .before .before .before .before .before .before .before .before .if4 .taken) (λ h. omega (arith, h, c .before .before .before .before .before .before .before .before .before .before .before .state .ensures (p .0) (p .1), c .before .before .before .before .before .before .before .before .before .before .if3 .left)), p .3, c .before .before .before .before .before .middle .ensures _ (c .before .before .before .before .before .before .before .before .items .ensures .1 (p .0) (p .1)) .many, c .before .before .before .before .before .middle .kept .1 .0)
 
 pub reduced-c-node-requires : (t : ℕ) → reduced-lts.Need-c-node-requires (reduced-calls t) (reduced-at t) reduced.Post
-reduced-c-node-requires t c κs = let p = c .before .before .before .before .before .before .before .before .before .before .before .before .before .before .before .before .before .before .before .before .pre .1 .0 in let w = c .before .before .before .before .before .before .before .middle .ensures _ (c .before .before .before .before .before .before .before .before .before .before .items .ensures .1 (p .0) (p .1)) in let q = read-part w in let l = c-length (p .0) (sym (c .before .before .before .before .before .before .before .before .before .before .before .before .before .before .before .shape .ensures (p .0) (p .1)) ∙ c .before .before .before .before .before .before .before .before .before .before .before .if4 .taken) (λ h. omega (arith, h, c .before .before .before .before .before .before .before .before .before .before .before .before .before .state .ensures (p .0) (p .1), c .before .before .before .before .before .before .before .before .before .before .before .before .if3 .left)) in (_, q, omega (arith, ap length q, l, p .2, c .before .before .before .before .before .before .before .middle .kept .1 .1 .0), omega (arith, ap length q, l, p .2, c .before .before .before .before .before .before .before .before .before .before .before .before .before .before .before .before .before .before .before .before .pre .1 .2))
+reduced-c-node-requires t c κs = let p = c .before .before .before .before .before .before .before .before .before .before .before .before .before .before .before .before .before .before .before .before .pre .1 .0 in let w = c .before .before .before .before .before .before .before .middle .ensures _ (c .before .before .before .before .before .before .before .before .before .before .items .ensures .1 (p .0) (p .1)) in let q = read-part w in let l = c-length (p .0) (sym (c .before .before .before .before .before .before .before .before .before .before .before .before .before .before .before .shape .ensures (p .0) (p .1)) ∙ c .before .before .before .before .before .before .before .before .before .before .before .if4 .taken) (λ h. omega (arith, h, c .before .before .before .before .before .before .before .before .before .before .before .before .before .state .ensures (p .0) (p .1), c .before .before .before .before .before .before .before .before .before .before .before .before .if3 .left)) in (middle-of (totals (items-of (p .0))), q, omega (arith, ap length q, l, p .2, c .before .before .before .before .before .before .before .middle .kept .1 .1 .0), omega (arith, ap length q, l, p .2, c .before .before .before .before .before .before .before .before .before .before .before .before .before .before .before .before .before .before .before .before .pre .1 .2))
 
 pub reduced-same-length-3 : (t : ℕ) → reduced-lts.Need-same-length-3 (reduced-calls t) (reduced-at t) reduced.Post
 reduced-same-length-3 t c = c .before .before .c-node .kept .1 .0 ∙ c .before .before .before .before .before .before .before .before .before .before .middle .kept .1 .1 .0
