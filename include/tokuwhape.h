@@ -1,4 +1,4 @@
-/* The planner of a bag ring: the calls of the proved archive target/staticlib/libc_calls.a, which `rt staticlib c_calls` makes.
+/* The planner of a bag ring: the calls of the proved archive target/staticlib/libtokuwhape.a, which `tools/archive tokuwhape` makes.
  *
  * A ring is its number of bins n, a table of node records, a book of mark words and the count of groups in the book. The caller owns the
  * tables and lends them to each call, each as a pointer and its count of elements; a node table is counted in 16-bit numbers, 257 to a
@@ -54,14 +54,16 @@ typedef struct {
 /* Compiles only where a table of records is its numbers, with nothing between them. */
 typedef char tokuwhape_node_size[TOKUWHAPE_RECORDS * sizeof(tokuwhape_node) == TOKUWHAPE_NUMBERS * sizeof(uint16_t) ? 1 : -1];
 
-/* Opens a ring of n bins: writes the fresh tree and an empty book. *value: 0, the count of groups. */
+/* ---- The calls. Written by tools/outer.py. */
+
+/* Opens a ring of n bins: its node table gets the fresh tree, and its book is emptied. *value: the count of groups, 0. */
 uint8_t tokuwhape_open(size_t n, tokuwhape_node *nodes, size_t numbers, uint64_t *book, size_t words, size_t *value);
 
-/* Joins the list's group: writes the new tree, and the group to the book's next place. *value: the new count of groups. */
+/* Joins the list's group: the node table gets the new tree, and the group takes the book's next place. *value: the new count of groups. */
 uint8_t tokuwhape_join(size_t n, tokuwhape_node *nodes, size_t numbers, uint64_t *book, size_t words, size_t count, const uint16_t *list,
                        size_t length, size_t *value);
 
-/* Returns and tells in *value what joining the list's group would, and writes no table. */
+/* Answers as joining the list's group would, and changes nothing. */
 uint8_t tokuwhape_trial(size_t n, const tokuwhape_node *nodes, size_t numbers, const uint64_t *book, size_t words, size_t count,
                         const uint16_t *list, size_t length, size_t *value);
 
@@ -72,20 +74,22 @@ uint8_t tokuwhape_order(size_t n, const tokuwhape_node *nodes, size_t numbers, u
 uint8_t tokuwhape_aim(size_t n, const tokuwhape_node *nodes, size_t numbers, const uint64_t *book, size_t words, size_t count, size_t group,
                       size_t *value);
 
-/* Writes the numbers of the book's groups that are in conflict with the list's group, rising, then zeros, to the first 96 places of
- * conflicts: none where the whole book and the group can hang together. *value: how many numbers. */
+/* Writes the numbers of the book's groups in conflict with the list's group, rising, then zeros, to the first 96 places of conflicts: none
+ * where the whole book and the group can be consecutive together. *value: how many numbers. */
 uint8_t tokuwhape_conflict(size_t n, const uint64_t *book, size_t words, size_t count, const uint16_t *list, size_t length,
                            uint16_t *conflicts, size_t places, size_t *value);
 
 /* Writes the tree text, then zeros, to the first 2,048 bytes. *value: the length of the text. */
 uint8_t tokuwhape_write(size_t n, const tokuwhape_node *nodes, size_t numbers, uint8_t *bytes, size_t places, size_t *value);
 
-/* Reads a tree text of n bins, without zeros after it: writes its tree and an empty book. *value: 0, the count of groups. */
+/* Reads a tree text for n bins, lent without zeros after it: the node table gets its tree, and the book is emptied. *value: the count of
+ * groups, 0. */
 uint8_t tokuwhape_read(size_t n, tokuwhape_node *nodes, size_t numbers, uint64_t *book, size_t words, const uint8_t *text, size_t length,
                        size_t *value);
 
 /* Reads a ring file through. *value: how many names, which is n; *head: the bytes of the names line with its line end; *lines: how many
- * lines of values. Where it is refused (11), *value is the byte, and *head and *lines are 0. Call it first: the two below refuse nothing. */
+ * lines of values. Where it is refused (11), *value is the byte, and *head and *lines are 0. Call it first: the two below refuse
+ * nothing. */
 uint8_t tokuwhape_scan(const uint8_t *file, size_t length, size_t *head, size_t *lines, size_t *value);
 
 /* Returns the length, 1 to 8, of the name of bin k + 1 in a file that tokuwhape_scan accepts with more than k names. *start: its first
@@ -93,10 +97,12 @@ uint8_t tokuwhape_scan(const uint8_t *file, size_t length, size_t *head, size_t 
 size_t tokuwhape_name(const uint8_t *file, size_t length, size_t k, size_t *start);
 
 /* Writes the bins, rising, of value line `line`, from 0, to list and returns how many: of a file that tokuwhape_scan accepts with these
- * names and this head and with more than `line` lines. Of any bytes and any numbers the line is the 2 * names bytes from
- * head + line * 2 * names on. Where it does not stand whole in the file, names is above 256, or there are fewer than `names` places, it
- * writes nothing and returns 0. */
+ * names and this head and with more than `line` lines. Of any bytes and any numbers the line is the 2 * names bytes from head + line * 2 *
+ * names on. Where it does not stand whole in the file, names is above 256, or there are fewer than `names` places, it writes nothing and
+ * returns 0. */
 size_t tokuwhape_group(const uint8_t *file, size_t length, size_t names, size_t head, size_t line, uint16_t *list, size_t places);
+
+/* ---- End of what tools/outer.py writes. */
 
 #ifdef __cplusplus
 }

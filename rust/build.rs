@@ -8,7 +8,7 @@ fn main() {
     let archive = folder.join(format!("lib{links}.a"));
     println!("cargo:rerun-if-changed={}", archive.display());
     if !archive.exists() {
-        eprintln!("{} is missing: `rt staticlib {links}`, run at the repository's root, proves and makes it", archive.display());
+        eprintln!("{} is missing: `tools/archive {links}`, run at the repository's root, proves and makes it", archive.display());
         exit(1);
     }
     println!("cargo:rustc-link-search=native={}", folder.display());

@@ -1,7 +1,8 @@
 //! Safe calls to the proved planner of a bag ring.
 //!
-//! The functions of this crate pass lent tables on to the archive that `rt staticlib c_calls` makes; [`Ring`] owns its tables, and [`RingFile`]
-//! is a file that was read through first. What each call answers, refuses and writes is proved in the Rattle crate `c_calls`.
+//! The functions of this crate pass lent tables on to the archive that `tools/archive tokuwhape` makes; [`Ring`] owns its tables, and [`RingFile`]
+//! is a file that was read through first. What each call answers, refuses and writes is proved in the Rattle crates `c_update`, `c_order`,
+//! `c_conflict`, `c_text` and `c_file`.
 //!
 //! A ring is its number of leaves n (document 01's bins), a node table, a book of mark words and the count of groups in the book. Longer
 //! tables than the sizes below may be lent: what stands past the stated size is never touched. A refusal leaves every table as it was.

@@ -1,4 +1,5 @@
-//! The archive's functions, as include/tokuwhape.h declares them. A node table is counted in numbers of 16 bits, 257 to a record.
+//! The archive's functions, as include/tokuwhape.h declares them. A node table is counted in numbers of 16 bits, 257 to a record. Written
+//! by tools/outer.py.
 use crate::Node;
 
 extern "C" {

@@ -1,4 +1,4 @@
-// The ring file, read, with the answers as numbers.
+// The ring file, read, for C and Rust, with the answers as numbers.
 ghost use mathlib.Core.Path.{_≡_};
 ghost use mathlib.Core.List.{[], _∷_};
 ghost use Prim.Native.Nat.{_≤_};
@@ -9,7 +9,13 @@ use file_read::Scanned;
 
 // Reads a ring file. The value is how many names it has; the names line's bytes and the count of value lines are written too. Refused, with
 // 11: the value is the byte, and the other two are 0.
-pub fn scan(file: &[u8], head: &mut usize, lines: &mut usize, value: &mut usize) -> u8
+#[no_mangle]
+pub extern "C" fn tokuwhape_scan(
+    file: &[u8],
+    head: &mut usize,
+    lines: &mut usize,
+    value: &mut usize,
+) -> u8
     ensures { λ r. ⌜ Says (now (file .entry)) (r ∷ now (value .exit) ∷ now (head .exit) ∷ now (lines .exit) ∷ []) ⌝ }
 {
     let found = file_read::scan(file);
@@ -35,7 +41,8 @@ pub fn scan(file: &[u8], head: &mut usize, lines: &mut usize, value: &mut usize)
 
 // Where name number k, from 0, stands, word number k of the first line: returns how many bytes it has, and writes the first one's number. 0 and
 // 0 where there is no such word.
-pub fn name(file: &[u8], k: usize, start: &mut usize) -> usize
+#[no_mangle]
+pub extern "C" fn tokuwhape_name(file: &[u8], k: usize, start: &mut usize) -> usize
     ensures { λ r. ⌜ (now (start .exit) ≡ name-start (now (file .entry)) k) × (r ≡ length (name-in (now (file .entry)) k)) ⌝ }
 {
     let part = file_read::name_at(file, k);
@@ -43,11 +50,18 @@ pub fn name(file: &[u8], k: usize, start: &mut usize) -> usize
     part.length
 }
 
-// Writes the group of value line l, from 0, in a file with so many names, at most 256, and a names line of head bytes, to the start of the list: its
-// leaves, rising. Returns how many. Nothing is written where there is no such line, or the list has fewer places than there are names.
-pub fn group(file: &[u8], names: usize, head: usize, l: usize, list: &mut [u16]) -> usize
-    ensures { λ r. ⌜ Wrote (group-for (length (now (list .entry))) (now (file .entry)) names head l) (now (list .entry)) (now (list .exit)) r ⌝ }
+// Writes the group of value line `line`, from 0, in a file with so many names, at most 256, and a names line of head bytes, to the start of the list:
+// its leaves, rising. Returns how many. Nothing is written where there is no such line, or the list has fewer places than there are names.
+#[no_mangle]
+pub extern "C" fn tokuwhape_group(
+    file: &[u8],
+    names: usize,
+    head: usize,
+    line: usize,
+    list: &mut [u16],
+) -> usize
+    ensures { λ r. ⌜ Wrote (group-for (length (now (list .entry))) (now (file .entry)) names head line) (now (list .entry)) (now (list .exit)) r ⌝ }
     ensures { λ r. ⌜ r ≤ length (now (list .entry)) ⌝ }
 {
-    file_read::group_of(file, names, head, l, list)
+    file_read::group_of(file, names, head, line, list)
 }

@@ -1,19 +1,28 @@
-// The calls that answer from the standard order, on a node table of rows, with the answer as two numbers: the order itself, and the aim of a group.
-ghost use Prim.Native.Nat.{_/_};
-ghost use lib.ListN.{length};
+// The calls that write the standard order and find the aim of a group, for C and Rust, on a node table of rows of 257 numbers, one row a record. Each
+// returns 0, or the number of its refusal, and writes one number through `value`: its own answer; or the place or byte of the refusal, 0 where the
+// table names none. Written by tools/outer.py.
+ghost use Rattle.spec_calls.specs.Tables.{lent-rows, lent-book};
 ghost use Rattle.spec_calls.specs.Refusals.{reply};
 ghost use Rattle.spec_calls.specs.Promises.{OrderPromise, AimPromise};
 
-// Writes the standard order to the first n places of order. The value is n.
-pub fn order(n: usize, nodes: &[u16], order: &mut [u16], value: &mut usize) -> u8
-    ensures { λ r. ⌜ OrderPromise n (now (nodes .entry)) (length (now (nodes .entry)) / 257) (now (order .entry)) (now (order .exit)) (reply r (now (value .exit))) ⌝ }
+// Writes the standard order, from leaf 1, to the first n places of order. The value is n.
+#[no_mangle]
+pub extern "C" fn tokuwhape_order(
+    n: usize,
+    nodes: &[u16],
+    order: &mut [u16],
+    value: &mut usize,
+) -> u8
+    ensures { λ r. ⌜ OrderPromise (lent-rows n (now (nodes .entry))) (now (order .entry)) (now (order .exit)) (reply r (now (value .exit))) ⌝ }
 {
-    let answer = call_update::order(n, nodes, c_rows::records(nodes), order);
+    let have = c_rows::records(nodes);
+    let answer = call_order::order(n, nodes, have, order);
     spec_calls::code(answer, value)
 }
 
-// Finds the leaf at which the book's group with this number is aimed (document 01's aim), in the standard order. The value is the leaf.
-pub fn aim(
+// Finds the aim, in the standard order, of the book's group with this number from 1. The value is the leaf.
+#[no_mangle]
+pub extern "C" fn tokuwhape_aim(
     n: usize,
     nodes: &[u16],
     book: &[u64],
@@ -21,8 +30,9 @@ pub fn aim(
     group: usize,
     value: &mut usize,
 ) -> u8
-    ensures { λ r. ⌜ AimPromise n (now (nodes .entry)) (length (now (nodes .entry)) / 257) (now (book .entry)) count group (reply r (now (value .exit))) ⌝ }
+    ensures { λ r. ⌜ AimPromise (lent-rows n (now (nodes .entry))) (lent-book (now (book .entry)) count) group (reply r (now (value .exit))) ⌝ }
 {
-    let answer = call_order::aim(n, nodes, c_rows::records(nodes), book, count, group);
+    let have = c_rows::records(nodes);
+    let answer = call_order::aim(n, nodes, have, book, count, group);
     spec_calls::code(answer, value)
 }

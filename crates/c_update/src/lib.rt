@@ -1,13 +1,19 @@
-// The calls that open a ring, join a group and try one, on a node table of rows, with the answer as two numbers: each returns 0, or the number of its
-// refusal, and writes its own answer, or the place of the refusal, through `value`.
-ghost use Prim.Native.Nat.{_/_};
-ghost use lib.ListN.{length};
+// The calls that open a ring, join a group and try one, for C and Rust, on a node table of rows of 257 numbers, one row a record. Each returns 0, or
+// the number of its refusal, and writes one number through `value`: its own answer; or the place or byte of the refusal, 0 where the table names
+// none. Written by tools/outer.py.
+ghost use Rattle.spec_calls.specs.Tables.{lent-rows, lent-book};
 ghost use Rattle.spec_calls.specs.Refusals.{reply};
 ghost use Rattle.spec_calls.specs.Promises.{OpenPromise, JoinPromise, TrialPromise};
 
 // Opens a ring of n leaves: its node table gets the fresh tree, and its book is emptied. The value is the count of groups, 0.
-pub fn open(n: usize, nodes: &mut [u16], book: &mut [u64], value: &mut usize) -> u8
-    ensures { λ r. ⌜ OpenPromise n (now (nodes .entry)) (length (now (nodes .entry)) / 257) (now (book .entry)) (now (nodes .exit)) (now (book .exit)) (reply r (now (value .exit))) ⌝ }
+#[no_mangle]
+pub extern "C" fn tokuwhape_open(
+    n: usize,
+    nodes: &mut [u16],
+    book: &mut [u64],
+    value: &mut usize,
+) -> u8
+    ensures { λ r. ⌜ OpenPromise (lent-rows n (now (nodes .entry))) (lent-book (now (book .entry)) 0) (now (nodes .exit)) (now (book .exit)) (reply r (now (value .exit))) ⌝ }
 {
     let have = c_rows::records(nodes);
     let answer = call_update::open(n, nodes, have, book);
@@ -15,7 +21,8 @@ pub fn open(n: usize, nodes: &mut [u16], book: &mut [u64], value: &mut usize) ->
 }
 
 // Joins the list's group: the node table gets the new tree, and the group takes the book's next place. The value is the new count of groups.
-pub fn join(
+#[no_mangle]
+pub extern "C" fn tokuwhape_join(
     n: usize,
     nodes: &mut [u16],
     book: &mut [u64],
@@ -23,7 +30,7 @@ pub fn join(
     list: &[u16],
     value: &mut usize,
 ) -> u8
-    ensures { λ r. ⌜ JoinPromise n (now (nodes .entry)) (length (now (nodes .entry)) / 257) (now (book .entry)) count (now (list .entry)) (now (nodes .exit)) (now (book .exit)) (reply r (now (value .exit))) ⌝ }
+    ensures { λ r. ⌜ JoinPromise (lent-rows n (now (nodes .entry))) (lent-book (now (book .entry)) count) (now (list .entry)) (now (nodes .exit)) (now (book .exit)) (reply r (now (value .exit))) ⌝ }
 {
     let have = c_rows::records(nodes);
     let answer = call_update::join(n, nodes, have, book, count, list);
@@ -31,7 +38,8 @@ pub fn join(
 }
 
 // Answers as joining the list's group would, and changes nothing.
-pub fn trial(
+#[no_mangle]
+pub extern "C" fn tokuwhape_trial(
     n: usize,
     nodes: &[u16],
     book: &[u64],
@@ -39,8 +47,9 @@ pub fn trial(
     list: &[u16],
     value: &mut usize,
 ) -> u8
-    ensures { λ r. ⌜ TrialPromise n (now (nodes .entry)) (length (now (nodes .entry)) / 257) (now (book .entry)) count (now (list .entry)) (reply r (now (value .exit))) ⌝ }
+    ensures { λ r. ⌜ TrialPromise (lent-rows n (now (nodes .entry))) (lent-book (now (book .entry)) count) (now (list .entry)) (reply r (now (value .exit))) ⌝ }
 {
-    let answer = call_update::trial(n, nodes, c_rows::records(nodes), book, count, list);
+    let have = c_rows::records(nodes);
+    let answer = call_update::trial(n, nodes, have, book, count, list);
     spec_calls::code(answer, value)
 }

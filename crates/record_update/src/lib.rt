@@ -1,13 +1,16 @@
-// The calls that open a ring, join a group and try one, on a node table of records.
+// The calls that open a ring, join a group and try one, on a node table of records. Written by tools/outer.py.
+ghost use Rattle.spec_calls.specs.Tables.{lent-book};
 ghost use Rattle.spec_calls.specs.Refusals.{report};
-ghost use Rattle.record_left.specs.Records.{OpenRecords, JoinRecords, TrialRecords};
+ghost use Rattle.spec_calls.specs.Promises.{OpenPromise, JoinPromise, TrialPromise};
+ghost use Rattle.record_copy.specs.Rows.{node-rows};
+ghost use Rattle.record_left.specs.Records.{lent-records, Left};
 use record_copy::Node;
 use spec_calls::Answer;
 
 // Opens a ring of n leaves: its node table gets the fresh tree, and its book is emptied. Answers the count of groups, 0; or refuses (1, 2), and
-// leaves both tables as they were.
+// leaves every table as it was.
 pub fn open(n: usize, nodes: &mut [Node], book: &mut [u64]) -> Answer
-    ensures { λ r. ⌜ OpenRecords n (now (nodes .entry)) (now (book .entry)) (now (nodes .exit)) (now (book .exit)) (report r) ⌝ }
+    ensures { λ r. ⌜ OpenPromise (lent-records n (now (nodes .entry))) (lent-book (now (book .entry)) 0) (node-rows (now (nodes .exit))) (now (book .exit)) (report r) × Left (now (nodes .entry)) (now (nodes .exit)) (report r) ⌝ }
 {
     let mut flat = [0u16; 65792];
     let have = record_copy::load(nodes, &mut flat);
@@ -16,10 +19,10 @@ pub fn open(n: usize, nodes: &mut [Node], book: &mut [u64]) -> Answer
     r
 }
 
-// Joins the list's group: the node table gets the new tree, and the group takes the book's next place. Answers the new count of groups; or
-// refuses (1 to 8), and leaves both tables as they were.
+// Joins the list's group: the node table gets the new tree, and the group takes the book's next place. Answers the new count of groups; or refuses (1
+// to 8), and leaves every table as it was.
 pub fn join(n: usize, nodes: &mut [Node], book: &mut [u64], count: usize, list: &[u16]) -> Answer
-    ensures { λ r. ⌜ JoinRecords n (now (nodes .entry)) (now (book .entry)) count (now (list .entry)) (now (nodes .exit)) (now (book .exit)) (report r) ⌝ }
+    ensures { λ r. ⌜ JoinPromise (lent-records n (now (nodes .entry))) (lent-book (now (book .entry)) count) (now (list .entry)) (node-rows (now (nodes .exit))) (now (book .exit)) (report r) × Left (now (nodes .entry)) (now (nodes .exit)) (report r) ⌝ }
 {
     let mut flat = [0u16; 65792];
     let have = record_copy::load(nodes, &mut flat);
@@ -30,7 +33,7 @@ pub fn join(n: usize, nodes: &mut [Node], book: &mut [u64], count: usize, list: 
 
 // Answers as joining the list's group would, and changes nothing.
 pub fn trial(n: usize, nodes: &[Node], book: &[u64], count: usize, list: &[u16]) -> Answer
-    ensures { λ r. ⌜ TrialRecords n (now (nodes .entry)) (now (book .entry)) count (now (list .entry)) (report r) ⌝ }
+    ensures { λ r. ⌜ TrialPromise (lent-records n (now (nodes .entry))) (lent-book (now (book .entry)) count) (now (list .entry)) (report r) ⌝ }
 {
     let mut flat = [0u16; 65792];
     let have = record_copy::load(nodes, &mut flat);

@@ -1,4 +1,4 @@
--- The two calls of an exported function over a slice of records, each as one step of a walk: `ring`'s own call (`answers`), and `code` (`codes`).
+-- The two calls of an exported function over a slice of records, each as one step of a walk: that of `record_calls` (`answers`), and `code` (`codes`).
 -- `answers` has at the head of the context X, the tokens and what is had of every parameter but `value`, and leaves X′; `codes` has [the token of
 -- value's lifetime; value], and leaves [the token; value's last number]. The rest of the context is as it was.
 -- Assumes `Given`.

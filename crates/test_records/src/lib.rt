@@ -1,19 +1,22 @@
-// The calls of crate `ring` on node records, for tests from C and Rust. Each returns 0, or the number of its refusal, and writes one number through
-// `value`: its own answer; or the place or byte of the refusal, 0 where the table names none.
+// The calls of crate `record_calls` on node records, for tests from C and Rust. Each returns 0, or the number of its refusal, and writes one number
+// through `value`: its own answer; or the place or byte of the refusal, 0 where the table names none. Written by tools/outer.py.
+ghost use Rattle.spec_calls.specs.Tables.{lent-book};
 ghost use Rattle.spec_calls.specs.Refusals.{reply};
-ghost use Rattle.record_left.specs.Records.{OpenRecords, JoinRecords, TrialRecords, OrderRecords, AimRecords, WriteRecords, ReadRecords};
+ghost use Rattle.spec_calls.specs.Promises.{OpenPromise, JoinPromise, TrialPromise, OrderPromise, AimPromise, WritePromise, ReadPromise};
+ghost use Rattle.record_copy.specs.Rows.{node-rows};
+ghost use Rattle.record_left.specs.Records.{lent-records, Left};
 use record_copy::Node;
 
-// Opens a ring of n leaves: `ring::open`. The value is the count of groups, 0.
+// Opens a ring of n leaves: its node table gets the fresh tree, and its book is emptied. The value is the count of groups, 0.
 #[no_mangle]
 pub extern "C" fn ring_open(n: usize, nodes: &mut [Node], book: &mut [u64], value: &mut usize) -> u8
-    ensures { λ r. ⌜ OpenRecords n (now (nodes .entry)) (now (book .entry)) (now (nodes .exit)) (now (book .exit)) (reply r (now (value .exit))) ⌝ }
+    ensures { λ r. ⌜ OpenPromise (lent-records n (now (nodes .entry))) (lent-book (now (book .entry)) 0) (node-rows (now (nodes .exit))) (now (book .exit)) (reply r (now (value .exit))) × Left (now (nodes .entry)) (now (nodes .exit)) (reply r (now (value .exit))) ⌝ }
 {
     let answer = record_calls::open(n, nodes, book);
     spec_calls::code(answer, value)
 }
 
-// Joins the list's group: `ring::join`. The value is the new count of groups.
+// Joins the list's group: the node table gets the new tree, and the group takes the book's next place. The value is the new count of groups.
 #[no_mangle]
 pub extern "C" fn ring_join(
     n: usize,
@@ -23,13 +26,13 @@ pub extern "C" fn ring_join(
     list: &[u16],
     value: &mut usize,
 ) -> u8
-    ensures { λ r. ⌜ JoinRecords n (now (nodes .entry)) (now (book .entry)) count (now (list .entry)) (now (nodes .exit)) (now (book .exit)) (reply r (now (value .exit))) ⌝ }
+    ensures { λ r. ⌜ JoinPromise (lent-records n (now (nodes .entry))) (lent-book (now (book .entry)) count) (now (list .entry)) (node-rows (now (nodes .exit))) (now (book .exit)) (reply r (now (value .exit))) × Left (now (nodes .entry)) (now (nodes .exit)) (reply r (now (value .exit))) ⌝ }
 {
     let answer = record_calls::join(n, nodes, book, count, list);
     spec_calls::code(answer, value)
 }
 
-// Answers as joining the list's group would, and changes nothing: `ring::trial`.
+// Answers as joining the list's group would, and changes nothing.
 #[no_mangle]
 pub extern "C" fn ring_trial(
     n: usize,
@@ -39,22 +42,22 @@ pub extern "C" fn ring_trial(
     list: &[u16],
     value: &mut usize,
 ) -> u8
-    ensures { λ r. ⌜ TrialRecords n (now (nodes .entry)) (now (book .entry)) count (now (list .entry)) (reply r (now (value .exit))) ⌝ }
+    ensures { λ r. ⌜ TrialPromise (lent-records n (now (nodes .entry))) (lent-book (now (book .entry)) count) (now (list .entry)) (reply r (now (value .exit))) ⌝ }
 {
     let answer = record_calls::trial(n, nodes, book, count, list);
     spec_calls::code(answer, value)
 }
 
-// Writes the standard order to the first n places of order: `ring::order`. The value is n.
+// Writes the standard order, from leaf 1, to the first n places of order. The value is n.
 #[no_mangle]
 pub extern "C" fn ring_order(n: usize, nodes: &[Node], order: &mut [u16], value: &mut usize) -> u8
-    ensures { λ r. ⌜ OrderRecords n (now (nodes .entry)) (now (order .entry)) (now (order .exit)) (reply r (now (value .exit))) ⌝ }
+    ensures { λ r. ⌜ OrderPromise (lent-records n (now (nodes .entry))) (now (order .entry)) (now (order .exit)) (reply r (now (value .exit))) ⌝ }
 {
     let answer = record_calls::order(n, nodes, order);
     spec_calls::code(answer, value)
 }
 
-// The leaf at which the book's group with this number is aimed: `ring::aim`. The value is the leaf.
+// Finds the aim, in the standard order, of the book's group with this number from 1. The value is the leaf.
 #[no_mangle]
 pub extern "C" fn ring_aim(
     n: usize,
@@ -64,22 +67,23 @@ pub extern "C" fn ring_aim(
     group: usize,
     value: &mut usize,
 ) -> u8
-    ensures { λ r. ⌜ AimRecords n (now (nodes .entry)) (now (book .entry)) count group (reply r (now (value .exit))) ⌝ }
+    ensures { λ r. ⌜ AimPromise (lent-records n (now (nodes .entry))) (lent-book (now (book .entry)) count) group (reply r (now (value .exit))) ⌝ }
 {
     let answer = record_calls::aim(n, nodes, book, count, group);
     spec_calls::code(answer, value)
 }
 
-// Writes the tree text to the first 2,048 bytes, zeros after it: `ring::write`. The value is its length.
+// Writes the tree text, then zeros, to the first 2,048 bytes. The value is the length of the text.
 #[no_mangle]
 pub extern "C" fn ring_write(n: usize, nodes: &[Node], bytes: &mut [u8], value: &mut usize) -> u8
-    ensures { λ r. ⌜ WriteRecords n (now (nodes .entry)) (now (bytes .entry)) (now (bytes .exit)) (reply r (now (value .exit))) ⌝ }
+    ensures { λ r. ⌜ WritePromise (lent-records n (now (nodes .entry))) (now (bytes .entry)) (now (bytes .exit)) (reply r (now (value .exit))) ⌝ }
 {
     let answer = record_calls::write(n, nodes, bytes);
     spec_calls::code(answer, value)
 }
 
-// Reads a tree text for n leaves: `ring::read`. The value is the count of groups, 0.
+// Reads a tree text for n leaves, lent without zeros after it: the node table gets its tree, and the book is emptied. The value is the count of
+// groups, 0.
 #[no_mangle]
 pub extern "C" fn ring_read(
     n: usize,
@@ -88,7 +92,7 @@ pub extern "C" fn ring_read(
     text: &[u8],
     value: &mut usize,
 ) -> u8
-    ensures { λ r. ⌜ ReadRecords n (now (nodes .entry)) (now (book .entry)) (now (text .entry)) (now (nodes .exit)) (now (book .exit)) (reply r (now (value .exit))) ⌝ }
+    ensures { λ r. ⌜ ReadPromise (lent-records n (now (nodes .entry))) (lent-book (now (book .entry)) 0) (now (text .entry)) (node-rows (now (nodes .exit))) (now (book .exit)) (reply r (now (value .exit))) × Left (now (nodes .entry)) (now (nodes .exit)) (reply r (now (value .exit))) ⌝ }
 {
     let answer = record_calls::read(n, nodes, book, text);
     spec_calls::code(answer, value)

@@ -1,4 +1,4 @@
-//! The calls of the Rattle crate `record_calls`, which are lent node records, from the archive that `rt staticlib test_records` makes.
+//! The calls of the Rattle crate `record_calls`, which are lent node records, from the archive that `tools/archive test_records` makes.
 mod symbols;
 
 /// A node record; its fields are described in docs/NODE-TABLE.md.

@@ -1,4 +1,4 @@
-//! The archive's functions. A node table is counted in records.
+//! The archive's functions. A node table is counted in records. Written by tools/outer.py.
 use crate::Node;
 
 extern "C" {

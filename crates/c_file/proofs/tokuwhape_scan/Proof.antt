@@ -1,6 +1,6 @@
 use borrow.Author.Needs.{needs}
-use Rattle.c_file.proofs.scan.Statement.{statement}
-use Rattle.c_file.proofs.scan.Tie as tie
+use Rattle.c_file.proofs.tokuwhape_scan.Statement.{statement}
+use Rattle.c_file.proofs.tokuwhape_scan.Tie as tie
 use denote.Ref.{now}
 use Rattle.c_file.proofs.Coding.{ring-said, refused-said}
 
@@ -10,8 +10,8 @@ returns c = ring-said (now (c .before .before .before .before .before .args .fil
 returns-2 : tie.Need-returns-2
 returns-2 c = refused-said (now (c .before .before .before .before .before .before .before .args .file)) (c .before .before .before .before .before .scan .result) (c .before .before .before .before .before .scan .ensures) (c .number .result) (c .before .place .result) (c .before .before .before .found2 .given .0 .0) (c .before .before .before .found2 .given .1) (c .number .ensures) (c .before .place .ensures)
 
-pub scan-spec : {M : Type 1} → statement M
-scan-spec =
+pub tokuwhape-scan-spec : {M : Type 1} → statement M
+tokuwhape-scan-spec =
     tie.close
     (tie.spec
     (λ c κs. search needs)

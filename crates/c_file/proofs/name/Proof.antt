@@ -1,9 +1,0 @@
-use borrow.Author.Needs.{needs}
-use Rattle.c_file.proofs.name.Statement.{statement}
-use Rattle.c_file.proofs.name.Tie as tie
-
-returns : tie.Need-returns
-returns c = c .name-at .ensures
-
-pub name-spec : {M : Type 1} → statement M
-name-spec = tie.close (tie.spec (λ c κs. search needs) returns)

@@ -1,0 +1,170 @@
+"""The table of calls: each call of document 01 on a ring or on a ring file, once. tools/outer.py writes the outer layers from it."""
+from typing import NamedTuple
+
+# What a call is lent: a number, by its type; or a table, by the type of its entries.
+NUMBERS = {
+    "n": "usize",
+    "count": "usize",
+    "group": "usize",
+    "value": "usize",
+    "k": "usize",
+    "names": "usize",
+    "head": "usize",
+    "lines": "usize",
+    "line": "usize",
+    "start": "usize",
+}
+TABLES = {
+    "nodes": "Node",
+    "book": "u64",
+    "list": "u16",
+    "order": "u16",
+    "conflicts": "u16",
+    "bytes": "u8",
+    "text": "u8",
+    "file": "u8",
+}
+
+# A promise is over what is lent, in sequence, then each written table as it is left, then what is returned. A node table stands there as one
+# record with these numbers before it, a book with these after it, 0 for one that the call is not lent.
+OF_NODES = ["n"]
+OF_BOOK = ["count"]
+
+# The crates of the calls on a ring, c_NAME and record_NAME: what their calls do.
+CRATES = {
+    "update": "The calls that open a ring, join a group and try one",
+    "order": "The calls that write the standard order and find the aim of a group",
+    "conflict": "The call that lists the groups in conflict",
+    "text": "The calls that write and read the tree text",
+}
+
+
+class Call(NamedTuple):
+    """A call on a ring."""
+
+    name: str
+    crate: str  # of CRATES
+    rows: str  # the crate that has it on rows
+    promise: str  # of spec_calls/specs/Promises
+    lent: str  # what it is lent, in sequence, `!` at what it writes
+    does: str
+    value: str = ""  # what it answers, where `does` does not tell it
+    refuses: str = ""
+
+
+class FileCall(NamedTuple):
+    """A call on a ring file. It stands in crate c_file, by hand."""
+
+    name: str
+    lent: str
+    result: str
+    does: str
+
+
+RING = [
+    Call(
+        name="open",
+        crate="update",
+        rows="call_update",
+        promise="OpenPromise",
+        lent="n nodes! book!",
+        does="Opens a ring of n leaves: its node table gets the fresh tree, and its book is emptied.",
+        value="the count of groups, 0",
+        refuses="1, 2",
+    ),
+    Call(
+        name="join",
+        crate="update",
+        rows="call_update",
+        promise="JoinPromise",
+        lent="n nodes! book! count list",
+        does="Joins the list's group: the node table gets the new tree, and the group takes the book's next place.",
+        value="the new count of groups",
+        refuses="1 to 8",
+    ),
+    Call(
+        name="trial",
+        crate="update",
+        rows="call_update",
+        promise="TrialPromise",
+        lent="n nodes book count list",
+        does="Answers as joining the list's group would, and changes nothing.",
+    ),
+    Call(
+        name="order",
+        crate="order",
+        rows="call_order",
+        promise="OrderPromise",
+        lent="n nodes order!",
+        does="Writes the standard order, from leaf 1, to the first n places of order.",
+        value="n",
+        refuses="1, 2, 3",
+    ),
+    Call(
+        name="aim",
+        crate="order",
+        rows="call_order",
+        promise="AimPromise",
+        lent="n nodes book count group",
+        does="Finds the aim, in the standard order, of the book's group with this number from 1.",
+        value="the leaf",
+        refuses="1, 2, 3, 9, 10",
+    ),
+    Call(
+        name="conflict",
+        crate="conflict",
+        rows="call_conflict",
+        promise="ConflictPromise",
+        lent="n book count list conflicts!",
+        does="Writes the numbers of the book's groups in conflict with the list's group, rising, then zeros, to the first 96 places of conflicts: "
+        "none where the whole book and the group can be consecutive together.",
+        value="how many numbers",
+        refuses="1 to 6",
+    ),
+    Call(
+        name="write",
+        crate="text",
+        rows="call_text",
+        promise="WritePromise",
+        lent="n nodes bytes!",
+        does="Writes the tree text, then zeros, to the first 2,048 bytes.",
+        value="the length of the text",
+        refuses="1, 2, 3",
+    ),
+    Call(
+        name="read",
+        crate="text",
+        rows="call_text",
+        promise="ReadPromise",
+        lent="n nodes! book! text",
+        does="Reads a tree text for n leaves, lent without zeros after it: the node table gets its tree, and the book is emptied.",
+        value="the count of groups, 0",
+        refuses="1, 2, 12",
+    ),
+]
+
+FILE = [
+    FileCall(
+        name="scan",
+        lent="file head! lines! value!",
+        result="u8",
+        does="Reads a ring file through. *value: how many names, which is n; *head: the bytes of the names line with its line end; *lines: how many "
+        "lines of values. Where it is refused (11), *value is the byte, and *head and *lines are 0. Call it first: the two below refuse nothing.",
+    ),
+    FileCall(
+        name="name",
+        lent="file k start!",
+        result="usize",
+        does="Returns the length, 1 to 8, of the name of leaf k + 1 in a file that tokuwhape_scan accepts with more than k names. *start: its first "
+        "byte. Of any bytes and any k it is word k, from 0, of the first line, parted at spaces; 0 and *start 0 where there is no such word.",
+    ),
+    FileCall(
+        name="group",
+        lent="file names head line list!",
+        result="usize",
+        does="Writes the leaves, rising, of value line `line`, from 0, to list and returns how many: of a file that tokuwhape_scan accepts with these "
+        "names and this head and with more than `line` lines. Of any bytes and any numbers the line is the 2 * names bytes from "
+        "head + line * 2 * names on. Where it does not stand whole in the file, names is above 256, or there are fewer than `names` places, it "
+        "writes nothing and returns 0.",
+    ),
+]

@@ -1,0 +1,166 @@
+"""The walk of a function of crate test_records, over its proofs/Steps."""
+from layers.table import on_records
+from layers.text import MADE, imported
+from layers.walk import ANSWER, GIVEN, LAWFUL, MEMORY, USES, Context, Value, Walk, at, nest, operands, product, values
+
+
+class Coded(Walk):
+    """{ let answer = record_calls::NAME(..); code(answer, value) }"""
+
+    def __init__(self, call, home):
+        super().__init__(call, "test_records", "ring_" + call.name, False)
+        self.home = home
+        self.value = Value(len(self.slots), len(self.tables))
+        self.bind(self.slots + [self.value])
+        self.core = (nest(s.lft for s in self.tables), nest(s.share for s in self.tables), nest(s.arg for s in self.slots), values(s.value for s in self.slots))
+        # the answer, and each last list
+        self.R = "Answer × " + product(s.list for s in self.written)
+
+    def last(self, r, s):
+        return at(f"{r} .1", self.written.index(s))
+
+    def ensured(self, r, said):
+        named = {s.name: s for s in self.slots}
+        return on_records(self.call, lambda p: p.name, lambda p: f"({self.last(r, named[p.name])})", said)
+
+    def stated(self):
+        """What the call is passed, what it leaves, and what it says."""
+        had = rest = "ftrue"
+        for s in reversed(self.tables):
+            had = f"fsep (flft {s.lft} {s.share}) ({had})"
+            if s.mut:
+                rest = f"fsep (finally {s.row} ({s.arg} .name) ({self.last('r', s)})) ({rest})"
+            rest = f"fsep (flft {s.lft} {s.share}) ({rest})"
+        rows = " ∷ ".join([s.type for s in self.slots] + ["[]"])
+        yield "  -- what the call is passed, what it leaves, and what it says"
+        yield "  abbrev to-call : Call 𝓤 H A mem run .Ghost"
+        yield "  to-call = (({}, {}, tt, {}, {}), tt)\n".format(*self.core)
+        yield f"  abbrev Had : Fml\n  Had = fsep ({had}) (owns ({rows}) {self.core[2]} {self.core[3]})\n"
+        yield f"  abbrev Rest : {self.R} → Fml\n  Rest r = {rest}\n"
+        yield f"  abbrev Ensured : {self.R} → Reply → Type 0\n  Ensured r said = {self.ensured('r', 'said')}\n"
+        lengths = "".join(f"(length ({self.last('r', s)}) ≡ length {s.name}) × (" for s in self.written)
+        yield f"  abbrev Said : {self.R} → Val → Type 0"
+        yield f"  Said r w = Is {ANSWER} (r .0) (w ∷ []) × ({lengths}Ensured r (report (r .0)))" + ")" * len(self.written) + "\n"
+
+    def said(self):
+        ws = product(s.list if s.mut else "Unit {0}" for s in self.slots)
+        shown = "(r, " + nest(at("ws", s.i) for s in self.written) + ")"
+        says = f"Ensured {shown} (report r)"
+        told = f"λ (r : {self.R}). sep 𝓤 (sem 𝓤 H A (Rest r)) (fact 𝓤 (Said r w))"
+        c = Context(["lasts", "rest"])
+        for s in self.slots:
+            c.split("fsplit", "lasts", "one", "lasts")
+            if s.mut:
+                c.split("fsplit", "one", "f-" + s.name, "eq")
+                c.move("eq")
+                c.say(f"feqL ! (λ m-{s.name}.")
+                c.items.pop(0)
+            else:
+                c.drop("one")
+        c.drop("lasts")
+        c.split("split", "rest", "toks", "result")
+        c.move("result")
+        c.say(f"facts ! {ANSWER} (Is {ANSWER}) (shows 𝓤 H A {ANSWER}) r (w ∷ []) (λ is.")
+        c.items.pop(0)
+        c.drained("toks", "split", ["t-" + s.name for s in self.tables])
+        c.say(f"at-once ! $ show ! ({told}) {shown} $ says ! {nest(['is'] + [f'm-{s.name}' for s in self.written], 'e')} $")
+        c.nothing("all")
+        for s in reversed(self.tables):
+            if s.mut:
+                c.join("fjoin", "f-" + s.name, "all", "all")
+            c.join("fjoin", "t-" + s.name, "all", "all")
+        κs, _, args, _ = self.core
+        yield f"  said : (w : Val) → ent 𝓤 (Call 𝓤 H A mem run .post to-call w) (H .⇛ (ex 𝓤 ({told})))"
+        yield "  said w ="
+        lines = [
+            "qed W (raw (Call 𝓤 H A mem run .post to-call w) ∷ []) ∵ updating ! $",
+            f"use1 W (later (some (λ (r : Answer). (({self.tokens(self.tables)}) ⊛ ‵ ({ANSWER} .own r (w ∷ []))) ⊛ raw (ensured 𝓤 H A call.ended (call.clauses 𝓤 H A mem run) {κs} {args} tt r)))) (id⊢ 𝓤 _) $ await ! tt $ pick ! (λ r.",
+            f"split ! $ move ! (1 ∷ []) $ use1 W (some (λ (ws : {ws}). ‵ (lasts call.ended {κs} {args} ws) ⊛ raw (fact 𝓤 ({says})))) (id⊢ 𝓤 _) $ pick ! (λ ws.",
+            f"split ! $ move ! (1 ∷ []) $ heard ! ({says}) (λ e. {c.line()} done !",
+        ]
+        lines[-1] += ")" * sum(t.count("(") - t.count(")") for t in lines)
+        yield "\n".join("      " + t for t in lines) + "\n"
+
+    def numbered(self):
+        """The locals: the result, the parameters, the answer, two for each `&mut` lent again, and `value` lent again."""
+        self.answer = len(self.all) + 1
+        self.lends = {s.name: self.answer + 1 + 2 * i for i, s in enumerate(self.written)}
+        self.number = self.answer + 1 + 2 * len(self.written)
+        self.locals = self.number + 1
+
+    def together(self):
+        """The parameters but `value` are put together as the call asks for them (X)."""
+        c = self.c
+        tokens, owned = [f"t-{s.name}" for s in self.tables], [f"o-{s.name}" for s in self.slots]
+        c.drained("toks", "split", tokens + ["t-value"])
+        c.drained("owns", "fsplit", owned + ["o-value"])
+        c.gathered("X", "fjoin", owned)
+        c.gathered("toks", "fjoin", tokens)
+        c.join("fjoin", "toks", "X", "X")
+        yield c.line()
+
+    def called(self):
+        """Each `&mut` is lent again, then the call and `code`; the result is returned."""
+        c = self.c
+        for s in self.written:
+            yield from self.again(s, self.lends[s.name])
+        reads = [self.place(self.lends[s.name] + 1 if s.mut else 1 + s.i) for s in self.slots]
+        yield f"answers ! fm (Call 𝓤 H A mem run) known-call Said Had Rest to-call (asks-nothing 𝓤 _) said (λ i. {operands(reads)}) (λ x u h."
+        c.items[0] = "left"
+        yield f"land ! (from ! (stop !)) (init ! {self.place(self.answer)} refl ({LAWFUL} .typed (x .0) _ (h .0) .0)) $"
+        c.say(f"assigns ! (addr ! (from ! (hop ! (look ! {self.place(1 + self.value.i)} refl) (stop !)))) (from ! (stop !)) (init ! {self.place(self.number)} refl (tt, tt)) $")
+        c.move("t-value", "o-value")
+        yield c.line()
+        reads = [self.place(self.answer) - 1, self.place(self.number) - 1]
+        yield f"codes mem run ! fm known-code (named {self.value.j}) κ q b o γ v (x .0) u (h .0) (λ i. {operands(reads)}) (λ r v′ w is coded."
+        c.say(f"land ! (from ! (stop !)) (init ! {self.place(0)} refl (uint-lawful 𝓤 H A W w8 .typed r _ is .0)) $ returns ! (look ! {self.place(0)} refl) $")
+        for k in range(self.locals - 1, -1, -1):
+            c.say(f"forget ! {self.place(k)} refl $")
+        yield c.line()
+
+    def ended(self):
+        """The last values and the contract; then the tokens and what is left are given back."""
+        c = self.c
+        exits = [self.last("x", s) if s.mut else "tt" for s in self.slots] + ["v′"]
+        fits = [at("h .1", self.written.index(s)) if s.mut else "tt" for s in self.slots] + ["tt"]
+        yield from self.ends("w", "r", exits, fits, f"subst (Ensured x) (sym coded) (h .1{' .1' * len(self.written)})")
+        c.drained("left", "fsplit", [f"{z}-{s.name}" for s in self.tables for z in ("to" if s.mut else "t")])
+        c.gathered("toks", "join", [f"t-{s.name}" for s in self.tables] + ["t-value"])
+        c.frame("toks")
+        yield from self.has("u8 (Is u8) (uint-makes 𝓤 H A W w8) r _ is")
+
+    def imports(self):
+        yield USES
+        yield "use Rattle.spec_calls.specs.Tables.{lent-book}"
+        yield "use Rattle.spec_calls.specs.Refusals.{Reply}"
+        yield f"use Rattle.spec_calls.specs.Promises.{{{self.call.promise}}}"
+        yield "use Rattle.record_copy.specs.Rows.{node-rows}"
+        yield "use Rattle.record_left.specs.Records.{lent-records, Left}"
+        yield "use Rattle.test_records.proofs.Steps.{Code, number, answers, codes}"
+        yield "use Rattle.spec_calls.proofs.code.Symbol as code-def\nuse Rattle.spec_calls.proofs.code.Met as code-thm"
+        core = f"use Rattle.{self.home}.proofs.{self.call.name}"
+        yield f"{core} as call\n{core}.Symbol as call-def\n{core}.Met as call-thm"
+        yield self.of_code()
+
+    def body(self):
+        known = [("call", "Call", f"{self.home}·{self.call.name}"), ("code", "Code", "spec_calls·code")]
+        yield from self.stayed()
+        yield f"abbrev Call : {{M : Type 1}} {GIVEN} {MEMORY} → Contract 𝓤"
+        yield "Call 𝓤 H A mem run = tripleOf 𝓤 H A call.signature (call.spec 𝓤 H A mem run)\n"
+        yield f"module _ {{M : Type 1}} {GIVEN} (W : Given 𝓤 H A) {MEMORY}{''.join(s.bound for s in self.all)} where"
+        yield "  abbrev s : RefT ℕ\n  s = number b o γ v\n"
+        for s in self.tables:
+            yield s.named
+        yield from self.stated()
+        yield from self.said()
+        yield from self.post(known)
+        self.numbered()
+        self.c = Context([f"{z}{k}" for k in range(self.locals - 1, -1, -1) for z in "LD"] + ["toks", "owns"])
+        yield from self.walk([*self.entered(), *self.together(), *self.called(), *self.freed(), *self.ended()])
+        yield from self.met(known)
+
+    def proof(self):
+        yield f"-- `test_records::{self.name}` meets its contract: a walk of its MIR, whose two calls are steps of proofs/Steps. {MADE}"
+        body = list(self.body())
+        yield from imported(self.imports(), body)
+        yield from body

@@ -1,0 +1,58 @@
+"""The declarations of the calls for C and Rust."""
+import calls
+from layers.table import params
+from layers.text import MADE, signature, wrapped
+
+C_TYPES = {"Node": "tokuwhape_node", "usize": "size_t", "u8": "uint8_t", "u16": "uint16_t", "u32": "uint32_t", "u64": "uint64_t"}
+BEGIN, END = "/* ---- The calls. Written by tools/outer.py. */", "/* ---- End of what tools/outer.py writes. */"
+
+
+def exported():
+    """Each call for C and Rust: its name, what it is lent, its result, and what it does."""
+    for call in calls.RING:
+        value = f" *value: {call.value}." if call.value else ""
+        yield call.name, params(call.lent + " value!"), "u8", call.does + value
+    for call in calls.FILE:
+        yield call.name, params(call.lent), call.result, call.does
+
+
+def counted(p, nodes):
+    """What the number of a table's entries is called, of a node table `nodes`."""
+    return nodes if p.nodes else "words" if p.name == "book" else "places" if p.written else "length"
+
+
+def declared():
+    """The calls in C. There a leaf is a bin, as in document 01."""
+    for name, lent, result, does in exported():
+        given = []
+        for p in lent:
+            kind = C_TYPES[p.type]
+            if p.number:
+                given.append(f"{kind} {'*' if p.written else ''}{p.name}")
+            else:
+                given += [f"{'' if p.written else 'const '}{kind} *{p.name}", f"size_t {counted(p, 'numbers')}"]
+        head = f"{C_TYPES[result]} tokuwhape_{name}("
+        does = does.replace("leaves", "bins").replace("leaf", "bin")
+        yield wrapped(f"{does}~*/", 140, "/* ", " * ")
+        yield wrapped(" ".join(x.replace(" ", "~") + "," for x in given)[:-1] + ");", 140, head, " " * len(head)) + "\n"
+
+
+def header(old):
+    """The header with the calls between its two marks."""
+    lines = old.splitlines()
+    return [*lines[: lines.index(BEGIN) + 1], "", *declared(), *lines[lines.index(END) :]]
+
+
+def symbols(prefix, made, about, nodes):
+    """The functions of an archive, for Rust."""
+    yield wrapped(f"{about} {MADE}", 140, "//! ", "//! ")
+    yield 'use crate::Node;\n\nextern "C" {'
+    for name, lent, result, _ in made:
+        given = []
+        for p in lent:
+            if p.number:
+                given.append(f"{p.name}: {'*mut ' if p.written else ''}{p.type}")
+            else:
+                given += [f"{p.name}: *{'mut' if p.written else 'const'} {p.type}", f"{counted(p, nodes)}: usize"]
+        yield signature(f"pub fn {prefix}_{name}", given, result, 140, "    ", ";")
+    yield "}"

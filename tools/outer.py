@@ -1,0 +1,61 @@
+#!/usr/bin/env python3
+"""Writes the outer layers of the calls from the table in tools/calls.py.
+    tools/outer.py            writes the files that differ, and names them
+    tools/outer.py --check    writes nothing; names the files that differ, and exits with 1 where there is one
+These are: the calls for C and Rust (c_update, c_order, c_conflict, c_text), the calls on node records (record_update, record_order, record_text)
+and those on records for tests (test_records), with their proofs; and the declarations in include/tokuwhape.h, rust/src/symbols.rs and
+rust/ring_records/src/symbols.rs. Of c_file, which is written by hand, the heads of its functions are compared."""
+import sys
+from pathlib import Path
+
+import calls
+from layers.coded import Coded
+from layers.declarations import exported, header, symbols
+from layers.on_records import OnRecords
+from layers.rattle import c_proof, c_source, file_heads, records_source, tests_source
+from layers.table import of_crate, with_nodes
+
+ROOT = Path(__file__).resolve().parent.parent
+
+
+def files():
+    """Each file that is written, with its lines."""
+    made = {}
+    for crate in calls.CRATES:
+        made[f"crates/c_{crate}/src/lib.rt"] = c_source(crate)
+        for call in of_crate(crate):
+            made[f"crates/c_{crate}/proofs/tokuwhape_{call.name}/Proof.antt"] = c_proof(call)
+    for call in with_nodes():
+        crate = f"record_{call.crate}"
+        made[f"crates/{crate}/src/lib.rt"] = records_source(call.crate)
+        made[f"crates/{crate}/proofs/{call.name}/Proof.antt"] = OnRecords(call, crate).proof()
+        made[f"crates/test_records/proofs/ring_{call.name}/Proof.antt"] = Coded(call, crate).proof()
+    made["crates/test_records/src/lib.rt"] = tests_source()
+    made["include/tokuwhape.h"] = header((ROOT / "include/tokuwhape.h").read_text())
+    about = "The archive's functions, as include/tokuwhape.h declares them. A node table is counted in numbers of 16 bits, 257 to a record."
+    made["rust/src/symbols.rs"] = symbols("tokuwhape", exported(), about, "numbers")
+    on_records = [x for x in exported() if any(p.nodes for p in x[1])]
+    made["rust/ring_records/src/symbols.rs"] = symbols("ring", on_records, "The archive's functions. A node table is counted in records.", "records")
+    return {path: "\n".join(lines) + "\n" for path, lines in made.items()}
+
+
+def main(check):
+    made = files()
+    differ = [path for path, text in made.items() if not (ROOT / path).exists() or (ROOT / path).read_text() != text]
+    if not check:
+        for path in differ:
+            (ROOT / path).parent.mkdir(parents=True, exist_ok=True)
+            (ROOT / path).write_text(made[path])
+    # what is in no table any more, and the functions that are written by hand
+    for path in made:
+        proofs = (ROOT / path).parent.parent / "proofs"
+        lost = {str(x.relative_to(ROOT)) for x in proofs.glob("*/Proof.antt")} - made.keys()
+        differ += sorted(lost - set(differ))
+    source = (ROOT / "crates/c_file/src/lib.rt").read_text()
+    wrong = not all(head in source for head in file_heads())
+    print(*differ, *["crates/c_file/src/lib.rt (by hand)"] * wrong, sep="\n", end="\n" if differ or wrong else "")
+    return 1 if check and (differ or wrong) else 0
+
+
+if __name__ == "__main__":
+    sys.exit(main(sys.argv[1:] == ["--check"]))
