@@ -2,10 +2,9 @@
 ghost use mathlib.Core.Path.{_≡_};
 ghost use Prim.Native.Nat.{_≤_};
 ghost use lib.ListN.{length};
-ghost use Rattle.tree_tokens.specs.Tokens.{flat};
+ghost use Rattle.tree_tokens.specs.Tokens.{flat, TreeTokens};
 ghost use Rattle.spec_orders.specs.Tree.{Forest};
 ghost use Rattle.spec_calls.specs.Tables.{lent-nodes, lent-book};
-ghost use Rattle.tree_update.specs.Update.{Published};
 ghost use Rattle.call_attempt.specs.Attempts.{AttemptsOn, Attempts};
 use call_checks::Lent;
 use spec_calls::Refusal;
@@ -20,7 +19,7 @@ pub enum Tried {
 
 // Checks 4 to 8 on a tree and the count of a book in form. Writes the tree with the group joined to it to the start of out.
 fn attempt_on(toks: &[u16], n: usize, count: usize, list: &[u16], out: &mut [u16]) -> Tried
-    requires { ⌜ (Published n (now toks)) × (512 ≤ length (now out)) ⌝ }
+    requires { ⌜ (TreeTokens n (now toks)) × (512 ≤ length (now out)) ⌝ }
     ensures { λ r. ⌜ ((t : Forest) → now (toks .entry) ≡ flat t
         → AttemptsOn t n count (now (list .entry)) (now (out .entry)) (now (out .exit)) r) ⌝ }
 {

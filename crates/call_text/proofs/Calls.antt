@@ -13,17 +13,16 @@ use Rattle.spec_calls.specs.Tables.{Nodes, leaves, over}
 use Rattle.spec_calls.specs.Refusals.{reply, reported, first-refusal, short}
 use Rattle.spec_calls.specs.Calls.{filled-as, tree-checks, write-refusal, write-call}
 use Rattle.spec_calls.proofs.Demands.{lent-held}
-use Rattle.tree_tokens.specs.Tokens.{tree, plain, Wrote, flat}
+use Rattle.tree_tokens.specs.Tokens.{tree, plain, Wrote, flat, TreeTokens}
 use Rattle.tree_tokens.proofs.Sequences.{tree-plain}
 use Rattle.tree_tokens.proofs.Writes.{read-part}
-use Rattle.table_row.specs.Rows.{Formed}
 use Rattle.table_store.proofs.Forms.{formed-is}
 use Rattle.call_checks.specs.Lent.{TreeLent}
 use Rattle.call_text.specs.Fills.{Fills}
 
 -- The text of a tree in form fits.
-pub formed-text : {l : List ℕ} (f : Formed l) (t : Forest) → l ≡ flat t → length (tree-text (tree (plain t))) ≤ 2048
-formed-text f t e = subst (λ (u : Forest). length (tree-text u) ≤ 2048) (sym (tree-plain t)) (text-length (f .size) t (formed-is f t e) (f .few))
+pub formed-text : {n : ℕ} {l : List ℕ} (f : TreeTokens n l) (t : Forest) → l ≡ flat t → length (tree-text (tree (plain t))) ≤ 2048
+formed-text {n} f t e = subst (λ (u : Forest). length (tree-text u) ≤ 2048) (sym (tree-plain t)) (text-length n t (formed-is f t e) (f .few-leaves))
 
 -- The text, and zeros up to 2,048 bytes.
 pub wrote-fills : (t : Forest) {old mid new : List ℕ} {k m : ℕ} → Wrote (tree-text (tree (plain t))) old mid k
@@ -39,9 +38,9 @@ module _ (nodes : Nodes) (bytes : List ℕ) where
   write-refused r e = rw e
 
   module _ {old toks : List ℕ} {k : ℕ} (h : TreeLent nodes (short 2048 bytes) old toks k) where
-    pub lent-formed : Formed (take (k - 0) (drop 0 toks))
+    pub lent-formed : (n : ℕ) × TreeTokens n (take (k - 0) (drop 0 toks))
     lent-formed =
-        record { size = leaves nodes; shown = h .tree; is = read-part (h .wrote); in-form = h .lent .tree .in-form; few = h .lent .few-leaves }
+        (leaves nodes, record { shown = h .tree; is = read-part (h .wrote); in-form = h .lent .tree .in-form; few-leaves = h .lent .few-leaves })
 
     pub lent-long : 2048 ≤ length bytes
     lent-long = ltb-false (length bytes) 2048 (h .long)

@@ -1,14 +1,13 @@
 // The calls that write and read the tree text.
 ghost use mathlib.Core.Path.{_≡_};
-ghost use Prim.Native.Nat.{_≤_, _<_};
+ghost use Prim.Native.Nat.{ℕ, _≤_, _<_};
 ghost use lib.ListN.{length, replicate};
 ghost use Rattle.spec_orders.specs.Tree.{Forest};
 ghost use Rattle.spec_orders.specs.TreeText.{text};
 ghost use Rattle.spec_calls.specs.Tables.{lent-nodes, lent-book};
 ghost use Rattle.spec_calls.specs.Refusals.{report};
 ghost use Rattle.spec_calls.specs.Promises.{WritePromise, ReadPromise};
-ghost use Rattle.tree_tokens.specs.Tokens.{Wrote, flat};
-ghost use Rattle.table_row.specs.Rows.{Formed};
+ghost use Rattle.tree_tokens.specs.Tokens.{Wrote, flat, TreeTokens};
 ghost use Rattle.call_text.specs.Fills.{Fills};
 use call_checks::Lent;
 use spec_calls::Answer;
@@ -31,7 +30,7 @@ fn zeros(k: usize, out: &mut [u8]) -> usize
 
 // Writes the text of a tree in form and zeros up to 2,048 bytes; says how long the text is.
 fn fill(toks: &[u16], bytes: &mut [u8]) -> usize
-    requires { ⌜ (Formed (now toks)) × (2048 ≤ length (now bytes)) ⌝ }
+    requires { ⌜ ((n : ℕ) × TreeTokens n (now toks)) × (2048 ≤ length (now bytes)) ⌝ }
     ensures { λ r. ⌜ ((t : Forest) → now (toks .entry) ≡ flat t
         → Fills t (now (bytes .entry)) (now (bytes .exit)) r) ⌝ }
 {

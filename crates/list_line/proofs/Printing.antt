@@ -9,9 +9,8 @@ use Rattle.spec_orders.specs.Form.{standard}
 use Rattle.spec_orders.specs.TreeText.{digits, tree-text}
 use Rattle.spec_orders.specs.Circles.{bytes}
 use Rattle.spec_orders.proofs.TextTree.{text-length}
-use Rattle.tree_tokens.specs.Tokens.{tree, plain}
+use Rattle.tree_tokens.specs.Tokens.{tree, plain, TreeTokens}
 use Rattle.tree_tokens.proofs.Sequences.{tree-plain}
-use Rattle.tree_update.specs.Update.{Published}
 use Rattle.list_bytes.specs.Appends.{Appends}
 use Rattle.list_bytes.proofs.Laws.{appends-then, appends-as}
 use Rattle.file_read.specs.RingFile.{leaves-on, FileHolds}
@@ -52,8 +51,8 @@ module _ (names : List (List ℕ)) (t : Forest) {j : ℕ} where
   end-text e = rw e (ap tree-text (tree-plain t))
 
 -- The length of a tree's text.
-pub short-text : {n : ℕ} {toks : List ℕ} (p : Published n toks) → length (tree-text (tree (plain (p .0)))) ≤ 2048
-short-text {n} p = rw (tree-plain (p .0)) (text-length n (p .0) (p .2) (p .3))
+pub short-text : {n : ℕ} {toks : List ℕ} (p : TreeTokens n toks) → length (tree-text (tree (plain (p .shown)))) ≤ 2048
+short-text {n} p = rw (tree-plain (p .shown)) (text-length n (p .shown) (p .in-form) (p .few-leaves))
 
 -- The lines of the listing of a file.
 module _ {x : List ℕ} {n h k : ℕ} (f : FileHolds x n h k) where

@@ -3,10 +3,9 @@ ghost use mathlib.Core.Path.{_≡_};
 ghost use mathlib.Core.List.{[]};
 ghost use Prim.Native.Nat.{_+_, _-_, _≤_, _<_};
 ghost use lib.ListN.{length, getD};
-ghost use Rattle.tree_tokens.specs.Tokens.{flat};
+ghost use Rattle.tree_tokens.specs.Tokens.{flat, TreeTokens};
 ghost use Rattle.spec_orders.specs.Tree.{Forest};
 ghost use Rattle.spec_orders.specs.Form.{standard};
-ghost use Rattle.tree_update.specs.Update.{Published};
 ghost use Rattle.list_bytes.specs.Appends.{Appends};
 ghost use Rattle.file_read.specs.RingFile.{FileHolds};
 ghost use Rattle.list_ring.specs.Stands.{lists-of, StandsAt, Tables};
@@ -83,7 +82,7 @@ fn print_end(
     out: &mut [u8],
     at: usize,
 ) -> usize
-    requires { ⌜ (FileHolds (now file) names head lines) × (Published names (now tree)) × (Ordered names (now order)) × (at + 4096 ≤ length (now out)) ⌝ }
+    requires { ⌜ (FileHolds (now file) names head lines) × (TreeTokens names (now tree)) × (Ordered names (now order)) × (at + 4096 ≤ length (now out)) ⌝ }
     ensures { λ r. ⌜ (r ≤ at + 4095) × ((f : FileHolds (now (file .entry)) names head lines) (t : Forest)
         → now (tree .entry) ≡ flat t → now (order .entry) ≡ standard t → j < 4
         → Appends (getD (ending (f .ns) t) j []) at (now (out .entry)) (now (out .exit)) r) ⌝ }
@@ -117,7 +116,7 @@ pub fn print_line(
     at: usize,
 ) -> Printed
     requires { ⌜ ((f : FileHolds (now file) names head lines) × (Before f i (now toks) (ring .tokens) (now book) (now table) (ring .count))
-        × (Tables (now toks) (now book) (now table)) × (Published names (now tree)) × (Ordered names (now order)) × (at + 4096 ≤ length (now out))) ⌝ }
+        × (Tables (now toks) (now book) (now table)) × (TreeTokens names (now tree)) × (Ordered names (now order)) × (at + 4096 ≤ length (now out))) ⌝ }
     ensures { λ r. ⌜ (r .at ≤ at + 4095) × ((f : FileHolds (now (file .entry)) names head lines)
         → Before f i (now (toks .entry)) (ring .tokens) (now (book .entry)) (now (table .entry)) (ring .count)
         → Final f (now (tree .entry)) (now (order .entry)) → i < lines + 5

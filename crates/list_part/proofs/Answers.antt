@@ -12,10 +12,9 @@ use Rattle.spec_orders.specs.Circles.{bytes}
 use Rattle.spec_orders.proofs.TextTree.{form-length}
 use Rattle.spec_calls.specs.declared.Refusal.{Refusal}
 use Rattle.spec_calls.specs.Refusals.{reported}
-use Rattle.tree_tokens.specs.Tokens.{tree, plain, Wrote, flat}
+use Rattle.tree_tokens.specs.Tokens.{tree, plain, Wrote, flat, TreeTokens}
 use Rattle.tree_tokens.proofs.Sequences.{tree-plain}
 use Rattle.tree_tokens.proofs.Writes.{read-part}
-use Rattle.tree_update.specs.Update.{Published}
 use Rattle.list_bytes.specs.Appends.{Appends}
 use Rattle.list_bytes.proofs.Laws.{appends-then}
 use Rattle.file_read.specs.declared.Scanned.{Scanned}
@@ -51,8 +50,8 @@ module _ {x : List ℕ} {n h k : ℕ} (f : FileHolds x n h k) {toks book table :
   final-form : InForm n t
   final-form = subst (InForm n) last-tree (s .form)
 
-  pub final-published : Published n (take (m - 0) (drop 0 toks))
-  final-published = (t, final-tokens, final-form, few-names f)
+  pub final-in-form : TreeTokens n (take (m - 0) (drop 0 toks))
+  final-in-form = record { shown = t; is = final-tokens; in-form = final-form; few-leaves = few-names f }
 
   some-leaf : 1 ≤ n
   some-leaf = omega (arith, f .leaves, f .rules .names .some-name)

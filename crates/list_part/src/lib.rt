@@ -2,7 +2,7 @@
 ghost use mathlib.Core.Path.{_≡_};
 ghost use mathlib.Core.List.{[], _∷_};
 ghost use Prim.Native.Nat.{_+_, _-_, _≤_, _<_};
-ghost use Rattle.tree_update.specs.Update.{Published};
+ghost use Rattle.tree_tokens.specs.Tokens.{TreeTokens};
 ghost use Rattle.file_read.specs.RingFile.{FileHolds};
 ghost use Rattle.list_ring.specs.Stands.{lists-of, Tables};
 ghost use Rattle.list_fields.specs.Ordered.{Ordered};
@@ -36,7 +36,7 @@ fn print_lines(
     out: &mut [u8],
 ) -> Piece
     requires { ⌜ ((f : FileHolds (now file) names head lines) × (Before f from (now toks) (first .tokens) (now book) (now table) (first .count))
-        × (Final f (now tree) (now order)) × (Tables (now toks) (now book) (now table)) × (Published names (now tree)) × (Ordered names (now order))) ⌝ }
+        × (Final f (now tree) (now order)) × (Tables (now toks) (now book) (now table)) × (TreeTokens names (now tree)) × (Ordered names (now order))) ⌝ }
     ensures { λ r. ⌜ ((f : FileHolds (now (file .entry)) names head lines)
         → Before f from (now (toks .entry)) (first .tokens) (now (book .entry)) (now (table .entry)) (first .count)
         → Final f (now (tree .entry)) (now (order .entry))
@@ -99,7 +99,7 @@ fn print_from(
     order: &[u16],
     out: &mut [u8],
 ) -> Piece
-    requires { ⌜ ((f : FileHolds (now file) names head lines) × (Final f (now tree) (now order)) × (Published names (now tree)) × (Ordered names (now order))) ⌝ }
+    requires { ⌜ ((f : FileHolds (now file) names head lines) × (Final f (now tree) (now order)) × (TreeTokens names (now tree)) × (Ordered names (now order))) ⌝ }
     ensures { λ r. ⌜ ((f : FileHolds (now (file .entry)) names head lines) → Final f (now (tree .entry)) (now (order .entry))
         → Parts (listing (f .ns) (lists-of f)) from (now (out .entry)) (now (out .exit)) r) ⌝ }
 {

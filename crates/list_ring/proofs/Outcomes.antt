@@ -22,7 +22,7 @@ use Rattle.tree_tokens.specs.Tokens.{Wrote, flat}
 use Rattle.tree_tokens.proofs.Writes.{read-part, wrote-most}
 use Rattle.tree_update.specs.declared.Updated.{Updated}
 use Rattle.tree_update.specs.declared.Updated.the-variants.{Impossible, Tokens}
-use Rattle.tree_update.specs.Update.{Answers as Joined, Published}
+use Rattle.tree_update.specs.Update.{Answers as Joined}
 use Rattle.conflict_rule.proofs.Joined.{answers-tree, no-tree}
 use Rattle.spec_listing.specs.Listing.{Outcome, kept, empty, full, RingState, opened, joined, outcome, next}
 use Rattle.list_ring.specs.declared.Tried.{Tried}
@@ -44,9 +44,6 @@ opened-stands n w book table = record {
 }
 
 -- The tokens that are read.
-pub stands-published : {n : ℕ} {s : RingState} {toks book table : List ℕ} {m count : ℕ} → RingStands n s toks m book table count → n ≤ 256
-    → Published n (take (m - 0) (drop 0 toks))
-stands-published {s = s} h l = (s .tree, h .tokens, h .form, l)
 
 module _ (n : ℕ) (s : RingState) where
   pub outcome-empty : (list : List ℕ) → length list ≡ 0 → outcome n s list ≡ empty

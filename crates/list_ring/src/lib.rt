@@ -3,9 +3,8 @@ ghost use mathlib.Core.Path.{_≡_};
 ghost use mathlib.Core.List.{List};
 ghost use Prim.Native.Nat.{ℕ, _+_, _≤_, _<_};
 ghost use lib.ListN.{length};
-ghost use Rattle.tree_tokens.specs.Tokens.{flat};
+ghost use Rattle.tree_tokens.specs.Tokens.{flat, TreeTokens};
 ghost use Rattle.file_read.specs.RingFile.{FileHolds};
-ghost use Rattle.tree_update.specs.Update.{Published};
 ghost use Rattle.spec_listing.specs.Listing.{RingState, opened, outcome, next};
 ghost use Rattle.list_ring.specs.Stands.{RingStands, Line, LineAnswers, StandsAt, Tables};
 use tree_update::Updated;
@@ -36,7 +35,7 @@ pub fn fresh_ring(n: usize, toks: &mut [u16]) -> Ring
 
 // What the group line with these leaves does, for a tree and a count of groups. Writes the new tree to the start of out.
 fn attempt(toks: &[u16], n: usize, count: usize, list: &[u16], out: &mut [u16]) -> Tried
-    requires { ⌜ (Published n (now toks)) × (Line n (now list)) × (512 ≤ length (now out)) ⌝ }
+    requires { ⌜ (TreeTokens n (now toks)) × (Line n (now list)) × (512 ≤ length (now out)) ⌝ }
     ensures { λ r. ⌜ ((s : RingState) → now (toks .entry) ≡ flat (s .tree) → count ≡ length (s .groups)
         → LineAnswers (outcome n s (now (list .entry))) (now (out .entry)) (now (out .exit)) r) ⌝ }
 {

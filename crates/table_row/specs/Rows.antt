@@ -3,10 +3,10 @@ use mathlib.Core.Path.{_≡_}
 use mathlib.Core.List.{List, _∷_}
 use Prim.Native.Nat.{ℕ, _+_, _*_, _≤_}
 use lib.ListN.{length}
-use Rattle.spec_orders.specs.Tree.{Forest, items}
-use Rattle.spec_orders.specs.Form.{Every, nodes, InForm}
+use Rattle.spec_orders.specs.Tree.{items}
+use Rattle.spec_orders.specs.Form.{Every, nodes}
 use Rattle.spec_calls.specs.Tables.{padded}
-use Rattle.tree_tokens.specs.Tokens.{Judged, tree, encode, flat}
+use Rattle.tree_tokens.specs.Tokens.{Judged, tree, encode}
 
 -- The row of a node: the number of its kind, how many items it has, their places, and zeros.
 abbrev pub row : ℕ → List ℕ → List ℕ
@@ -26,11 +26,3 @@ pub record Rowed (toks : List ℕ) (r room : ℕ) : Type 0 where
   pub last : r + nodes (tree seq) ≤ 256
   pub narrow : Every (λ k i. length (items i) ≤ 255) (tree seq)
   pub few : 257 * nodes (tree seq) ≤ room
-
--- The tokens of a tree in form for at most 256 leaves.
-pub record Formed (toks : List ℕ) : Type 0 where
-  pub size : ℕ
-  pub shown : Forest
-  pub is : toks ≡ flat shown
-  pub in-form : InForm size shown
-  pub few : size ≤ 256

@@ -11,27 +11,27 @@ use Rattle.spec_orders.specs.Form.{nodes, InForm}
 use Rattle.spec_calls.specs.Tables.{over}
 use Rattle.spec_calls.specs.NodeTable.{rows, table-of}
 use Rattle.spec_calls.proofs.NodeTables.{Narrow, form-narrow, form-few, rows-length}
-use Rattle.tree_tokens.specs.Tokens.{tree, plain, Wrote, flat}
+use Rattle.tree_tokens.specs.Tokens.{tree, plain, Wrote, flat, TreeTokens}
 use Rattle.tree_tokens.proofs.Sequences.{tree-plain, encode-injective}
-use Rattle.table_row.specs.Rows.{Rowed, Formed}
+use Rattle.table_row.specs.Rows.{Rowed}
 use Rattle.table_store.proofs.Comparing.{starts-padded, zero-part}
 
 plain-injective : (t u : Forest) → flat t ≡ flat u → t ≡ u
 plain-injective t u e = sym (tree-plain t) ∙ ap tree (encode-injective (plain t) (plain u) e) ∙ tree-plain u
 
 -- The tree that tokens in form show.
-pub formed-is : {l : List ℕ} (f : Formed l) (t : Forest) → l ≡ flat t → InForm (f .size) t
-formed-is f t e = subst (InForm (f .size)) (plain-injective (f .shown) t (sym (f .is) ∙ e)) (f .in-form)
+pub formed-is : {n : ℕ} {l : List ℕ} (f : TreeTokens n l) (t : Forest) → l ≡ flat t → InForm n t
+formed-is {n} f t e = subst (InForm n) (plain-injective (f .shown) t (sym (f .is) ∙ e)) (f .in-form)
 
 -- Its rows fit into a table.
-pub formed-rows : {l : List ℕ} (f : Formed l) (t : Forest) → l ≡ flat t → length (rows 0 t) ≡ 257 * nodes t
-formed-rows f t e = rows-length 0 t (form-narrow (f .size) t (formed-is f t e) (f .few))
+pub formed-rows : {n : ℕ} {l : List ℕ} (f : TreeTokens n l) (t : Forest) → l ≡ flat t → length (rows 0 t) ≡ 257 * nodes t
+formed-rows {n} f t e = rows-length 0 t (form-narrow n t (formed-is f t e) (f .few-leaves))
 
-pub formed-few : {l : List ℕ} (f : Formed l) (t : Forest) → l ≡ flat t → nodes t ≤ 255
-formed-few f t e = form-few (f .size) t (formed-is f t e) (f .few)
+pub formed-few : {n : ℕ} {l : List ℕ} (f : TreeTokens n l) (t : Forest) → l ≡ flat t → nodes t ≤ 255
+formed-few {n} f t e = form-few n t (formed-is f t e) (f .few-leaves)
 
-pub formed-rowed : {l : List ℕ} (f : Formed l) (room : ℕ) → 65792 ≤ room → Rowed l 0 room
-formed-rowed f room h =
+pub formed-rowed : {n : ℕ} {l : List ℕ} (f : TreeTokens n l) (room : ℕ) → 65792 ≤ room → Rowed l 0 room
+formed-rowed {n} f room h =
     let t = f .shown in
     let back : t ≡ tree (plain t) = sym (tree-plain t) in
     let few = subst (λ (u : Forest). nodes u ≤ 255) back (formed-few f t (f .is)) in
@@ -39,7 +39,7 @@ formed-rowed f room h =
       seq = plain t;
       is = f .is;
       last = omega arith;
-      narrow = subst Narrow back (form-narrow (f .size) t (f .in-form) (f .few));
+      narrow = subst Narrow back (form-narrow n t (f .in-form) (f .few-leaves));
       few = omega arith;
     }
 
@@ -53,7 +53,7 @@ wrote-table t {old} {new} {k} {m} e w =
     h ∙ rw (e, same-rows)
 
 -- The table compared: its rows, then zeros.
-rows-compared : {l : List ℕ} (f : Formed l) (t : Forest) → l ≡ flat t → (table : List ℕ)
+rows-compared : {n : ℕ} {l : List ℕ} (f : TreeTokens n l) (t : Forest) → l ≡ flat t → (table : List ℕ)
     → same (take 65792 table) (table-of t)
     ≡ (begins-with (rows 0 (tree (plain t))) table && begins-with (replicate (65792 - 257 * nodes (tree (plain t))) 0) (drop (257 * nodes (tree (plain t))) table))
 unfolding table-of
@@ -64,11 +64,11 @@ rows-compared f t e table =
     ∙ ap (λ (m : ℕ). begins-with (rows 0 t) table && begins-with (replicate (65792 - m) 0) (drop m table)) long
     ∙ ap (λ (u : Forest). begins-with (rows 0 u) table && begins-with (replicate (65792 - 257 * nodes u) 0) (drop (257 * nodes u) table)) (sym (tree-plain t))
 
-pub table-not : {l : List ℕ} (f : Formed l) (t : Forest) → l ≡ flat t → (table : List ℕ)
+pub table-not : {n : ℕ} {l : List ℕ} (f : TreeTokens n l) (t : Forest) → l ≡ flat t → (table : List ℕ)
     → begins-with (rows 0 (tree (plain t))) table ≡ false → same (take 65792 table) (table-of t) ≡ false
 table-not f t e table h = rows-compared f t e table ∙ rw h
 
-pub table-zeros : {l : List ℕ} (f : Formed l) (t : Forest) → l ≡ flat t → (table : List ℕ) {m : ℕ} → 65792 ≤ length table
+pub table-zeros : {n : ℕ} {l : List ℕ} (f : TreeTokens n l) (t : Forest) → l ≡ flat t → (table : List ℕ) {m : ℕ} → 65792 ≤ length table
     → m ≡ nodes (tree (plain t)) → begins-with (rows 0 (tree (plain t))) table ≡ true
     → same (take 65792 table) (table-of t)
     ≡ same (take (65792 - 257 * m) (drop (257 * m) table)) (replicate (length (take (65792 - 257 * m) (drop (257 * m) table))) 0)

@@ -1,14 +1,14 @@
 // The node table of a tree, written from its tokens, compared with them, and read into tokens. A record is a row of 257 numbers: the number
 // of its kind, how many items it has, and 255 places for them; a leaf stands as its number, the node in record r as 256 + r.
 ghost use mathlib.Core.Path.{_≡_};
-ghost use Prim.Native.Nat.{_<_, _≤_};
+ghost use Prim.Native.Nat.{ℕ, _<_, _≤_};
 ghost use lib.ListN.{length, take, replicate};
 ghost use Rattle.spec_orders.specs.Lists.{same, begins-with};
 ghost use Rattle.spec_orders.specs.Tree.{Forest};
 ghost use Rattle.spec_calls.specs.Tables.{over};
 ghost use Rattle.spec_calls.specs.NodeTable.{entries, rows, table-of};
-ghost use Rattle.tree_tokens.specs.Tokens.{Judged, tree, encode, Wrote, flat};
-ghost use Rattle.table_row.specs.Rows.{row, Placed, Rowed, Formed};
+ghost use Rattle.tree_tokens.specs.Tokens.{Judged, tree, encode, Wrote, flat, TreeTokens};
+ghost use Rattle.table_row.specs.Rows.{row, Placed, Rowed};
 ghost use Rattle.table_walk.specs.Walks.{Loads};
 use table_walk::Walked;
 
@@ -40,7 +40,7 @@ fn write_rows(toks: &[u16], r: usize, out: &mut [u16]) -> usize
 
 // Writes the table of a tree in form: its rows, and zeros up to 65,792 numbers. What stands after them stays.
 pub fn store(toks: &[u16], table: &mut [u16])
-    requires { ⌜ (Formed (now toks)) × (65792 ≤ length (now table)) ⌝ }
+    requires { ⌜ ((n : ℕ) × TreeTokens n (now toks)) × (65792 ≤ length (now table)) ⌝ }
     ensures { λ _. ⌜ ((t : Forest) → now (toks .entry) ≡ flat t
         → now (table .exit) ≡ over (table-of t) (now (table .entry))) ⌝ }
 {
@@ -101,7 +101,7 @@ fn rows_match(toks: &[u16], r: usize, table: &[u16]) -> bool
 
 // Whether the first 65,792 numbers are the table of a tree in form.
 pub fn matches(toks: &[u16], table: &[u16]) -> bool
-    requires { ⌜ (Formed (now toks)) × (65792 ≤ length (now table)) ⌝ }
+    requires { ⌜ ((n : ℕ) × TreeTokens n (now toks)) × (65792 ≤ length (now table)) ⌝ }
     ensures { λ r. ⌜ ((t : Forest) → now (toks .entry) ≡ flat t
         → r ≡ same (take 65792 (now (table .entry))) (table-of t)) ⌝ }
 {

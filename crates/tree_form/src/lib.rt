@@ -1,7 +1,6 @@
 // Whether tokens are those of a tree in form for n leaves: one item at most, in the published form, whose leaves are 2 to n.
 ghost use mathlib.Core.Path.{_≡_};
 ghost use mathlib.Core.Bool.{true};
-ghost use mathlib.Core.Logic.{_↔_};
 ghost use Prim.Native.Nat.{_≤_, _<_};
 ghost use lib.ListN.{length};
 ghost use Rattle.spec_orders.specs.Lists.{rearranged?};
@@ -11,7 +10,6 @@ ghost use Rattle.spec_orders.specs.Form.{rises?, canonical?, in-form?};
 ghost use Rattle.mark_words.specs.Marks.{words-of};
 ghost use Rattle.tree_tokens.specs.Tokens.{Judged, tree, encode, Tokens};
 ghost use Rattle.tree_form.specs.Tests.{first-sorted?, new-leaf?, Marked};
-ghost use Rattle.tree_form.specs.Trees.{Plain, TreeFor};
 
 // Whether the first leaves of the items rise, all above m.
 fn rises(toks: &[u16], m: u16) -> bool
@@ -128,43 +126,4 @@ pub fn in_form(toks: &[u16], n: usize) -> bool
         return false;
     }
     all_leaves(toks, n)
-}
-
-// Whether the numbers are the tokens of a sequence of items, with no states.
-pub fn is_plain(toks: &[u16]) -> bool
-    ensures { λ r. ⌜ (r ≡ true) ↔ Plain (now (toks .entry)) ⌝ }
-{
-    let mut i = 0;
-    while i < toks.len() {
-        let t = toks[i];
-        if t % 8 != 0 {
-            return false;
-        }
-        if t / 8 % 2 == 0 {
-            i += 1;
-            continue;
-        }
-        let m = (t / 32) as usize + 1;
-        if m > toks.len() - i {
-            return false;
-        }
-        if !is_plain(&toks[i + 1..i + m]) {
-            return false;
-        }
-        i += m;
-    }
-    true
-}
-
-// Whether the numbers are the tokens of a tree in form for n leaves, n at most 256.
-pub fn is_tree(toks: &[u16], n: usize) -> bool
-    ensures { λ r. ⌜ (r ≡ true) ↔ ((n ≤ 256) × TreeFor n (now (toks .entry))) ⌝ }
-{
-    if n > 256 {
-        return false;
-    }
-    if !is_plain(toks) {
-        return false;
-    }
-    in_form(toks, n)
 }

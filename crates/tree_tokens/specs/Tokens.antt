@@ -1,9 +1,10 @@
 -- The tree as tokens, its flat preorder, on which all code runs.
 use mathlib.Core.Path.{_≡_}
 use mathlib.Core.List.{List, [], _∷_, _++_}
-use Prim.Native.Nat.{ℕ, _+_, _*_}
+use Prim.Native.Nat.{ℕ, _+_, _*_, _≤_}
 use lib.ListN.{length, drop}
 use Rattle.spec_orders.specs.Tree.{Kind, P, C, Forest, nil, leaf, node}
+use Rattle.spec_orders.specs.Form.{InForm}
 
 -- The state of an item under a restriction: empty; full; partial, with an order that has its empty leaves before its full ones; partial, with
 -- no such order but one in which its full leaves are consecutive; with none.
@@ -61,6 +62,13 @@ encode (j-node s k i j) = node-token s k (length (encode i)) ∷ (encode i ++ en
 -- The tokens of a tree that nobody has judged.
 abbrev pub flat : Forest → List ℕ
 flat f = encode (plain f)
+
+-- The tokens are those of a tree in form for n leaves, at most 256.
+pub record TreeTokens (n : ℕ) (toks : List ℕ) : Type 0 where
+  pub shown : Forest
+  pub is : toks ≡ flat shown
+  pub in-form : InForm n shown
+  pub few-leaves : n ≤ 256
 
 -- The tokens are those of some sequence.
 abbrev pub Tokens : List ℕ → Type 0

@@ -21,7 +21,7 @@ use Rattle.spec_orders.proofs.Forms.{others-range, form-distinct, nodes-bound}
 use Rattle.spec_orders.proofs.Joining.{tree-left}
 use Rattle.spec_orders.proofs.ReduceOrders.{reduce-frontier, reduce-single}
 use Rattle.spec_orders.proofs.ReduceForm.{reduce-canonical}
-use Rattle.tree_tokens.specs.Tokens.{State, E, F, L, R, X, number, Judged, j-nil, j-leaf, j-node, tree, plain, encode, Wrote, flat}
+use Rattle.tree_tokens.specs.Tokens.{State, E, F, L, R, X, number, Judged, j-nil, j-leaf, j-node, tree, plain, encode, Wrote, flat, TreeTokens}
 use Rattle.tree_tokens.specs.Views.{state-of, first-of}
 use Rattle.tree_tokens.proofs.Laws.{at-end}
 use Rattle.tree_tokens.proofs.Counts.{leaves-and-nodes}
@@ -33,7 +33,7 @@ use Rattle.tree_judge.proofs.Reduces.{reduce-total}
 use Rattle.tree_pieces.proofs.Laws.{flat-tree, flat-injective}
 use Rattle.tree_stays.specs.Stays.{stays}
 use Rattle.tree_stays.proofs.Same.{stays-same}
-use Rattle.tree_update.specs.Update.{Published, FormWithin, TokensWithin}
+use Rattle.tree_update.specs.Update.{FormWithin, TokensWithin}
 use Rattle.tree_update.proofs.Laws.{begins, read-part}
 
 -- A tree in form for n leaves is one of leaves 2 to n.
@@ -45,8 +45,8 @@ form-within {n} {t} f = record {
   in-range = perm-all (λ b. (2 ≤ b) × (b ≤ n)) (f .all-leaves) (others-range n);
 }
 
-pub published-within : {n : ℕ} {l : List ℕ} → Published n l → TokensWithin n l
-published-within p = (p .0, p .1, form-within (p .2), p .3)
+pub form-tokens : {n : ℕ} {l : List ℕ} → TreeTokens n l → TokensWithin n l
+form-tokens p = (p .shown, p .is, form-within (p .in-form), p .few-leaves)
 
 -- Different leaves from 2 to n are fewer than n, so the tree has at most 510 tokens.
 few-leaves : (n : ℕ) (l : List ℕ) → Distinct l → All (λ b. (2 ≤ b) × (b ≤ n)) l → length l ≤ n - 1

@@ -6,7 +6,7 @@ use Prim.Native.Nat.{ℕ, _≤_}
 use lib.ListN.{length, take}
 use Rattle.spec_orders.specs.Lists.{All, Distinct}
 use Rattle.spec_orders.specs.Tree.{Forest, items, frontier}
-use Rattle.spec_orders.specs.Form.{Canonical, Single, InForm}
+use Rattle.spec_orders.specs.Form.{Canonical, Single}
 use Rattle.tree_tokens.specs.Tokens.{Wrote, flat}
 use Rattle.tree_update.specs.declared.Updated.{Updated}
 use Rattle.tree_update.specs.declared.Updated.the-variants.{Impossible, Tokens}
@@ -15,10 +15,6 @@ use Rattle.tree_update.specs.declared.Updated.the-variants.{Impossible, 
 pub record Begins (xs new : List ℕ) (r : ℕ) : Type 0 where
   pub many : r ≡ length xs
   pub text : take r new ≡ xs
-
--- The tokens are those of a tree in form for n leaves, at most 256.
-abbrev pub Published : ℕ → List ℕ → Type 0
-Published n toks = (t : Forest) × (toks ≡ flat t) × InForm n t × (n ≤ 256)
 
 -- A tree of some of the leaves 2 to n: at most one item, in the published form, and no leaf twice.
 pub record FormWithin (n : ℕ) (t : Forest) : Type 0 where

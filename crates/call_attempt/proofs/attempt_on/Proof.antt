@@ -6,7 +6,7 @@ use Rattle.mark_words.specs.Marks.{marked}
 use Rattle.spec_calls.specs.Refusals.{first-refusal, list-checks}
 use Rattle.table_book.specs.Lists.{refusal-in}
 use Rattle.tree_update.specs.Update.{Answers}
-use Rattle.tree_update.proofs.Updates.{published-within}
+use Rattle.tree_update.proofs.Updates.{form-tokens}
 use Rattle.call_attempt.proofs.Laws.{list-refused, full-refused, none-joined, one-joined}
 use borrow.Author.Needs.{needs}
 use Rattle.call_attempt.proofs.attempt_on.Statement.{statement}
@@ -22,7 +22,7 @@ returns-2 : tie.Need-returns-2
 returns-2 c = λ t e. full-refused t (c .before .before .before .before .before .before .before .args .n) (c .before .before .before .before .before .before .before .args .count) (now (c .before .before .before .before .before .before .before .args .list)) (fine (c .before)) (c .if1 .taken)
 
 join-requires : tie.Need-join-requires
-join-requires c κs = search (needs, published-within)
+join-requires c κs = search (needs, form-tokens)
 
 returns-3 : tie.Need-returns-3
 returns-3 c = λ t e. none-joined t (c .before .before .before .before .before .before .before .before .before .before .before .before .before .before .before .before .before .args .n) (c .before .before .before .before .before .before .before .before .before .before .before .before .before .before .before .before .before .args .count) (now (c .before .before .before .before .before .before .before .before .before .before .before .before .before .before .before .before .before .args .list)) (fine (c .before .before .before .before .before .before .before .before .before .before .before)) (c .before .before .before .before .before .before .before .before .mark-list .last .1 .0) (now (c .before .before .before .before .before .before .before .before .before .before .before .before .before .before .before .before .before .args .out)) (c .before .before .before .before .join .last .1 .1 .1 .0) (c .before .before .before .before .before .before .before .before .before .before .before .before .before .before .before .before .before .pre .0 .3) (c .before .before .before .before .before .before .before .before .mark-list .ensures) (c .before .before .before .before .before .before .before .before .before .before .if1 .left)

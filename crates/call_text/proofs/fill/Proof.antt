@@ -9,10 +9,10 @@ use Rattle.call_text.proofs.fill.Statement.{statement}
 use Rattle.call_text.proofs.fill.Tie as tie
 
 tree-text-requires : tie.Need-tree-text-requires
-tree-text-requires c κs = let f = c .before .before .before .pre .0 in (plain (f .shown), f .is, omega (arith, formed-text f (f .shown) (f .is)))
+tree-text-requires c κs = let f = c .before .before .before .pre .0 .1 in (plain (f .shown), f .is, omega (arith, formed-text f (f .shown) (f .is)))
 
 few : (c : tie.After-slice-known2) → c .before .before .tree-text .result ≤ 2048
-few c = let f = c .before .before .before .before .before .before .pre .0 in omega (arith, c .before .before .tree-text .ensures (plain (f .shown)) (f .is) .many, formed-text f (f .shown) (f .is))
+few c = let f = c .before .before .before .before .before .before .pre .0 .1 in omega (arith, c .before .before .tree-text .ensures (plain (f .shown)) (f .is) .many, formed-text f (f .shown) (f .is))
 
 sub-zeros : tie.Need-sub-zeros
 sub-zeros c = few c

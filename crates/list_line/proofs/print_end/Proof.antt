@@ -21,11 +21,11 @@ returns-3 : tie.Need-returns-3
 returns-3 c = (omega (arith, c .before .before .put2 .ensures .past), λ f t e g h. appends-as (end-tree (f .ns) t (c .before .before .before .before .before .if3 .taken)) (c .before .before .put2 .ensures))
 
 put-tree-requires : tie.Need-put-tree-requires
-put-tree-requires c κs = let p = c .before .before .before .before .before .before .before .before .pre .1 in (plain (p .0), flat-tree (p .0) (p .1), omega (arith, c .before .before .before .before .before .before .before .before .pre .3, short-text p))
+put-tree-requires c κs = let p = c .before .before .before .before .before .before .before .before .pre .1 in (plain (p .shown), flat-tree (p .shown) (p .is), omega (arith, c .before .before .before .before .before .before .before .before .pre .3, short-text p))
 
 returns-4 : tie.Need-returns-4
 returns-4 c = (
-  let p = c .before .before .before .before .before .before .before .before .before .before .before .pre .1 in omega (arith, c .before .before .put-tree .ensures (plain (p .0)) (flat-tree (p .0) (p .1)) .past, short-text p),
+  let p = c .before .before .before .before .before .before .before .before .before .before .before .pre .1 in omega (arith, c .before .before .put-tree .ensures (plain (p .shown)) (flat-tree (p .shown) (p .is)) .past, short-text p),
   λ f t e g h. appends-as (end-text (f .ns) t (omega (arith, h, c .before .before .before .before .before .before .if1 .left, c .before .before .before .before .before .if2 .left, c .before .before .before .before .if3 .left))) (c .before .before .put-tree .ensures (plain t) (flat-tree t e)),
 )
 

@@ -9,7 +9,7 @@ use Rattle.file_read.specs.RingFile.{FileHolds}
 use Rattle.list_ring.specs.Stands.{lists-of}
 use Rattle.list_line.specs.Printing.{final}
 use Rattle.tree_pieces.proofs.Laws.{flat-tree}
-use Rattle.list_part.proofs.Answers.{final-tokens, final-published, order-room, is-final, is-ordered}
+use Rattle.list_part.proofs.Answers.{final-tokens, final-in-form, order-room, is-final, is-ordered}
 use borrow.Author.Needs.{needs}
 use Rattle.list_part.proofs.print_listing.Statement.{statement}
 use Rattle.list_part.proofs.print_listing.Tie as tie
@@ -35,7 +35,7 @@ print-from-requires : tie.Need-print-from-requires
 print-from-requires c κs = (
   c .before .before .before .before .before .before .before .before .before .before .before .before .before .before .before .before .before .before .before .pre,
   is-final (c .before .before .before .before .before .before .before .before .before .before .before .before .before .before .before .before .before .before .before .pre) (c .before .before .before .before .before .before .before .before .before .before .before .before .before .replay .ensures (c .before .before .before .before .before .before .before .before .before .before .before .before .before .before .before .before .before .before .before .pre)) (written (c .before .before .before .before .before .before) (c .before .before .before .before .before .before .before .before .before .before .before .before .before .before .before .before .before .before .before .pre) .1),
-  final-published (c .before .before .before .before .before .before .before .before .before .before .before .before .before .before .before .before .before .before .before .pre) (c .before .before .before .before .before .before .before .before .before .before .before .before .before .replay .ensures (c .before .before .before .before .before .before .before .before .before .before .before .before .before .before .before .before .before .before .before .pre)),
+  final-in-form (c .before .before .before .before .before .before .before .before .before .before .before .before .before .before .before .before .before .before .before .pre) (c .before .before .before .before .before .before .before .before .before .before .before .before .before .replay .ensures (c .before .before .before .before .before .before .before .before .before .before .before .before .before .before .before .before .before .before .before .pre)),
   is-ordered (c .before .before .before .before .before .before .before .before .before .before .before .before .before .before .before .before .before .before .before .pre) (c .before .before .before .before .before .before .before .before .before .before .before .before .before .replay .ensures (c .before .before .before .before .before .before .before .before .before .before .before .before .before .before .before .before .before .before .before .pre)) (written (c .before .before .before .before .before .before) (c .before .before .before .before .before .before .before .before .before .before .before .before .before .before .before .before .before .before .before .pre) .1),
 )
 

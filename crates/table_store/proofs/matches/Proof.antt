@@ -11,14 +11,14 @@ use Rattle.table_store.proofs.matches.Statement.{statement}
 use Rattle.table_store.proofs.matches.Tie as tie
 
 rows-match-requires : tie.Need-rows-match-requires
-rows-match-requires c κs = formed-rowed (c .before .before .pre .0) _ (c .before .before .pre .1)
+rows-match-requires c κs = formed-rowed (c .before .before .pre .0 .1) _ (c .before .before .pre .1)
 
 returns : tie.Need-returns
-returns c = λ t e. sym (table-not (c .before .before .before .before .pre .0) t e (c .before .before .before .before .args .table .now) (sym (c .before .rows-match .ensures (plain t) e) ∙ not-true _ (c .if1 .taken)))
+returns c = λ t e. sym (table-not (c .before .before .before .before .pre .0 .1) t e (c .before .before .before .before .args .table .now) (sym (c .before .rows-match .ensures (plain t) e) ∙ not-true _ (c .if1 .taken)))
 
 few : (c : tie.After-node-count) → 257 * c .node-count .result ≤ 65792
 few c =
-    let f = c .before .before .before .before .before .pre .0 in
+    let f = c .before .before .before .before .before .pre .0 .1 in
     let t = f .shown in
     omega (arith, c .node-count .ensures .1 (plain t) (f .is) ∙ ap nodes (tree-plain t), formed-few f t (f .is))
 
@@ -38,7 +38,7 @@ returns-2 : tie.Need-returns-2
 returns-2 c =
     λ t e.
     c .all-zero .ensures
-    ∙ sym (table-zeros (c .before .before .before .before .before .before .before .pre .0) t e (c .before .before .before .before .before .before .before .args .table .now) (c .before .before .before .before .before .before .before .pre .1) (c .before .before .node-count .ensures .1 (plain t) e) (sym (c .before .before .before .before .rows-match .ensures (plain t) e) ∙ not-false _ (c .before .before .before .if1 .left)))
+    ∙ sym (table-zeros (c .before .before .before .before .before .before .before .pre .0 .1) t e (c .before .before .before .before .before .before .before .args .table .now) (c .before .before .before .before .before .before .before .pre .1) (c .before .before .node-count .ensures .1 (plain t) e) (sym (c .before .before .before .before .rows-match .ensures (plain t) e) ∙ not-false _ (c .before .before .before .if1 .left)))
 
 pub matches-spec : {M : Type 1} → statement M
 matches-spec =

@@ -12,11 +12,11 @@ use Rattle.table_store.proofs.store.Statement.{statement}
 use Rattle.table_store.proofs.store.Tie as tie
 
 write-rows-requires : tie.Need-write-rows-requires
-write-rows-requires c κs = formed-rowed (c .before .before .before .pre .0) _ (c .before .before .before .pre .1)
+write-rows-requires c κs = formed-rowed (c .before .before .before .pre .0 .1) _ (c .before .before .before .pre .1)
 
 few : (c : tie.After-slice-known2) → c .before .before .write-rows .result ≤ 65535
 few c =
-    let f = c .before .before .before .before .before .before .pre .0 in
+    let f = c .before .before .before .before .before .before .pre .0 .1 in
     let t = f .shown in
     omega (
       arith,
