@@ -38,7 +38,7 @@ part-store-end : tie.Need-part-store-end
 part-store-end c = omega (arith, wrote-most (spelled (c .before) .2))
 
 store-requires : tie.Need-store-requires
-store-requires c κs = let l = room (c .before .before .before .before .before .before .before .before .before) in let f = spelled (c .before .before .before) in (record { size = c .before .before .before .before .before .before .before .before .before .before .before .before .before .before .before .before .args .n; shown = f .0; is = read-part (f .2); in-form = reads-form (f .1); few = l .1 }, l .2)
+store-requires c κs = let l = room (c .before .before .before .before .before .before .before .before .before) in let f = spelled (c .before .before .before) in ((c .before .before .before .before .before .before .before .before .before .before .before .before .before .before .before .before .args .n, record { shown = f .0; is = read-part (f .2); in-form = reads-form (f .1); few-leaves = l .1 }), l .2)
 
 clear-requires : tie.Need-clear-requires
 clear-requires c κs = room (c .before .before .before .before .before .before .before .before .before .before .before .before .before) .3

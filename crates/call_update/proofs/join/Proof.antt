@@ -18,7 +18,7 @@ part-store-end : tie.Need-part-store-end
 part-store-end c = omega (arith, wrote-most (new-tree (c .before) .wrote))
 
 store-requires : tie.Need-store-requires
-store-requires c κs = let j = new-tree (c .before .before .before) in (record { size = c .before .before .before .before .before .before .before .before .before .before .before .before .before .before .args .n; shown = j .tree; is = read-part (j .wrote); in-form = j .in-form; few = j .lent .few-leaves }, j .lent .all-rows)
+store-requires c κs = let j = new-tree (c .before .before .before) in ((c .before .before .before .before .before .before .before .before .before .before .before .before .before .before .args .n, record { shown = j .tree; is = read-part (j .wrote); in-form = j .in-form; few-leaves = j .lent .few-leaves }), j .lent .all-rows)
 
 put-requires : tie.Need-put-requires
 put-requires c κs = let j = new-tree (c .before .before .before .before .before .before .before) in (omega (arith, j .place-left), j .groups .all-words)

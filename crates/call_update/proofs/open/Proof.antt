@@ -34,7 +34,7 @@ part-store-end : tie.Need-part-store-end
 part-store-end c = omega (arith, wrote-most (c .before .before .fresh .ensures .1))
 
 store-requires : tie.Need-store-requires
-store-requires c κs = let l = room (c .before .before .before .before .before .before) in (record { size = c .before .before .before .before .before .before .before .before .before .before .before .before .args .n; shown = fresh (c .before .before .before .before .before .before .before .before .before .before .before .before .args .n); is = read-part (c .before .before .before .before .fresh .ensures .1); in-form = fresh-form (c .before .before .before .before .before .before .before .before .before .before .before .before .args .n); few = l .1 }, l .2)
+store-requires c κs = let l = room (c .before .before .before .before .before .before) in ((c .before .before .before .before .before .before .before .before .before .before .before .before .args .n, record { shown = fresh (c .before .before .before .before .before .before .before .before .before .before .before .before .args .n); is = read-part (c .before .before .before .before .fresh .ensures .1); in-form = fresh-form (c .before .before .before .before .before .before .before .before .before .before .before .before .args .n); few-leaves = l .1 }), l .2)
 
 clear-requires : tie.Need-clear-requires
 clear-requires c κs = room (c .before .before .before .before .before .before .before .before .before .before) .3

@@ -47,13 +47,7 @@ matches-requires : tie.Need-matches-requires
 matches-requires c κs =
     let n = c .before .before .before .before .before .before .before .before .before .before .before .before .before .before .before .args .n in
     let s = spelled-tree n (c .before .before .before .before .before .before .before .before .before .before .before .before .before .before .before .args .table .now) in (
-      record {
-        size = n;
-        shown = s;
-        is = read-part (written (c .before .before .before .before .before .before));
-        in-form = form-decides n s .0 (in-form (c .before .before));
-        few = c .before .before .before .before .before .before .before .before .before .before .before .before .before .before .before .pre .0;
-      },
+      (n, record { shown = s; is = read-part (written (c .before .before .before .before .before .before)); in-form = form-decides n s .0 (in-form (c .before .before)); few-leaves = c .before .before .before .before .before .before .before .before .before .before .before .before .before .before .before .pre .0 }),
       c .before .before .before .before .before .before .before .before .before .before .before .before .before .before .before .pre .1,
     )
 
