@@ -12,16 +12,13 @@ use Rattle.spec_calls.specs.Tables.{over}
 use Rattle.spec_calls.specs.NodeTable.{rows, table-of}
 use Rattle.spec_calls.proofs.NodeTables.{Narrow, form-narrow, form-few, rows-length}
 use Rattle.tree_tokens.specs.Tokens.{tree, plain, Wrote, flat, TreeTokens}
-use Rattle.tree_tokens.proofs.Sequences.{tree-plain, encode-injective}
+use Rattle.tree_tokens.proofs.Sequences.{tree-plain, flat-injective}
 use Rattle.table_row.specs.Rows.{Rowed}
 use Rattle.table_store.proofs.Comparing.{starts-padded, zero-part}
 
-plain-injective : (t u : Forest) → flat t ≡ flat u → t ≡ u
-plain-injective t u e = sym (tree-plain t) ∙ ap tree (encode-injective (plain t) (plain u) e) ∙ tree-plain u
-
 -- The tree that tokens in form show.
 pub formed-is : {n : ℕ} {l : List ℕ} (f : TreeTokens n l) (t : Forest) → l ≡ flat t → InForm n t
-formed-is {n} f t e = subst (InForm n) (plain-injective (f .shown) t (sym (f .is) ∙ e)) (f .in-form)
+formed-is {n} f t e = subst (InForm n) (flat-injective (f .shown) t (sym (f .is) ∙ e)) (f .in-form)
 
 -- Its rows fit into a table.
 pub formed-rows : {n : ℕ} {l : List ℕ} (f : TreeTokens n l) (t : Forest) → l ≡ flat t → length (rows 0 t) ≡ 257 * nodes t

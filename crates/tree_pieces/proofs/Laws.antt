@@ -18,7 +18,7 @@ use Rattle.spec_orders.proofs.Tests.{cond-cases}
 use Rattle.tree_tokens.specs.Tokens.{State, E, F, L, R, X, number, Judged, j-nil, j-leaf, j-node, tree, plain, j-rev, node-token, encode, flat}
 use Rattle.tree_tokens.specs.Views.{shape-of, state-of, first-of, rest-of}
 use Rattle.tree_tokens.proofs.Laws.{at-end}
-use Rattle.tree_tokens.proofs.Sequences.{encode-append, plain-append, plain-rev, tree-plain, rev-length, plain-length, bare-is, encode-injective}
+use Rattle.tree_tokens.proofs.Sequences.{encode-append, plain-append, plain-rev, tree-plain, rev-length, plain-length, bare-is}
 use Rattle.tree_judge.specs.Judge.{all-empty, all-full, rises}
 use Rattle.tree_judge.specs.Total.{Total, states-of, whole-of, c-node-of, unchanged, total-by, totals}
 use Rattle.tree_pieces.specs.Writers.{with-state, all-with-state, from-partial}
@@ -46,14 +46,8 @@ flat-c f {k} e =
     let h : 32 * length (flat f) + 24 + 0 ≡ 32 * k + 24 = omega (arith, e) in
     ap (λ (n : ℕ). n ∷ (flat f ++ [])) h ∙ ap (λ (l : List ℕ). (32 * k + 24) ∷ l) (append-nil (flat f))
 
-pub flat-tree : (f : Forest) {l : List ℕ} → l ≡ flat f → l ≡ flat f
-flat-tree f e = e
-
 pub flat-rev : (f : Forest) → encode (j-rev (plain f)) ≡ flat (rev f)
 flat-rev f = ap encode (sym (plain-rev f))
-
-pub flat-injective : (f g : Forest) → flat f ≡ flat g → f ≡ g
-flat-injective f g e = sym (tree-plain f) ∙ ap tree (encode-injective (plain f) (plain g) e) ∙ tree-plain g
 
 pub flat-rev-length : (f : Forest) → length (flat (rev f)) ≡ length (flat f)
 flat-rev-length f = ap length (sym (flat-rev f)) ∙ rev-length (plain f)

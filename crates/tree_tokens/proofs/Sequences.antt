@@ -154,3 +154,7 @@ encode-injective (j-node s q i j) (j-node r d u k) e =
 -- One more token without its state, at index i.
 pub bare-more : (s : List ℕ) (i : ℕ) → i < length s → map bare (take (i + 1) s) ≡ map bare (take i s) ++ (bare (getD s i 0) ∷ [])
 bare-more s i h = rw (add-one, take-suc s i 0 h) (map-append bare (take i s) (getD s i 0 ∷ []))
+
+-- The tokens tell the tree.
+pub flat-injective : (f g : Forest) → flat f ≡ flat g → f ≡ g
+flat-injective f g e = sym (tree-plain f) ∙ ap tree (encode-injective (plain f) (plain g) e) ∙ tree-plain g

@@ -30,7 +30,7 @@ use Rattle.tree_judge.specs.Judge.{can-reduce, judge}
 use Rattle.tree_judge.specs.Total.{first-reduced, totals, when}
 use Rattle.tree_judge.proofs.Judged.{tree-judge}
 use Rattle.tree_judge.proofs.Reduces.{reduce-total}
-use Rattle.tree_pieces.proofs.Laws.{flat-tree, flat-injective}
+use Rattle.tree_tokens.proofs.Sequences.{flat-injective}
 use Rattle.tree_stays.specs.Stays.{stays}
 use Rattle.tree_stays.proofs.Same.{stays-same}
 use Rattle.tree_update.specs.Update.{FormWithin, TokensWithin}
@@ -84,7 +84,7 @@ join-form G {t} {u} f e = let r = tree-left G t (f .single) (f .canonical) u (f 
 pub reduce-none : (S : Restriction) (t : Forest) {l : List ℕ} → l ≡ flat t → length l ≡ 0 → (t ≡ nil) × (reduce S t ≡ some nil)
 unfolding reduce
 reduce-none S t e h =
-    let q : t ≡ nil = sym (tree-plain t) ∙ ap tree (at-end (plain t) (flat-tree t e) h) in
+    let q : t ≡ nil = sym (tree-plain t) ∙ ap tree (at-end (plain t) e h) in
     (q, rw q)
 
 when-x : (s : State) (f : Forest) → number s ≡ 4 → when (can-reduce s) f ≡ none

@@ -8,7 +8,6 @@ use Rattle.tree_tokens.proofs.Writes.{wrote-most}
 use Rattle.file_read.specs.RingFile.{FileHolds}
 use Rattle.list_ring.specs.Stands.{lists-of}
 use Rattle.list_line.specs.Printing.{final}
-use Rattle.tree_pieces.proofs.Laws.{flat-tree}
 use Rattle.list_part.proofs.Answers.{final-tokens, final-in-form, order-room, is-final, is-ordered}
 use borrow.Author.Needs.{needs}
 use Rattle.list_part.proofs.print_listing.Statement.{statement}
@@ -17,13 +16,13 @@ use Rattle.list_part.proofs.print_listing.Tie as tie
 -- The order that was written.
 written : (c : tie.After-standard-order) (f : FileHolds (now (c .before .before .before .before .before .before .before .before .before .before .before .before .before .args .file)) (c .before .before .before .before .before .before .before .before .before .before .before .before .before .args .names) (c .before .before .before .before .before .before .before .before .before .before .before .before .before .args .head) (c .before .before .before .before .before .before .before .before .before .before .before .before .before .args .lines))
     → (old : List ℕ) × Wrote (standard (tree (plain (final (f .ns) (lists-of f))))) old (c .standard-order .last .1 .0) (c .standard-order .result)
-written c f = (_, c .standard-order .ensures (plain (final (f .ns) (lists-of f))) (flat-tree _ (final-tokens f (c .before .before .before .before .before .before .before .replay .ensures f))))
+written c f = (_, c .standard-order .ensures (plain (final (f .ns) (lists-of f))) (final-tokens f (c .before .before .before .before .before .before .before .replay .ensures f)))
 
 part-standard-order-end : tie.Need-part-standard-order-end
 part-standard-order-end c = omega (arith, c .before .before .before .before .replay .ensures (c .before .before .before .before .before .before .before .before .before .before .pre) .all-tokens)
 
 standard-order-requires : tie.Need-standard-order-requires
-standard-order-requires c κs = (plain (final (c .before .before .before .before .before .before .before .before .before .before .before .before .pre .ns) (lists-of (c .before .before .before .before .before .before .before .before .before .before .before .before .pre))), flat-tree _ (final-tokens (c .before .before .before .before .before .before .before .before .before .before .before .before .pre) (c .before .before .before .before .before .before .replay .ensures (c .before .before .before .before .before .before .before .before .before .before .before .before .pre))), order-room (c .before .before .before .before .before .before .before .before .before .before .before .before .pre) (c .before .before .before .before .before .before .replay .ensures (c .before .before .before .before .before .before .before .before .before .before .before .before .pre)))
+standard-order-requires c κs = (plain (final (c .before .before .before .before .before .before .before .before .before .before .before .before .pre .ns) (lists-of (c .before .before .before .before .before .before .before .before .before .before .before .before .pre))), (final-tokens (c .before .before .before .before .before .before .before .before .before .before .before .before .pre) (c .before .before .before .before .before .before .replay .ensures (c .before .before .before .before .before .before .before .before .before .before .before .before .pre))), order-room (c .before .before .before .before .before .before .before .before .before .before .before .before .pre) (c .before .before .before .before .before .before .replay .ensures (c .before .before .before .before .before .before .before .before .before .before .before .before .pre)))
 
 part-print-from-end : tie.Need-part-print-from-end
 part-print-from-end c = omega (arith, c .before .before .before .before .before .before .before .before .before .replay .ensures (c .before .before .before .before .before .before .before .before .before .before .before .before .before .before .before .pre) .all-tokens)

@@ -7,19 +7,19 @@ use Rattle.spec_orders.specs.Tree.{Forest}
 use Rattle.spec_orders.specs.Form.{first}
 use Rattle.tree_tokens.proofs.Sequences.{tree-plain}
 use Rattle.tree_tokens.proofs.Writes.{wrote-head}
-use Rattle.tree_pieces.proofs.Laws.{flat-tree, placed, placed-few, placed-many, placed-le}
+use Rattle.tree_pieces.proofs.Laws.{placed, placed-few, placed-many, placed-le}
 use borrow.Author.Needs.{needs}
 use Rattle.tree_pieces.proofs.among.Statement.{statement}
 use Rattle.tree_pieces.proofs.among.Tie as tie
 
 first-leaf-requires : tie.Need-first-leaf-requires
-first-leaf-requires c κs = (_, flat-tree (c .before .before .before .pre .1) (c .before .before .before .pre .3))
+first-leaf-requires c κs = (_, (c .before .before .before .pre .3))
 
 count-requires : tie.Need-count-requires
 count-requires c κs = (_, c .before .before .before .before .pre .2)
 
 item-count-requires : tie.Need-item-count-requires
-item-count-requires c κs = (_, flat-tree (c .before .before .before .before .before .pre .1) (c .before .before .before .before .before .pre .3))
+item-count-requires c κs = (_, (c .before .before .before .before .before .pre .3))
 
 insert-requires : tie.Need-insert-requires
 insert-requires c κs =
@@ -28,22 +28,22 @@ insert-requires c κs =
       p .1,
       p .2,
       p .3,
-      c .before .before .before .before .first-leaf .ensures _ (flat-tree (p .1) (p .3)) ∙ ap first (tree-plain (p .1)),
+      c .before .before .before .before .first-leaf .ensures _ (p .3) ∙ ap first (tree-plain (p .1)),
       omega (
         arith,
         p .5,
-        ap (λ (f : Forest). length (flat f)) (placed-few (p .1) (p .0) (c .before .before .before .count .ensures .1 (p .0) (p .2)) (c .before .before .item-count .ensures .1 _ (flat-tree (p .1) (p .3))) (c .before .if1 .taken)),
+        ap (λ (f : Forest). length (flat f)) (placed-few (p .1) (p .0) (c .before .before .before .count .ensures .1 (p .0) (p .2)) (c .before .before .item-count .ensures .1 _ (p .3)) (c .before .if1 .taken)),
       ),
     )
 
 returns : tie.Need-returns
-returns c = λ j g e q. rw (placed-few g j (c .before .before .before .before .before .before .count .ensures .1 j e) (c .before .before .before .before .before .item-count .ensures .1 _ (flat-tree g q)) (c .before .before .before .before .if1 .taken)) (c .before .before .insert .ensures j g e q)
+returns c = λ j g e q. rw (placed-few g j (c .before .before .before .before .before .before .count .ensures .1 j e) (c .before .before .before .before .before .item-count .ensures .1 _ q) (c .before .before .before .before .if1 .taken)) (c .before .before .insert .ensures j g e q)
 
 -- There is room for the header and the items.
 room : (c : tie.Else1) → 1 + length (flat (placed (c .before .before .before .before .before .before .before .pre .1) (c .before .before .before .before .before .before .before .pre .0))) ≤ length (c .before .before .before .before .before .before .before .args .out .now)
 room c =
     let p = c .before .before .before .before .before .before .before .pre in
-    omega (arith, p .5, ap length (placed-many (p .1) (p .0) (c .before .before .count .ensures .1 (p .0) (p .2)) (c .before .item-count .ensures .1 _ (flat-tree (p .1) (p .3))) (c .if1 .left) refl))
+    omega (arith, p .5, ap length (placed-many (p .1) (p .0) (c .before .before .count .ensures .1 (p .0) (p .2)) (c .before .item-count .ensures .1 _ (p .3)) (c .if1 .left) refl))
 
 sub-insert : tie.Need-sub-insert
 sub-insert c = omega (arith, room c)
@@ -54,7 +54,7 @@ part-insert-start c = omega (arith, room c)
 insert-requires-2 : tie.Need-insert-requires-2
 insert-requires-2 c κs =
     let p = c .before .before .before .before .before .before .before .before .pre in
-    (_, p .1, p .2, p .3, c .before .before .before .before .first-leaf .ensures _ (flat-tree (p .1) (p .3)) ∙ ap first (tree-plain (p .1)), omega (arith, room (c .before), c .insert-arg2 .given))
+    (_, p .1, p .2, p .3, c .before .before .before .before .first-leaf .ensures _ (p .3) ∙ ap first (tree-plain (p .1)), omega (arith, room (c .before), c .insert-arg2 .given))
 
 few : (c : tie.After-slice-known3) → c .before .before .insert2 .result ≤ length (c .before .before .before .before .before .before .before .before .before .before .before .args .x .now) + length (c .before .before .before .before .before .before .before .before .before .before .before .args .t .now)
 few c =
@@ -79,7 +79,7 @@ add-result c = omega (arith, few c, c .before .before .before .before .before .b
 returns-2 : tie.Need-returns-2
 returns-2 c = λ j g e q.
     let w = c .before .before .insert2 .ensures j g e q in
-    rw (placed-many g j (c .before .before .before .before .before .before .count .ensures .1 j e) (c .before .before .before .before .before .item-count .ensures .1 _ (flat-tree g q)) (c .before .before .before .before .if1 .left) (w .many)) (wrote-head _ (c .before .before .before .before .before .before .before .before .before .before .before .args .out .now) (omega (arith, room (c .before .before .before .before))) w)
+    rw (placed-many g j (c .before .before .before .before .before .before .count .ensures .1 j e) (c .before .before .before .before .before .item-count .ensures .1 _ q) (c .before .before .before .before .if1 .left) (w .many)) (wrote-head _ (c .before .before .before .before .before .before .before .before .before .before .before .args .out .now) (omega (arith, room (c .before .before .before .before))) w)
 
 pub among-spec : {M : Type 1} → statement M
 among-spec =

@@ -5,23 +5,23 @@ use Rattle.spec_orders.specs.Tree.{Forest, rev}
 use Rattle.spec_orders.specs.Form.{first}
 use Rattle.tree_tokens.proofs.Sequences.{tree-plain}
 use Rattle.tree_tokens.proofs.Writes.{wrote-head}
-use Rattle.tree_pieces.proofs.Laws.{flat-tree, flat-rev, flat-turned, flat-kept}
+use Rattle.tree_pieces.proofs.Laws.{flat-rev, flat-turned, flat-kept}
 use borrow.Author.Needs.{needs}
 use Rattle.tree_pieces.proofs.c_node.Statement.{statement}
 use Rattle.tree_pieces.proofs.c_node.Tie as tie
 
 last-leaf-requires : tie.Need-last-leaf-requires
-last-leaf-requires c κs = (_, flat-tree (c .before .before .pre .0) (c .before .before .pre .1))
+last-leaf-requires c κs = (_, (c .before .before .pre .1))
 
 first-leaf-requires : tie.Need-first-leaf-requires
-first-leaf-requires c κs = (_, flat-tree (c .before .before .before .pre .0) (c .before .before .before .pre .1))
+first-leaf-requires c κs = (_, (c .before .before .before .pre .1))
 
 reverse-requires : tie.Need-reverse-requires
-reverse-requires c κs = ((_, flat-tree (c .before .before .before .before .before .before .pre .0) (c .before .before .before .before .before .before .pre .1)), omega arith)
+reverse-requires c κs = ((_, (c .before .before .before .before .before .before .pre .1)), omega arith)
 
 returns : tie.Need-returns
 returns c = λ f e.
-    let l = flat-tree f e in
+    let l = e in
     let turned : first (rev f) < first f = omega (
       arith,
       c .before .before .before .before .before .before .last-leaf .ensures _ l,
@@ -35,7 +35,7 @@ returns c = λ f e.
 
 returns-2 : tie.Need-returns-2
 returns-2 c = λ f e.
-    let l = flat-tree f e in
+    let l = e in
     let w = rw e at (c .before .before .copy .ensures) in
     rw (flat-kept f (λ h. omega (
       arith,

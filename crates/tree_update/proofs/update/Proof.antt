@@ -9,7 +9,7 @@ use Rattle.tree_tokens.specs.Views.{state-of}
 use Rattle.tree_tokens.proofs.Writes.{wrote-none}
 use Rattle.tree_judge.specs.Judge.{judge}
 use Rattle.tree_judge.specs.Total.{first-reduced, totals}
-use Rattle.tree_pieces.proofs.Laws.{flat-nil, flat-tree}
+use Rattle.tree_pieces.proofs.Laws.{flat-nil}
 use Rattle.tree_update.specs.Update.{impossible, written}
 use Rattle.tree_update.proofs.Laws.{read-part}
 use Rattle.tree_update.proofs.Updates.{reduce-none, reduce-no, reduce-yes, reduce-stays, reduced-short, the-form, tokens-short, judged-part, wrote-as}
@@ -21,12 +21,12 @@ returns : tie.Need-returns
 returns c = λ t e. rw (reduce-none (marked (c .before .before .before .before .args .marks .now)) t e (c .if1 .taken) .1) (written (wrote-as (sym flat-nil) (wrote-none _)))
 
 judge-requires : tie.Need-judge-requires
-judge-requires c κs = ((_, flat-tree (c .before .before .before .before .before .pre .1 .0) (c .before .before .before .before .before .pre .1 .1)), omega (arith, tokens-short (c .before .before .before .before .before .pre .0) (c .before .before .before .before .before .args .toks .now) (c .before .before .before .before .before .pre .1)))
+judge-requires c κs = ((_, (c .before .before .before .before .before .pre .1 .1)), omega (arith, tokens-short (c .before .before .before .before .before .pre .0) (c .before .before .before .before .before .args .toks .now) (c .before .before .before .before .before .pre .1)))
 
 -- The judged tree.
 text : (c : tie.After-judged2) (t : Forest) → c .before .before .before .before .before .before .before .args .toks .now ≡ flat t
     → take (length (c .before .before .before .before .before .before .before .args .toks .now) - 0) (drop 0 (c .before .judge .last .1 .1 .0)) ≡ encode (judge (marked (c .before .before .before .before .before .before .before .args .marks .now)) t)
-text c t e = judged-part (marked (c .before .before .before .before .before .before .before .args .marks .now)) t (c .before .judge .ensures (plain t) (flat-tree t e))
+text c t e = judged-part (marked (c .before .before .before .before .before .before .before .args .marks .now)) t (c .before .judge .ensures (plain t) e)
 
 part-state-end : tie.Need-part-state-end
 part-state-end c = omega (arith, tokens-short (c .before .before .before .before .before .before .before .before .pre .0) (c .before .before .before .before .before .before .before .before .args .toks .now) (c .before .before .before .before .before .before .before .before .pre .1), c .before .before .judge .kept .1 .1 .0)
