@@ -1,6 +1,6 @@
 -- The list of marks, and how many there are.
-use mathlib.Core.Path.{_≡_, refl, sym, ap, _∙_}
-use mathlib.Core.Bool.{Bool, true, false, true≢false}
+use mathlib.Core.Path.{_≡_, sym, ap, _∙_}
+use mathlib.Core.Bool.{true, false, true≢false}
 use mathlib.Core.List.{List}
 use Prim.Native.Nat.{ℕ, zero, suc, _+_, _*_, _/_, _%_, _≤_, _<_}
 use native.Mathlib.Nat.{mod-lt}
@@ -11,9 +11,9 @@ use Rattle.spec_orders.specs.Lists.{All, Distinct, In, those-of, elem, numbers-
 use Rattle.spec_orders.specs.CircularOrder.{Restriction, WellFormed}
 use Rattle.mark_words.specs.Marks.{bit, marked, words-of, leaves-of}
 use Rattle.spec_orders.proofs.ListLaws.{all-map}
-use Rattle.spec_orders.proofs.Members.{elem-in, in-elem, all-in, in-all}
+use Rattle.spec_orders.proofs.Members.{elem-in, all-in}
 use Rattle.spec_orders.proofs.Numbers.{those-different, in-those, those-in, in-range, numbers-in, those-agree, count-elem}
-use Rattle.mark_words.proofs.Words.{Words, words-agree, words-of-marked, length-words, leaf-at, marked-none, marked-past, marked-words}
+use Rattle.mark_words.proofs.Words.{length-words, leaf-at, marked-none, marked-past, marked-words}
 use Rattle.spec_orders.proofs.Tests.{false-if}
 
 -- A leaf stands in the list of marks just when it is marked, and then it is one of the words' leaves.
@@ -41,19 +41,6 @@ marked-range ws x e = leaf-range ws x (marked-leaf ws x e)
 pub leaves-different : (ws : List ℕ) → Distinct (leaves-of ws)
 unfolding leaves-of
 leaves-different ws = those-different (marked ws) 1 (64 * length ws)
-
-pub leaves-range : (ws : List ℕ) → All (λ b. (1 ≤ b) × (b ≤ 64 * length ws)) (leaves-of ws)
-leaves-range ws = in-all (λ b. (1 ≤ b) × (b ≤ 64 * length ws)) (leaves-of ws) (λ x i. leaf-range ws x i)
-
-pub elem-leaves : (ws : List ℕ) (x : ℕ) → elem (leaves-of ws) x ≡ marked ws x
-elem-leaves ws x = go (marked ws x) refl
-  where
-    go : (b : Bool) → marked ws x ≡ b → elem (leaves-of ws) x ≡ b
-    go true e = in-elem (leaves-of ws) x (marked-leaf ws x e)
-    go false e = false-if (elem (leaves-of ws) x) (λ t. true≢false (sym (leaf-marked ws x (elem-in (leaves-of ws) x t)) ∙ e))
-
-pub words-of-leaves : (ws : List ℕ) → Words ws → words-of (length ws) (elem (leaves-of ws)) ≡ ws
-words-of-leaves ws v = words-agree (length ws) (elem (leaves-of ws)) (marked ws) (λ x l m. elem-leaves ws x) ∙ words-of-marked ws v
 
 -- What holds of the leaf of each mark holds of each leaf of the list.
 pub by-mark : (ws : List ℕ) (P : ℕ → Type 0) → ((i j : ℕ) → i < length ws → j < 64 → bit (getD ws i 0) j ≡ true → P (64 * i + suc j))

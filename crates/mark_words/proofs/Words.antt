@@ -12,7 +12,7 @@ use lib.Seq.{ext-getD, getD-at, set-at, drop-cons, append-snoc}
 use lib.Pow.{pow-pos}
 use Rattle.spec_orders.specs.CircularOrder.{Restriction}
 use Rattle.mark_words.specs.Marks.{bit, marked, word-of, words-of, no-leaf}
-use Rattle.mark_words.proofs.Word.{word-lt, word-bit, word-is, word-agree, bit-past, word-none}
+use Rattle.mark_words.proofs.Word.{word-bit, word-is, word-agree, bit-past, word-none}
 
 -- Every word is one of 64 marks.
 abbrev pub Words : List ℕ → Type 0
@@ -46,13 +46,6 @@ no-words (suc k) = rw (no-words k, ← word-none (64 * k) 64) (snoc k)
     snoc : (k : ℕ) → _++_ {A = ℕ} (replicate k 0) (0 ∷ []) ≡ replicate (suc k) 0
     snoc zero = refl
     snoc (suc k) = ap (λ l. 0 ∷ l) (snoc k)
-
-pub words-lt : (k : ℕ) (G : Restriction) → Words (words-of k G)
-words-lt k G i = go (decLt i k)
-  where
-    go : Dec (i < k) → getD (words-of k G) i 0 < 2 ^ 64
-    go (yes l) = rw word-at (word-lt G (64 * i) 64)
-    go (no l) = rw (List·getD-eq-default (words-of k G) 0 {n = i} (rw length-words (omega arith))) (pow-pos 64)
 
 -- ---- marks
 
@@ -89,9 +82,6 @@ marked-words k G (suc m) h l =
     ap (λ (w : ℕ). bit w (m % 64)) (word-at k G (m / 64) (omega (arith, div-add-mod m 64)))
     ∙ word-bit G (64 * (m / 64)) 64 (m % 64) (mod-lt m (omega arith)) ∙ ap G (leaf-at m)
 
-pub marked-words-past : (k : ℕ) (G : Restriction) (b : ℕ) → 64 * k < b → marked (words-of k G) b ≡ false
-marked-words-past k G b h = marked-past (words-of k G) b (rw length-words h)
-
 -- ---- what a list of words is
 
 pub words-are : (ws : List ℕ) (G : Restriction) → ((i : ℕ) → i < length ws → getD ws i 0 ≡ word-of G (64 * i) 64) → ws ≡ words-of (length ws) G
@@ -111,10 +101,6 @@ words-agree (suc k) G H h =
 
 pub words-of-marked : (ws : List ℕ) → Words ws → words-of (length ws) (marked ws) ≡ ws
 words-of-marked ws w = sym (words-by-marks ws (marked ws) w (λ i j l m. sym (marked-at ws i j m)))
-
-pub words-ext : (vs ws : List ℕ) → length vs ≡ length ws → Words vs → Words ws → ((b : ℕ) → 1 ≤ b → b ≤ 64 * length ws → marked vs b ≡ marked ws b) → vs ≡ ws
-words-ext vs ws e v w h =
-    sym (words-of-marked vs v) ∙ ap (λ (k : ℕ). words-of k (marked vs)) e ∙ words-agree (length ws) (marked vs) (marked ws) h ∙ words-of-marked ws w
 
 -- ---- words written one after the other
 

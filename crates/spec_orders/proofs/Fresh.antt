@@ -3,8 +3,8 @@
 use mathlib.Core.Path.{_∙_, _≡_, ap, refl, subst, sym}
 use mathlib.Core.Logic.{Iff·trans, _↔_}
 use mathlib.Core.Bool.{Bool, cond, false, true}
-use mathlib.Core.Option.{Option, Option·none-ne-some, Option·some-injective, none, some}
-use mathlib.Core.List.{List, [], _++_, _∷_, map}
+use mathlib.Core.Option.{Option, none, some}
+use mathlib.Core.List.{List, [], _∷_, map}
 use Prim.Native.Nat.{_<_, suc, zero, ℕ}
 use native.Mathlib.Omega.{arith}
 use borrow.Author.Tests.{ltb-true}
@@ -100,15 +100,6 @@ fresh-allowed n ord = (
 )
 
 -- Restrictions that join a tree in form, one after another.
-pub joins-form : (n : ℕ) (Gs : List Restriction) (t t′ : Forest) → InForm n t → joins Gs t ≡ some t′ → InForm n t′
-unfolding joins
-joins-form n [] t t′ f e = subst (InForm n) (Option·some-injective t t′ e) f
-joins-form n (G ∷ Gs) t t′ f e = go (join G t) refl e (joins-form n Gs)
-  where
-    go : (o : Option Forest) → join G t ≡ o → then o (joins Gs) ≡ some t′ → ((u u′ : Forest) → InForm n u → joins Gs u ≡ some u′ → InForm n u′) → InForm n t′
-    go none q e rec = absurd (Option·none-ne-some t′ e)
-    go (some u) q e rec = rec u t′ (join-some n G t u f q .form) e
-
 pub joins-orders : (n : ℕ) (Gs : List Restriction) (t : Forest) → InForm n t → (ord : List ℕ) → Allows (joins Gs t) ord ↔ (Allowed t ord × AllConsecutive Gs ord)
 unfolding joins
 joins-orders n [] t f ord = ((λ a. (a, tt)), (λ r. r .0))
@@ -121,20 +112,6 @@ joins-orders n (G ∷ Gs) t f ord = go (join G t) refl (join-orders n G t f ord)
     go (some u) q k rec =
         let r = rec u (join-some n G t u f q .form) ord in
         ((λ g. let a = r .0 g in let b = k .0 (a .0) in (b .0, (b .1, a .1))), (λ g. r .1 (k .1 (g .0, g .1 .0), g .1 .1)))
-
--- One more, at the end.
-pub joins-next : (Gs : List Restriction) (G : Restriction) (t : Forest) → joins (Gs ++ (G ∷ [])) t ≡ then (joins Gs t) (join G)
-unfolding joins
-joins-next [] G t = go (join G t)
-  where
-    go : (o : Option Forest) → then o (λ u. some u) ≡ o
-    go none = refl
-    go (some u) = refl
-joins-next (H ∷ Gs) G t = go (join H t) (joins-next Gs G)
-  where
-    go : (o : Option Forest) → ((u : Forest) → joins (Gs ++ (G ∷ [])) u ≡ then (joins Gs u) (join G)) → then o (joins (Gs ++ (G ∷ []))) ≡ then (then o (joins Gs)) (join G)
-    go none rec = refl
-    go (some u) rec = rec u
 
 -- From the fresh ring: the circular orders in which each restriction is consecutive.
 pub fresh-joins : (n : ℕ) (Gs : List Restriction) (ord : List ℕ) → Allows (joins Gs (fresh n)) ord ↔ (CircularOrder n ord × AllConsecutive Gs ord)

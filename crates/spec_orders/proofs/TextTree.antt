@@ -9,7 +9,7 @@ use Rattle.spec_orders.specs.Lists.{All, numbers-from}
 use Rattle.spec_orders.specs.CircularOrder.{others}
 use Rattle.spec_orders.specs.Tree.{Kind, P, C, Forest, nil, leaf, node, frontier}
 use Rattle.spec_orders.specs.Form.{InForm, nodes}
-use Rattle.spec_orders.specs.TreeText.{digits, letter, text, more, tree-text, ShapeText}
+use Rattle.spec_orders.specs.TreeText.{digits, letter, text, more, tree-text}
 use Rattle.spec_orders.proofs.ListLaws.{all-left, all-right, all-map}
 use Rattle.spec_orders.proofs.Rearranged.{perm-all, perm-length}
 use Rattle.spec_orders.proofs.Members.{NonEmpty}
@@ -112,9 +112,6 @@ mutual
 pub text-injective : (t u : Forest) → tree-text t ≡ tree-text u → t ≡ u
 unfolding tree-text
 text-injective t u e = more-same t u [] [] (ap (λ l. l ++ (41 ∷ [])) (tail-eq-of-cons-eq e)) .0
-
-pub one-tree : (n : ℕ) (x : List ℕ) (s t : ShapeText n x) → s .tree ≡ t .tree
-one-tree n x s t = text-injective (s .tree) (t .tree) (sym (s .bytes) ∙ t .bytes)
 
 -- The leaves of a tree in form for n leaves are at most n.
 numbers-most : (a k n : ℕ) → a + k ≤ suc n → All (λ b. b ≤ n) (numbers-from a k)

@@ -11,7 +11,6 @@ use lib.Dec.{eqb}
 use lib.ListN.{length, getD, set}
 use Rattle.spec_orders.specs.Lists.{All, same}
 use Rattle.spec_orders.specs.TreeText.{digits}
-use Rattle.spec_orders.proofs.ListLaws.{all-map}
 use Rattle.spec_orders.proofs.Rearranged.{pick-all}
 use Rattle.spec_orders.proofs.Members.{NonEmpty}
 use Rattle.spec_orders.proofs.FormTests.{same-decides}
@@ -129,12 +128,6 @@ unused-above (t ∷ l) a h = cond-cases (eqb t 0) _ _ (All Positive) (λ y. (h, 
 unused-positive : (used : List ℕ) → getD used 0 0 ≡ 1 → All Positive (unused 0 used)
 unused-positive [] h = tt
 unused-positive (t ∷ l) h = rw (ne-eqb t 0 (omega arith)) (unused-above l 1 (omega arith))
-
-unused-below : (l : List ℕ) (a : ℕ) → All (λ m. m < a + length l) (unused a l)
-unused-below [] a = tt
-unused-below (t ∷ l) a =
-    let rest = all-map (λ m. m < suc a + length l) (λ m. m < a + length (t ∷ l)) (λ m h. omega arith) (unused (suc a) l) (unused-below l (suc a)) in
-    cond-cases (eqb t 0) _ _ (All (λ m. m < a + length (t ∷ l))) (λ y. (omega arith, rest)) (λ n. rest)
 
 -- A number that begins a leaf is not above it, so it has a mark.
 starts-below : (v m : ℕ) → starts v m ≡ true → v ≤ m

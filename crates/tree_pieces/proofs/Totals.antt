@@ -8,13 +8,13 @@ use native.Mathlib.Omega.{arith}
 use borrow.Author.Tests.{le-leb, lt-leb, leb-true, leb-false}
 use lib.Dec.{eqb, leb}
 use lib.ListN.{length}
-use Rattle.spec_orders.specs.Tree.{P, C, append}
+use Rattle.spec_orders.specs.Tree.{P, append}
 use Rattle.spec_orders.specs.Reduce.{put-sorted, pack}
 use Rattle.tree_tokens.specs.Tokens.{State, E, F, number, Judged, j-nil, j-leaf, j-node, encode}
 use Rattle.tree_tokens.specs.Views.{state-of, rest-of}
 use Rattle.tree_tokens.proofs.Laws.{at-end}
 use Rattle.tree_judge.specs.Total.{Total, whole-of, only-of, partial-of, pack-of, first-linear, first-mirrored, lines, mirrored-lines, linear-of, mirrored-of, gather-of, reduced-of, totals}
-use Rattle.tree_pieces.specs.Writers.{with-state, from-partial, first-in-line, all-in-line, p-in-line, c-in-line, gathered}
+use Rattle.tree_pieces.specs.Writers.{with-state, from-partial, first-in-line, all-in-line, p-in-line, gathered}
 use Rattle.tree_pieces.proofs.Laws.{AtFirst, at-first, totals-none, from-none, from-here, from-on}
 
 -- The items of one state.
@@ -95,14 +95,6 @@ p-linear-is ts = rw (only-is E ts, only-is F ts, first-linear-is (partial-of ts)
 pub p-mirrored-is : (ts : List Total) → p-in-line true ts ≡ mirrored-of P ts
 unfolding p-in-line mirrored-of pack-of
 p-mirrored-is ts = rw (only-is E ts, only-is F ts, first-mirrored-is (partial-of ts))
-
-pub c-linear-is : (ts : List Total) → c-in-line false ts ≡ linear-of C ts
-unfolding c-in-line
-c-linear-is ts = refl
-
-pub c-mirrored-is : (ts : List Total) → c-in-line true ts ≡ mirrored-of C ts
-unfolding c-in-line
-c-mirrored-is ts = refl
 
 -- A P-node's partial and full items as one item; that item among the empty ones.
 pub gathered-is : (ts : List Total) → gathered ts ≡ gather-of (partial-of ts) (only-of F ts)

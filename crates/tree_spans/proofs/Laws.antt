@@ -127,14 +127,6 @@ some-passing p (j-node s k i j) h t = rw t (omega arith)
 pub parted-some : {p : ℕ → Bool} {x : List ℕ} (j : Judged) {r : ℕ} → Parted p x j r → x ≡ encode j → 0 < length x → p (number (state-of j)) ≡ true → 0 < r
 parted-some {p} {x} j {r} w e h t = some-taken r x (w .front) (some-passing p j (omega (arith, ap length e)) t)
 
--- Where no token passes, the first item does not.
-pub parted-first : {p : ℕ → Bool} {x : List ℕ} (j : Judged) {r : ℕ} → Parted p x j r → x ≡ encode j → 0 < length x → r ≡ 0 → p (number (state-of j)) ≡ false
-parted-first {p} j w e h z = go (p (number (state-of j))) refl
-  where
-    go : (b : Bool) → p (number (state-of j)) ≡ b → b ≡ false
-    go true t = absurd (omega (arith, parted-some j w e h t))
-    go false t = refl
-
 module _ (p : ℕ → Bool) where
   -- What an item that passes does not change, all those that pass do not.
   pub beyond-same : {A : Type 0} (g : Judged → A) → ((k : Judged) → 0 < length (encode k) → p (number (state-of k)) ≡ true → g k ≡ g (rest-of k))

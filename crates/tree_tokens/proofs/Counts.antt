@@ -1,7 +1,7 @@
 -- Leaves, nodes and items, counted and found by tokens and by views.
 use mathlib.Core.Path.{_≡_, refl, sym, _∙_}
 use mathlib.Core.List.{List, [], _∷_, _++_}
-use Prim.Native.Nat.{ℕ, _+_, _/_, _%_, _≤_, _<_}
+use Prim.Native.Nat.{ℕ, _+_, _/_, _%_, _<_}
 use native.Mathlib.Omega.{arith}
 use native.Mathlib.Numerals.{add-one}
 use lib.ListN.{length, drop, getD, length-append}
@@ -50,12 +50,6 @@ leaves-and-nodes (j-node s k i j) =
       leaves-and-nodes i,
       leaves-and-nodes j,
     )
-
-pub items-le : (j : Judged) → length (items (tree j)) ≤ length (encode j)
-unfolding encode
-items-le j-nil = omega arith
-items-le (j-leaf s b j) = omega (arith, items-le j)
-items-le (j-node s k i j) = omega (arith, items-le j, length-append (encode i) (encode j))
 
 pub items-more : (j : Judged) → 0 < length (encode j) → length (items (tree j)) ≡ 1 + length (items (tree (rest-of j)))
 unfolding encode rest-of

@@ -1,6 +1,6 @@
 -- The first item of a sequence, read off its tokens.
 use mathlib.Core.Path.{_≡_, refl, sym, ap, _∙_}
-use mathlib.Core.List.{List, [], _∷_, _++_, append-nil}
+use mathlib.Core.List.{List, _∷_, _++_, append-nil}
 use Prim.Native.Nat.{ℕ, zero, suc, _+_, _-_, _/_, _%_, _≤_, _<_}
 use native.Mathlib.Omega.{arith}
 use lib.ListN.{length, take, drop, getD, length-append}
@@ -110,10 +110,6 @@ third-shape (j-node s P i j) ne h g = absurd (g refl)
 third-shape (j-node s C i j) ne h g = refl
 
 -- The tokens of one item.
-pub encode-leaf : (s : State) (b : ℕ) → encode (j-leaf s b j-nil) ≡ leaf-token s b ∷ []
-unfolding encode
-encode-leaf s b = refl
-
 pub encode-node : (s : State) (k : Kind) (i : Judged) → encode (j-node s k i j-nil) ≡ node-token s k (length (encode i)) ∷ encode i
 unfolding encode
 encode-node s k i = ap (λ (l : List ℕ). node-token s k (length (encode i)) ∷ l) (append-nil (encode i))

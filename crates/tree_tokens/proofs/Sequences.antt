@@ -23,11 +23,6 @@ tree-append j-nil k = refl
 tree-append (j-leaf s b j) k = ap (leaf b) (tree-append j k)
 tree-append (j-node s d i j) k = ap (node d (tree i)) (tree-append j k)
 
-pub tree-rev : (j : Judged) → tree (j-rev j) ≡ rev (tree j)
-tree-rev j-nil = refl
-tree-rev (j-leaf s b j) = rw (tree-append, tree-rev j)
-tree-rev (j-node s k i j) = rw (tree-append, tree-rev j)
-
 pub plain-append : (f g : Forest) → plain (append f g) ≡ j-append (plain f) (plain g)
 plain-append nil g = refl
 plain-append (leaf b f) g = ap (j-leaf E b) (plain-append f g)
@@ -42,13 +37,6 @@ pub tree-plain : (f : Forest) → tree (plain f) ≡ f
 tree-plain nil = refl
 tree-plain (leaf b f) = ap (leaf b) (tree-plain f)
 tree-plain (node k i f) = rw (tree-plain i, tree-plain f)
-
--- The first item, then the others.
-pub join-split : (j : Judged) → j-append (first-of j) (rest-of j) ≡ j
-unfolding first-of rest-of
-join-split j-nil = refl
-join-split (j-leaf s b j) = refl
-join-split (j-node s k i j) = refl
 
 -- The tokens of a sequence turned round: those of the others turned round, then those of the first item.
 rev-is : (j : Judged) → j-rev j ≡ j-append (j-rev (rest-of j)) (first-of j)
