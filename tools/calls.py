@@ -26,7 +26,7 @@ TABLES = {
 }
 
 # A promise is over what is lent, in sequence, then each written table as it is left, then what is returned. A node table stands there as one
-# record with these numbers before it, a book with these after it, 0 for one that the call is not lent.
+# record with these before it, a book with these after it, 0 for one that the call is not lent.
 OF_NODES = ["n"]
 OF_BOOK = ["count"]
 
