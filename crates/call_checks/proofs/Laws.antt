@@ -4,10 +4,8 @@ use mathlib.Core.Bool.{Bool, true, false, not, _||_}
 use mathlib.Core.Option.{Option, none, some}
 use mathlib.Core.List.{List, [], _∷_, _++_}
 use Prim.Native.Nat.{ℕ, _≤_, _<_}
-use native.Mathlib.Nat.{pos-of-ne-zero}
 use native.Mathlib.Omega.{arith}
-use borrow.Author.Tests.{eq-eqb, ne-eqb, lt-ltb, le-ltb, ltb-false, eqb-false}
-use lib.Dec.{eqb, ltb}
+use borrow.Author.Tests.{eq-eqb, ne-eqb, lt-ltb, le-ltb, ltb-false}
 use lib.ListN.{length}
 use Rattle.spec_orders.specs.Tree.{Forest}
 use Rattle.spec_calls.specs.declared.Refusal.{Refusal}
@@ -19,7 +17,7 @@ use Rattle.spec_calls.specs.Refusals.{refuse, first-refusal, bad-size, short, s
 use Rattle.spec_calls.specs.Calls.{is-none, table-checks, tree-checks, ring-checks}
 use Rattle.spec_calls.specs.Demands.{LentTree}
 use Rattle.spec_calls.proofs.NodeTables.{tree-in-holds}
-use Rattle.spec_calls.proofs.Demands.{size-fine, nodes-fine}
+use Rattle.spec_calls.proofs.Demands.{size-fine, nodes-fine, tables-whole}
 use Rattle.table_walk.specs.declared.Walked.the-variants.{Found}
 use Rattle.table_walk.specs.Walks.{Loads}
 use Rattle.call_checks.specs.declared.Lent.{Lent}
@@ -59,23 +57,8 @@ module _ (nodes : Nodes) (other : Bool) where
     tables-pass r q e = rw (size-fine (nodes .bins) l m, nodes-fine nodes r q, e)
 
   -- Where none of them refuses.
-  module _ (e : first-refusal (table-checks nodes other) ≡ none) where
-    pub tables-whole : (1 ≤ nodes .bins) × (nodes .bins ≤ 256) × (256 ≤ nodes .records) × (65792 ≤ length (nodes .rows)) × (other ≡ false)
-    tables-whole = go (eqb (nodes .bins) 0) refl (ltb 256 (nodes .bins)) refl (ltb (nodes .records) 256) refl (short 65792 (nodes .rows)) refl other refl e
-      where
-        go : (a : Bool) → eqb (nodes .bins) 0 ≡ a → (b : Bool) → ltb 256 (nodes .bins) ≡ b → (c : Bool) → ltb (nodes .records) 256 ≡ c → (d : Bool) → short 65792 (nodes .rows) ≡ d → (o : Bool) → other ≡ o
-            → first-refusal (refuse (a || b) RingSize ∷ refuse ((c || d) || o) ShortTable ∷ []) ≡ none
-            → (1 ≤ nodes .bins) × (nodes .bins ≤ 256) × (256 ≤ nodes .records) × (65792 ≤ length (nodes .rows)) × (other ≡ false)
-        go true p b q c r d s o t e = absurd (let z : _≡_ {A = ℕ} 0 1 = cc in omega arith)
-        go false p true q c r d s o t e = absurd (let z : _≡_ {A = ℕ} 0 1 = cc in omega arith)
-        go false p false q true r d s o t e = absurd (let z : _≡_ {A = ℕ} 0 1 = cc in omega arith)
-        go false p false q false r true s o t e = absurd (let z : _≡_ {A = ℕ} 0 1 = cc in omega arith)
-        go false p false q false r false s true t e = absurd (let z : _≡_ {A = ℕ} 0 1 = cc in omega arith)
-        go false p false q false r false s false t e =
-            (pos-of-ne-zero (eqb-false (nodes .bins) 0 p), ltb-false 256 (nodes .bins) q, ltb-false (nodes .records) 256 r, ltb-false (length (nodes .rows)) 65792 s, t)
-
-    pub holds-lent : (t : Forest) → Holds (leaves nodes) (nodes .rows) t → LentTree nodes t
-    holds-lent t h = let w = tables-whole in record { some-leaf = w .0; few-leaves = w .1; all-records = w .2; all-rows = w .3; tree = h }
+  pub holds-lent : first-refusal (table-checks nodes other) ≡ none → (t : Forest) → Holds (leaves nodes) (nodes .rows) t → LentTree nodes t
+  holds-lent e t h = let w = tables-whole nodes other e in record { some-leaf = w .0; few-leaves = w .1; all-records = w .2; all-rows = w .3; tree = h }
 
 -- Of a ring that is to be made: room for its tree and its book.
 pub room-passed : (nodes : Nodes) (words : List ℕ) → first-refusal (table-checks nodes (short 384 words)) ≡ none

@@ -1,4 +1,4 @@
--- What a text's reader answers and leaves, and that writing and reading undo each other.
+-- What a text's reader answers and leaves.
 use mathlib.Core.Path.{_≡_, sym, subst}
 use mathlib.Core.Option.{none, some}
 use mathlib.Core.List.{List}

@@ -4,7 +4,7 @@ use mathlib.Core.Logic.{_↔_, _≢_}
 use mathlib.Core.Bool.{Bool, true, false, cond, _||_, true≢false}
 use mathlib.Core.Option.{Option, none, some}
 use mathlib.Core.List.{List, [], _∷_, _++_}
-use Prim.Native.Nat.{ℕ, suc, _≤_, _<_}
+use Prim.Native.Nat.{ℕ, suc, _+_, _≤_, _<_}
 use native.Mathlib.Nat.{pos-of-ne-zero}
 use native.Mathlib.Omega.{arith}
 use borrow.Author.Tests.{ne-eqb, le-ltb, eqb-false, ltb-false}
@@ -20,11 +20,12 @@ use Rattle.spec_orders.proofs.StandardOrders.{standard-is}
 use Rattle.spec_orders.proofs.TextTree.{form-length}
 use Rattle.spec_orders.proofs.Joining.{join-none, join-some}
 use Rattle.spec_calls.specs.declared.Refusal.{Refusal}
-use Rattle.spec_calls.specs.declared.Refusal.the-variants.{OutsideRing, Repeated, BookFull, Impossible}
-use Rattle.spec_calls.specs.Tables.{Nodes, leaves, Book}
+use Rattle.spec_calls.specs.declared.Refusal.the-variants.{RingSize, ShortTable, OutsideRing, Repeated, BookFull, Impossible}
+use Rattle.spec_calls.specs.Tables.{Nodes, leaves, Book, over}
+use Rattle.spec_calls.specs.Book.{booked}
 use Rattle.spec_calls.specs.NodeTable.{held-tree}
-use Rattle.spec_calls.specs.Refusals.{Reply, refuse, first-refusal, bad-size, short-nodes, bad-leaf, list-checks}
-use Rattle.spec_calls.specs.Calls.{is-none, joined-tree, join-refusal, joined, join-call, order-refusal, order-call}
+use Rattle.spec_calls.specs.Refusals.{Reply, reply, refuse, first-refusal, bad-size, short, short-nodes, bad-leaf, list-checks}
+use Rattle.spec_calls.specs.Calls.{filled-as, is-none, table-checks, joined-tree, join-refusal, joined, join-call, order-refusal, order-call}
 use Rattle.spec_calls.specs.Demands.{LentTree, LentBook, Joins}
 use Rattle.spec_calls.proofs.NodeTables.{tree-in-holds, over-holds}
 
@@ -92,13 +93,31 @@ passes-iff n l = (from l, well-formed-passes n l)
         last none e = refl
         last (some r) e = absurd (let i : _≡_ {A = ℕ} 0 1 = cc in omega arith)
 
--- ---- joining
+-- ---- checks 1 and 2
 
 pub size-fine : (n : ℕ) → 1 ≤ n → n ≤ 256 → bad-size n ≡ false
 size-fine n l m = rw (ne-eqb n 0 (λ e. omega arith), le-ltb 256 n m)
 
 pub nodes-fine : (nodes : Nodes) → 256 ≤ nodes .records → 65792 ≤ length (nodes .rows) → short-nodes nodes ≡ false
 nodes-fine nodes l m = rw (le-ltb (nodes .records) 256 l, le-ltb (length (nodes .rows)) 65792 m)
+
+-- Where none of them refuses; `other`: another lent table is too short.
+pub tables-whole : (nodes : Nodes) (other : Bool) → first-refusal (table-checks nodes other) ≡ none
+    → (1 ≤ nodes .bins) × (nodes .bins ≤ 256) × (256 ≤ nodes .records) × (65792 ≤ length (nodes .rows)) × (other ≡ false)
+tables-whole nodes other e = go (eqb (nodes .bins) 0) refl (ltb 256 (nodes .bins)) refl (ltb (nodes .records) 256) refl (short 65792 (nodes .rows)) refl other refl e
+  where
+    go : (a : Bool) → eqb (nodes .bins) 0 ≡ a → (b : Bool) → ltb 256 (nodes .bins) ≡ b → (c : Bool) → ltb (nodes .records) 256 ≡ c → (d : Bool) → short 65792 (nodes .rows) ≡ d → (o : Bool) → other ≡ o
+        → first-refusal (refuse (a || b) RingSize ∷ refuse ((c || d) || o) ShortTable ∷ []) ≡ none
+        → (1 ≤ nodes .bins) × (nodes .bins ≤ 256) × (256 ≤ nodes .records) × (65792 ≤ length (nodes .rows)) × (other ≡ false)
+    go true p b q c r d s o t e = absurd (let z : _≡_ {A = ℕ} 0 1 = cc in omega arith)
+    go false p true q c r d s o t e = absurd (let z : _≡_ {A = ℕ} 0 1 = cc in omega arith)
+    go false p false q true r d s o t e = absurd (let z : _≡_ {A = ℕ} 0 1 = cc in omega arith)
+    go false p false q false r true s o t e = absurd (let z : _≡_ {A = ℕ} 0 1 = cc in omega arith)
+    go false p false q false r false s true t e = absurd (let z : _≡_ {A = ℕ} 0 1 = cc in omega arith)
+    go false p false q false r false s false t e =
+        (pos-of-ne-zero (eqb-false (nodes .bins) 0 p), ltb-false 256 (nodes .bins) q, ltb-false (nodes .records) 256 r, ltb-false (length (nodes .rows)) 65792 s, t)
+
+-- ---- joining
 
 pub lent-held : (nodes : Nodes) (t : Forest) → LentTree nodes t → held-tree nodes ≡ some t
 lent-held nodes t h = tree-in-holds (leaves nodes) (nodes .rows) t (h .few-leaves) .1 (h .tree)
@@ -128,6 +147,18 @@ module _ (nodes : Nodes) (book : Book) (list : List ℕ) (t : Forest) (h : LentT
         ne-eqb (book .count) 96 (λ e. omega (arith, place-left)),
         the-joined,
       )
+
+  -- A group that is not impossible is accepted.
+  pub join-done : join-call nodes book list .answer ≢ reply 8 0
+      → (join-call nodes book list .answer ≡ reply 0 (book .count + 1)) × (join-call nodes book list .words ≡ booked (book .words) (book .count) (group-of (nodes .bins) list))
+  unfolding join-call joined
+  join-done = rw (the-refusal, the-joined) (by-answer (join (group-of (nodes .bins) list) t))
+    where
+      by-answer : (o : Option Forest) → joined (first-refusal (refuse (is-none o) Impossible ∷ [])) o nodes book list .answer ≢ reply 8 0
+          → (joined (first-refusal (refuse (is-none o) Impossible ∷ [])) o nodes book list .answer ≡ reply 0 (book .count + 1))
+          × (joined (first-refusal (refuse (is-none o) Impossible ∷ [])) o nodes book list .words ≡ booked (book .words) (book .count) (group-of (nodes .bins) list))
+      by-answer none q = absurd (q refl)
+      by-answer (some u) q = (refl, refl)
 
   pub join-meets : Joins (leaves nodes) (group-of (nodes .bins) list) t (join-call nodes book list .answer) (join-call nodes book list .rows)
   unfolding join-call joined
@@ -159,17 +190,20 @@ module _ (nodes : Nodes) (book : Book) (list : List ℕ) (t : Forest) (h : LentT
 
 -- ---- the standard order
 
-pub order-meets : (nodes : Nodes) (order : List ℕ) (t : Forest) → LentTree nodes t → nodes .bins ≤ length order
-    → StandardOrder t (take (nodes .bins) (order-call nodes order .table))
+pub order-done : (nodes : Nodes) (order : List ℕ) (t : Forest) → LentTree nodes t → nodes .bins ≤ length order
+    → order-call nodes order ≡ filled-as (reply 0 (nodes .bins)) (over (standard t) order)
 unfolding order-call order-refusal
-order-meets nodes order t h l =
+order-done nodes order t h l =
     rw (
-      size-fine n (h .some-leaf) (h .few-leaves),
+      size-fine (nodes .bins) (h .some-leaf) (h .few-leaves),
       nodes-fine nodes (h .all-records) (h .all-rows),
-      le-ltb (length order) n l,
+      le-ltb (length order) (nodes .bins) l,
       lent-held nodes t h,
     )
-    (subst (StandardOrder t) (sym whole) (standard-is n t (h .tree .in-form)))
+
+pub order-meets : (nodes : Nodes) (order : List ℕ) (t : Forest) → LentTree nodes t → nodes .bins ≤ length order
+    → StandardOrder t (take (nodes .bins) (order-call nodes order .table))
+order-meets nodes order t h l = rw (order-done nodes order t h l) (subst (StandardOrder t) (sym whole) (standard-is n t (h .tree .in-form)))
   where
     n : ℕ
     n = nodes .bins

@@ -21,7 +21,7 @@ use Rattle.spec_calls.specs.Calls.{Ring, filled, opened, open-refusal, o
 use Rattle.spec_calls.proofs.Demands.{Fine, fine-more}
 
 -- "Left as it was: every table."
-abbrev Keeps : Ring → Nodes → Book → Type 0
+abbrev pub Keeps : Ring → Nodes → Book → Type 0
 Keeps x nodes book = x .answer .number ≢ 0 → (x .rows ≡ nodes .rows) × (x .words ≡ book .words)
 
 opened-keeps : (o : Option Refusal) (nodes : Nodes) (book : Book) → Keeps (opened o nodes book) nodes book

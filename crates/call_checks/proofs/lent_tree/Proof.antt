@@ -6,7 +6,8 @@ use Rattle.spec_calls.specs.Refusals.{first-refusal}
 use Rattle.spec_calls.specs.Calls.{table-checks}
 use Rattle.table_book.specs.Lists.{refusal-in}
 use Rattle.table_walk.specs.Walks.{Loads}
-use Rattle.call_checks.proofs.Laws.{tables-whole, tables-refused, no-tree, tree-lent}
+use Rattle.spec_calls.proofs.Demands.{tables-whole}
+use Rattle.call_checks.proofs.Laws.{tables-refused, no-tree, tree-lent}
 use borrow.Author.Needs.{needs}
 use Rattle.call_checks.proofs.lent_tree.Statement.{statement}
 use Rattle.call_checks.proofs.lent_tree.Tie as tie

@@ -1,0 +1,4 @@
+pub mod Refusals
+pub mod RoundTrip
+pub mod Places
+pub mod Main

@@ -1,0 +1,97 @@
+-- The three demands, proved by citing: the refusals and what they keep, the promises' own demands on joining, trial, order and conflict, and the round
+-- trip of a text.
+use mathlib.Core.Path.{_≡_, sym, _∙_, ap}
+use mathlib.Core.Logic.{_≢_}
+use mathlib.Core.List.{List}
+use Prim.Native.Nat.{ℕ, _+_, _≤_}
+use lib.ListN.{length, take, drop}
+use Rattle.spec_orders.specs.Tree.{Forest}
+use Rattle.spec_orders.specs.Form.{StandardOrder}
+use Rattle.spec_orders.specs.CircularOrder.{group-of}
+use Rattle.spec_calls.specs.Tables.{Nodes, lent-nodes, Book, padded}
+use Rattle.spec_calls.specs.Refusals.{Reply, reply}
+use Rattle.spec_calls.specs.Calls.{Ring, Filled, ring, filled-as, open-refusal, open-call, joined-tree, join-refusal, join-call, trial-call, order-call, aim-call, write-call, conflicts-of, conflict-refusal, conflict-call}
+use Rattle.spec_calls.specs.Demands.{LentTree}
+use Rattle.spec_calls.specs.Promises.{JoinPromise, OrderPromise}
+use Rattle.spec_calls.proofs.Demands.{join-done, order-done}
+use Rattle.spec_calls.proofs.Refused.{open-keeps, join-keeps, read-call-keeps}
+use Rattle.spec_demands.specs.Demands.{FirstDemand, Asked, NewRing, SecondDemand, ThirdDemand}
+use Rattle.spec_demands.proofs.Refusals.{by-the-table, ring-by-the-table, filled-by-the-table, open-answer, join-answer, read-answer, some-refusal}
+use Rattle.spec_demands.proofs.Places.{same-numbers, filled-done}
+use Rattle.spec_demands.proofs.RoundTrip.{lent-again, written-read, read-written}
+
+pub first-demand : FirstDemand
+unfolding open-call join-call trial-call order-call aim-call write-call conflict-call
+first-demand = record {
+  opening = λ nodes book rows′ words′ said e.
+      ring-by-the-table nodes book (open-refusal nodes book) 0 (ring said rows′ words′) (open-call nodes book) e (open-answer (open-refusal nodes book) nodes book) (open-keeps nodes book);
+  joining = λ nodes book list rows′ words′ said e.
+      ring-by-the-table nodes book (join-refusal nodes book list) (book .count + 1) (ring said rows′ words′) (join-call nodes book list) (e .0)
+      (join-answer (join-refusal nodes book list) (joined-tree nodes list) nodes book list) (join-keeps nodes book list);
+  trial = λ nodes book list said e.
+      by-the-table (join-refusal nodes book list) (book .count + 1) said (e .0 ∙ join-answer (join-refusal nodes book list) (joined-tree nodes list) nodes book list) (λ q. tt);
+  ordering = λ nodes order order′ said e. filled-by-the-table _ _ _ order order′ said (e .0);
+  aiming = λ nodes book group said e. by-the-table _ _ said e (λ q. tt);
+  writing = λ nodes bytes bytes′ said e. filled-by-the-table _ _ _ bytes bytes′ said e;
+  reading = λ nodes book text rows′ words′ said c must m.
+      by-the-table must 0 said (read-answer nodes book text must m (ring said rows′ words′) c) (read-call-keeps nodes book text (ring said rows′ words′) c);
+  any-text = some-refusal;
+  conflict = λ n book list conflicts conflicts′ said e. filled-by-the-table _ _ _ conflicts conflicts′ said (e .0);
+}
+
+-- The standard order, written.
+order-written : (nodes : Nodes) (t : Forest) → LentTree nodes t → (order order′ : List ℕ) (said : Reply) → nodes .bins ≤ length order
+    → OrderPromise nodes order order′ said → (said ≡ reply 0 (nodes .bins)) × StandardOrder t (take (nodes .bins) order′)
+order-written nodes t h order order′ said l e = (ap (λ (x : Filled). x .answer) (e .0 ∙ order-done nodes order t h l), e .1 t h l)
+
+module _ (nodes : Nodes) (book : Book) (list : List ℕ) (t : Forest) (a : Asked nodes book list t) (rows′ words′ : List ℕ) (said : Reply) (e : JoinPromise nodes book list rows′ words′ said) where
+  new-ring : said ≢ reply 8 0 → NewRing nodes book (group-of (nodes .bins) list) t rows′ words′ said
+  new-ring q =
+      let j = e .1 t (a .tree) (a .groups) (a .place-left) (a .group) .otherwise q in
+      let d = join-done nodes book list t (a .tree) (a .groups) (a .place-left) (a .group) (λ z. q (ap (λ (x : Ring). x .answer) (e .0) ∙ z)) in
+      record {
+        accepted = ap (λ (x : Ring). x .answer) (e .0) ∙ d .0;
+        in-book = ap (λ (x : Ring). x .words) (e .0) ∙ d .1;
+        new = j .new;
+        held = j .held;
+        orders = j .orders;
+        standard = λ records order order′ answer r l p.
+            let h = lent-again (nodes .bins) records rows′ (j .new) (a .tree .some-leaf) (a .tree .few-leaves) r (j .held) in
+            let w = order-written (lent-nodes (nodes .bins) records rows′) (j .new) h order order′ answer l p in
+            (w .0, record { one = j .orders _ .0 (w .1 .allowed); least = λ other o. w .1 .least other (j .orders other .1 o) });
+      }
+
+pub second-demand : SecondDemand
+unfolding trial-call
+second-demand = record {
+  joining = λ nodes book list t a rows′ words′ said e.
+      let i = e .1 t (a .tree) (a .groups) (a .place-left) (a .group) .impossible in
+      ((λ q ord o. i .0 q ord (o .0) (o .1), λ n. i .1 (λ ord o c. n ord (o, c))), new-ring nodes book list t a rows′ words′ said e);
+  trial = λ nodes book list t a said e.
+      let i = e .1 t (a .tree) (a .groups) (a .place-left) (a .group) in
+      (λ q ord o. i .0 q ord (o .0) (o .1), λ n. i .1 (λ ord o c. n ord (o, c)));
+  as-joining = λ nodes book list rows′ words′ said tried e f. f .0 ∙ sym (ap (λ (x : Ring). x .answer) (e .0));
+  standard = λ nodes t h order order′ said l e.
+      let w = order-written nodes t h order order′ said l e in
+      (w .0, record { one = w .1 .allowed; least = w .1 .least });
+  written-read = λ nodes t h bytes bytes′ wrote l e. written-read nodes t h bytes bytes′ wrote l e;
+  read-written = read-written;
+}
+
+pub third-demand : ThirdDemand
+unfolding conflict-call conflicts-of
+third-demand n book list conflicts l m b w places conflicts′ said e =
+    let d = e .1 l m b places w in
+    let ys = conflicts-of n book (group-of n list) in
+    let f = filled-done (conflict-refusal n book list conflicts) (length ys) (padded 96 ys) conflicts conflicts′ (length (d .numbers))
+    (ap (λ s. filled-as s conflicts′) (sym (d .answered)) ∙ e .0) in
+    record {
+      named = d .numbers;
+      empty-iff = d .demand .empty-iff;
+      impossible = d .demand .impossible;
+      smallest = d .demand .smallest;
+      rule = same-numbers (d .numbers) ys (drop (length (padded 96 ys)) conflicts) (f .0) (ap (take 96) (sym (f .1)) ∙ d .places);
+      rise = d .rise;
+      places = d .places;
+      count = d .answered;
+    }
