@@ -18,7 +18,7 @@ use Rattle.spec_orders.proofs.Tests.{cond-cases}
 use Rattle.tree_tokens.specs.Tokens.{State, E, F, L, R, X, number, Judged, j-nil, j-leaf, j-node, tree, plain, j-rev, node-token, encode, flat}
 use Rattle.tree_tokens.specs.Views.{shape-of, state-of, first-of, rest-of}
 use Rattle.tree_tokens.proofs.Laws.{at-end}
-use Rattle.tree_tokens.proofs.Sequences.{encode-append, plain-append, plain-rev, tree-plain, rev-length, plain-length, bare-is}
+use Rattle.tree_tokens.proofs.Sequences.{encode-append, plain-append, plain-rev, tree-plain, rev-length, plain-length, bare-is, flat-injective}
 use Rattle.tree_judge.specs.Judge.{all-empty, all-full, rises}
 use Rattle.tree_judge.specs.Total.{Total, states-of, whole-of, c-node-of, unchanged, total-by, totals}
 use Rattle.tree_pieces.specs.Writers.{with-state, all-with-state, from-partial}
