@@ -57,11 +57,11 @@ module _ (t : Forest) (n count : ℕ) (list : List ℕ) where
         go none a = refl
 
     pub one-joined : (words old new : List ℕ) (k : ℕ) → n ≤ 256 → words ≡ words-of 4 (group-of n list) → (count ≡ 96 → ⊥) → Answers (join (marked words) t) old new (Tokens k)
-        → JoinedTree t n count list old new k
+        → JoinedTree t n count list words old new k
     one-joined words old new k h w q a = go (join (group-of n list) t) refl (subst (λ G. Answers (join G t) old new (Tokens k)) (marks-are words h w) a)
       where
-        go : (o : Option Forest) → join (group-of n list) t ≡ o → Answers o old new (Tokens k) → JoinedTree t n count list old new k
-        go (some u) p (written x) = record { passes = judged q ∙ ap (λ o. first-refusal (refuse (is-none o) Not-possible ∷ [])) p; not-full = q; tree = u; is = p; wrote = x }
+        go : (o : Option Forest) → join (group-of n list) t ≡ o → Answers o old new (Tokens k) → JoinedTree t n count list words old new k
+        go (some u) p (written x) = record { passes = judged q ∙ ap (λ o. first-refusal (refuse (is-none o) Not-possible ∷ [])) p; not-full = q; group = w; tree = u; is = p; wrote = x }
 
 -- On lent tables.
 module _ (nodes : Nodes) (book : Book) (list : List ℕ) where
@@ -83,14 +83,15 @@ module _ (nodes : Nodes) (book : Book) (list : List ℕ) where
         first-refusal-none (ring-checks nodes book) after-ring (h .passes)
         ∙ ap (λ o. first-refusal (list-checks (nodes .bins) list ++ (refuse (eqb (book .count) 96) BookFull ∷ refuse (is-none o) Not-possible ∷ []))) tree-is
 
-    pub attempt-is : (out new : List ℕ) (x : Tried) → AttemptsOn (h .tree) (nodes .bins) (book .count) list out new x → Attempts nodes book list out new x
-    attempt-is out new (Refused r) a = refusal-is ∙ a
-    attempt-is out new (Joined k) a = record {
+    pub attempt-is : (marks out new : List ℕ) (x : Tried) → AttemptsOn (h .tree) (nodes .bins) (book .count) list marks out new x → Attempts nodes book list marks out new x
+    attempt-is marks out new (Refused r) a = refusal-is ∙ a
+    attempt-is marks out new (Joined k) a = record {
       passes = refusal-is ∙ a .passes;
       held = h .tree;
       lent = h .lent;
       groups = h .groups;
       place-left = below (book .count) (few-groups (nodes .bins) book (h .groups .in-form)) (a .not-full);
+      group = a .group;
       tree = a .tree;
       in-form = join-some (leaves nodes) (group-of (nodes .bins) list) (h .tree) (a .tree) (h .lent .tree .in-form) (a .is) .form;
       is = tree-is ∙ a .is;

@@ -9,6 +9,7 @@ use Rattle.spec_orders.specs.CircularOrder.{group-of}
 use Rattle.spec_orders.specs.Tree.{Forest}
 use Rattle.spec_orders.specs.Form.{InForm}
 use Rattle.spec_orders.specs.Join.{join}
+use Rattle.mark_words.specs.Marks.{words-of}
 use Rattle.tree_tokens.specs.Tokens.{Wrote, flat}
 use Rattle.spec_calls.specs.declared.Refusal.{Refusal}
 use Rattle.spec_calls.specs.declared.Refusal.the-variants.{BookFull, Impossible}
@@ -24,29 +25,32 @@ unfoldable pub group-refusal : Forest → ℕ → ℕ → List ℕ → Option Re
 group-refusal t n count list =
     first-refusal (list-checks n list ++ (refuse (eqb count 96) BookFull ∷ refuse (is-none (join (group-of n list) t)) Impossible ∷ []))
 
-pub record JoinedTree (t : Forest) (n count : ℕ) (list old new : List ℕ) (k : ℕ) : Type 0 where
+-- The tree with the group, written over `old`, and the group's marks.
+pub record JoinedTree (t : Forest) (n count : ℕ) (list marks old new : List ℕ) (k : ℕ) : Type 0 where
   pub passes : group-refusal t n count list ≡ none
   pub not-full : count ≢ 96
+  pub group : marks ≡ words-of 4 (group-of n list)
   pub tree : Forest
   pub is : join (group-of n list) t ≡ some tree
   pub wrote : Wrote (flat tree) old new k
 
-abbrev pub AttemptsOn : Forest → ℕ → ℕ → List ℕ → List ℕ → List ℕ → Tried → Type 0
-AttemptsOn t n count list old new (Joined k) = JoinedTree t n count list old new k
-AttemptsOn t n count list old new (Refused r) = group-refusal t n count list ≡ some r
+abbrev pub AttemptsOn : Forest → ℕ → ℕ → List ℕ → List ℕ → List ℕ → List ℕ → Tried → Type 0
+AttemptsOn t n count list marks old new (Joined k) = JoinedTree t n count list marks old new k
+AttemptsOn t n count list marks old new (Refused r) = group-refusal t n count list ≡ some r
 
 -- On lent tables.
-pub record JoinedRing (nodes : Nodes) (book : Book) (list old new : List ℕ) (k : ℕ) : Type 0 where
+pub record JoinedRing (nodes : Nodes) (book : Book) (list marks old new : List ℕ) (k : ℕ) : Type 0 where
   pub passes : join-refusal nodes book list ≡ none
   pub held : Forest
   pub lent : LentTree nodes held
   pub groups : LentBook (nodes .bins) book
   pub place-left : book .count < 96
+  pub group : marks ≡ words-of 4 (group-of (nodes .bins) list)
   pub tree : Forest
   pub in-form : InForm (leaves nodes) tree
   pub is : joined-tree nodes list ≡ some tree
   pub wrote : Wrote (flat tree) old new k
 
-abbrev pub Attempts : Nodes → Book → List ℕ → List ℕ → List ℕ → Tried → Type 0
-Attempts nodes book list old new (Joined k) = JoinedRing nodes book list old new k
-Attempts nodes book list old new (Refused r) = join-refusal nodes book list ≡ some r
+abbrev pub Attempts : Nodes → Book → List ℕ → List ℕ → List ℕ → List ℕ → Tried → Type 0
+Attempts nodes book list marks old new (Joined k) = JoinedRing nodes book list marks old new k
+Attempts nodes book list marks old new (Refused r) = join-refusal nodes book list ≡ some r

@@ -1,4 +1,5 @@
-// The attempt that joining a group and its trial share: checks 1 to 8 on a ring's lent tables, and the tree with the group joined to it.
+// The attempt to join a group, for joining, its trial and the lister: checks 4 to 8 on a tree in tokens, or 1 to 8 on a ring's lent tables, and
+// the tree with the group joined to it.
 ghost use mathlib.Core.Path.{_≡_};
 ghost use Prim.Native.Nat.{_≤_};
 ghost use lib.ListN.{length};
@@ -17,27 +18,33 @@ pub enum Tried {
     Refused(Refusal),
 }
 
-// Checks 4 to 8 on a tree and the count of a book in form. Writes the tree with the group joined to it to the start of out.
-fn attempt_on(toks: &[u16], n: usize, count: usize, list: &[u16], out: &mut [u16]) -> Tried
-    requires { ⌜ (TreeTokens n (now toks)) × (512 ≤ length (now out)) ⌝ }
+// Checks 4 to 8 on a tree and the count of a book in form. Writes the group's four words to marks, and the tree with the group joined to it to
+// the start of out.
+pub fn attempt_on(
+    toks: &[u16],
+    n: usize,
+    count: usize,
+    list: &[u16],
+    marks: &mut [u64],
+    out: &mut [u16],
+) -> Tried
+    requires { ⌜ (TreeTokens n (now toks)) × (length (now marks) ≡ 4) × (512 ≤ length (now out)) ⌝ }
     ensures { λ r. ⌜ ((t : Forest) → now (toks .entry) ≡ flat t
-        → AttemptsOn t n count (now (list .entry)) (now (out .entry)) (now (out .exit)) r) ⌝ }
+        → AttemptsOn t n count (now (list .entry)) (now (marks .exit)) (now (out .entry)) (now (out .exit)) r) ⌝ }
 {
-    if let Checked::Bad(refusal) = table_book::check_list(list, n) {
+    if let Checked::Bad(refusal) = table_book::check_list(list, n, marks) {
         return Tried::Refused(refusal);
     }
     if count == 96 {
         return Tried::Refused(Refusal::BookFull);
     }
-    let mut group = [0u64; 4];
-    mark_words::mark_list(list, &mut group);
-    let Updated::Tokens(m) = tree_update::join(toks, &group, n, out) else {
+    let Updated::Tokens(m) = tree_update::join(toks, marks, n, out) else {
         return Tried::Refused(Refusal::Impossible);
     };
     Tried::Joined(m)
 }
 
-// Checks 1 to 8. Writes the ring's tree with the group joined to it to the start of out.
+// Checks 1 to 8. Writes the group's four words to marks, and the ring's tree with the group joined to it to the start of out.
 pub fn attempt(
     n: usize,
     nodes: &[u16],
@@ -45,15 +52,16 @@ pub fn attempt(
     book: &[u64],
     count: usize,
     list: &[u16],
+    marks: &mut [u64],
     out: &mut [u16],
 ) -> Tried
-    requires { ⌜ 512 ≤ length (now out) ⌝ }
-    ensures { λ r. ⌜ Attempts (lent-nodes n have (now (nodes .entry))) (lent-book (now (book .entry)) count) (now (list .entry)) (now (out .entry)) (now (out .exit)) r ⌝ }
+    requires { ⌜ (length (now marks) ≡ 4) × (512 ≤ length (now out)) ⌝ }
+    ensures { λ r. ⌜ Attempts (lent-nodes n have (now (nodes .entry))) (lent-book (now (book .entry)) count) (now (list .entry)) (now (marks .exit)) (now (out .entry)) (now (out .exit)) r ⌝ }
 {
     let mut toks = [0u16; 512];
     let found = call_checks::lent_ring(n, nodes, have, book, count, &mut toks);
     match found {
         Lent::Refused(refusal) => Tried::Refused(refusal),
-        Lent::Tree(k) => attempt_on(&toks[0..k], n, count, list, out),
+        Lent::Tree(k) => attempt_on(&toks[0..k], n, count, list, marks, out),
     }
 }

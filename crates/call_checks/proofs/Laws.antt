@@ -15,14 +15,14 @@ use Rattle.spec_calls.specs.Book.{book-in-form?}
 use Rattle.spec_calls.specs.NodeTable.{Holds, held-tree}
 use Rattle.spec_calls.specs.Refusals.{refuse, first-refusal, bad-size, short, short-nodes}
 use Rattle.spec_calls.specs.Calls.{is-none, table-checks, tree-checks, ring-checks}
-use Rattle.spec_calls.specs.Demands.{LentTree}
+use Rattle.spec_calls.specs.Demands.{LentTree, LentBook}
 use Rattle.spec_calls.proofs.NodeTables.{tree-in-holds}
 use Rattle.spec_calls.proofs.Demands.{size-fine, nodes-fine, tables-whole}
 use Rattle.table_walk.specs.declared.Walked.the-variants.{Found}
 use Rattle.table_walk.specs.Walks.{Loads}
 use Rattle.call_checks.specs.declared.Lent.{Lent}
 use Rattle.call_checks.specs.declared.Lent.the-variants.{Refused}
-use Rattle.call_checks.specs.Lent.{TreeLent, LendsTree, RingLent, LendsRing}
+use Rattle.call_checks.specs.Lent.{TreeLent, LendsTree, RingLent, LendsRing, book-checks}
 
 -- Checks after others.
 pub first-refusal-some : (xs ys : List (Option Refusal)) (r : Refusal) → first-refusal xs ≡ some r → first-refusal (xs ++ ys) ≡ some r
@@ -128,3 +128,18 @@ module _ (nodes : Nodes) (book : Book) where
       groups = record { all-words = book-long; in-form = f };
       wrote = h .wrote;
     }
+
+-- On a book by itself: where none of 1, 2 and 3 refuses.
+pub book-lent : (n : ℕ) (book : Book) (other : Bool) → first-refusal (book-checks n book other) ≡ none → (1 ≤ n) × (n ≤ 256) × LentBook n book × (other ≡ false)
+book-lent n book other e = go (eqb n 0) refl (ltb 256 n) refl (short 384 (book .words)) refl other refl (book-in-form? n book) refl e
+  where
+    go : (a : Bool) → eqb n 0 ≡ a → (b : Bool) → ltb 256 n ≡ b → (c : Bool) → short 384 (book .words) ≡ c → (o : Bool) → other ≡ o → (f : Bool) → book-in-form? n book ≡ f
+        → first-refusal (refuse (a || b) RingSize ∷ refuse (c || o) ShortTable ∷ refuse (not f) NotInForm ∷ []) ≡ none
+        → (1 ≤ n) × (n ≤ 256) × LentBook n book × (other ≡ false)
+    go true p b q c r o t f w e = absurd (let z : _≡_ {A = ℕ} 0 1 = cc in omega arith)
+    go false p true q c r o t f w e = absurd (let z : _≡_ {A = ℕ} 0 1 = cc in omega arith)
+    go false p false q true r o t f w e = absurd (let z : _≡_ {A = ℕ} 0 1 = cc in omega arith)
+    go false p false q false r true t f w e = absurd (let z : _≡_ {A = ℕ} 0 1 = cc in omega arith)
+    go false p false q false r false t false w e = absurd (let z : _≡_ {A = ℕ} 0 1 = cc in omega arith)
+    go false p false q false r false t true w e =
+        (pos-of-ne-zero (eqb-false n 0 p), ltb-false 256 n q, record { all-words = ltb-false (length (book .words)) 384 r; in-form = w }, t)

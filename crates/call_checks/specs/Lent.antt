@@ -1,13 +1,16 @@
 -- What the checks of lent tables answer: the tree that the node table holds, as tokens, or the first refusal down the table.
 use mathlib.Core.Path.{_≡_}
-use mathlib.Core.Bool.{Bool, false}
-use mathlib.Core.Option.{none, some}
-use mathlib.Core.List.{List}
+use mathlib.Core.Bool.{Bool, false, not, _||_}
+use mathlib.Core.Option.{Option, none, some}
+use mathlib.Core.List.{List, [], _∷_}
 use Prim.Native.Nat.{ℕ}
 use Rattle.spec_orders.specs.Tree.{Forest}
 use Rattle.tree_tokens.specs.Tokens.{Wrote, flat}
+use Rattle.spec_calls.specs.declared.Refusal.{Refusal}
+use Rattle.spec_calls.specs.declared.Refusal.the-variants.{RingSize, ShortTable, NotInForm}
 use Rattle.spec_calls.specs.Tables.{Nodes, Book}
-use Rattle.spec_calls.specs.Refusals.{first-refusal}
+use Rattle.spec_calls.specs.Book.{book-in-form?}
+use Rattle.spec_calls.specs.Refusals.{refuse, first-refusal, bad-size, short}
 use Rattle.spec_calls.specs.Calls.{tree-checks, ring-checks}
 use Rattle.spec_calls.specs.Demands.{LentTree, LentBook}
 use Rattle.call_checks.specs.declared.Lent.{Lent}
@@ -36,3 +39,8 @@ pub record RingLent (nodes : Nodes) (book : Book) (old new : List ℕ) (k : ℕ)
 abbrev pub LendsRing : Nodes → Book → List ℕ → List ℕ → Lent → Type 0
 LendsRing nodes book old new (Tree k) = RingLent nodes book old new k
 LendsRing nodes book old new (Refused r) = first-refusal (ring-checks nodes book) ≡ some r
+
+-- Checks 1, 2 and 3 of a call that is lent a book and no node table, where `other` says that another lent table is too short.
+abbrev pub book-checks : ℕ → Book → Bool → List (Option Refusal)
+book-checks n book other =
+    refuse (bad-size n) RingSize ∷ refuse (short 384 (book .words) || other) ShortTable ∷ refuse (not (book-in-form? n book)) NotInForm ∷ []

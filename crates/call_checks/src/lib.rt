@@ -1,4 +1,4 @@
-// The checks that calls on a lent ring share: 1, 2 and 3 on its node table and its book. They load the tree.
+// The checks that calls on a lent ring share: 1, 2 and 3 on its node table and its book. Those on a node table load the tree.
 ghost use mathlib.Core.Path.{_≡_};
 ghost use Prim.Native.Nat.{_≤_};
 ghost use lib.ListN.{length};
@@ -6,7 +6,7 @@ ghost use Rattle.spec_calls.specs.Tables.{lent-nodes, lent-book};
 ghost use Rattle.spec_calls.specs.Refusals.{first-refusal};
 ghost use Rattle.spec_calls.specs.Calls.{table-checks};
 ghost use Rattle.table_book.specs.Lists.{refusal-in};
-ghost use Rattle.call_checks.specs.Lent.{LendsTree, LendsRing};
+ghost use Rattle.call_checks.specs.Lent.{book-checks, LendsTree, LendsRing};
 use spec_calls::Refusal;
 use table_book::Checked;
 use table_walk::Walked;
@@ -73,4 +73,26 @@ pub fn lent_ring(
         return Lent::Refused(Refusal::NotInForm);
     }
     Lent::Tree(k)
+}
+
+// Checks 1, 2 and 3 on a book of `count` groups, lent without a node table; `other` says that another lent table is too short.
+pub fn lent_book(n: usize, book: &[u64], count: usize, other: bool) -> Checked
+    ensures { λ r. ⌜ refusal-in r ≡ first-refusal (book-checks n (lent-book (now (book .entry)) count) other) ⌝ }
+{
+    if n == 0 {
+        return Checked::Bad(Refusal::RingSize);
+    }
+    if n > 256 {
+        return Checked::Bad(Refusal::RingSize);
+    }
+    if book.len() < 384 {
+        return Checked::Bad(Refusal::ShortTable);
+    }
+    if other {
+        return Checked::Bad(Refusal::ShortTable);
+    }
+    if !table_book::in_form(book, n, count) {
+        return Checked::Bad(Refusal::NotInForm);
+    }
+    Checked::Fine
 }

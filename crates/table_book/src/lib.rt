@@ -4,11 +4,12 @@ ghost use Prim.Native.Nat.{ℕ, _≤_, _<_, _+_, _^_};
 ghost use lib.ListN.{length};
 ghost use mathlib.Core.List.{List};
 ghost use Rattle.spec_orders.specs.Lists.{elem};
+ghost use Rattle.spec_orders.specs.CircularOrder.{Restriction};
+ghost use Rattle.mark_words.specs.Marks.{words-of};
 ghost use Rattle.spec_calls.specs.Tables.{lent-book};
-ghost use Rattle.spec_calls.specs.Refusals.{first-refusal, bad-leaf, list-checks};
 ghost use Rattle.spec_calls.specs.Book.{group-in-form?, book-in-form?, booked, emptied};
 ghost use Rattle.table_book.specs.Groups.{groups-in-form?};
-ghost use Rattle.table_book.specs.Lists.{refusal-in, Seen};
+ghost use Rattle.table_book.specs.Lists.{LeavesChecked, ListChecked};
 use spec_calls::Refusal;
 
 // What the check of a group's list says: it is a list of different leaves of the ring, or why it is refused.
@@ -58,14 +59,25 @@ pub fn in_form(book: &[u64], n: usize, count: usize) -> bool
     mark_sets::is_empty(&book[at..384])
 }
 
-// Writes the group of the list to place k of the book.
-pub fn put(book: &mut [u64], k: usize, list: &[u16])
-    requires { ⌜ (k < 96) × (384 ≤ length (now book)) ⌝ }
-    ensures { λ r. ⌜ now (book .exit) ≡ booked (now (book .entry)) k (elem (now (list .entry))) ⌝ }
+// Copies four words.
+fn copy_group(from: &[u64], to: &mut [u64])
+    requires { ⌜ (length (now from) ≡ 4) × (length (now to) ≡ 4) ⌝ }
+    ensures { λ r. ⌜ now (to .exit) ≡ now (from .entry) ⌝ }
+{
+    to[0] = from[0];
+    to[1] = from[1];
+    to[2] = from[2];
+    to[3] = from[3];
+}
+
+// Writes the group with these four words to place k of the book.
+pub fn put(book: &mut [u64], k: usize, marks: &[u64])
+    requires { ⌜ (k < 96) × (384 ≤ length (now book)) × (length (now marks) ≡ 4) ⌝ }
+    ensures { λ r. ⌜ ((G : Restriction) → now (marks .entry) ≡ words-of 4 G → now (book .exit) ≡ booked (now (book .entry)) k G) ⌝ }
 {
     let from = 4 * k;
     let to = from + 4;
-    mark_words::mark_list(list, &mut book[from..to]);
+    copy_group(marks, &mut book[from..to]);
 }
 
 // Empties the book: its 384 words become zero.
@@ -79,7 +91,7 @@ pub fn clear(book: &mut [u64])
 // Checks 5 and 6 on the part of a list from place k on; `seen` has the marks of the leaves before it, and gets more of them.
 fn bad_leaf(list: &[u16], n: usize, k: usize, seen: &mut [u64]) -> Checked
     requires { ⌜ (n ≤ 256) × (length (now seen) ≡ 4) × (k + length (now list) < 2 ^ 64) ⌝ }
-    ensures { λ r. ⌜ ((earlier : List ℕ) → Seen n (now (seen .entry)) earlier → refusal-in r ≡ bad-leaf n earlier k (now (list .entry))) ⌝ }
+    ensures { λ r. ⌜ ((earlier : List ℕ) → now (seen .entry) ≡ words-of 4 (elem earlier) → LeavesChecked n earlier k (now (list .entry)) (now (seen .exit)) r) ⌝ }
 {
     if list.len() == 0 {
         return Checked::Fine;
@@ -98,14 +110,14 @@ fn bad_leaf(list: &[u16], n: usize, k: usize, seen: &mut [u64]) -> Checked
     bad_leaf(&list[1..], n, k + 1, seen)
 }
 
-// Checks 4, 5 and 6: whether the list is a group of a ring with n leaves.
-pub fn check_list(list: &[u16], n: usize) -> Checked
-    requires { ⌜ n ≤ 256 ⌝ }
-    ensures { λ r. ⌜ refusal-in r ≡ first-refusal (list-checks n (now (list .entry))) ⌝ }
+// Checks 4, 5 and 6: whether the list is a group of a ring with n leaves. Where it is, the four words get the group's marks.
+pub fn check_list(list: &[u16], n: usize, marks: &mut [u64]) -> Checked
+    requires { ⌜ (n ≤ 256) × (length (now marks) ≡ 4) ⌝ }
+    ensures { λ r. ⌜ ListChecked n (now (list .entry)) (now (marks .exit)) r ⌝ }
 {
     if list.len() == 0 {
         return Checked::Bad(Refusal::EmptyGroup);
     }
-    let mut seen = [0u64; 4];
-    bad_leaf(list, n, 0, &mut seen)
+    mark_words::clear(marks);
+    bad_leaf(list, n, 0, marks)
 }

@@ -3,7 +3,7 @@ use native.Mathlib.Omega.{arith}
 use denote.Ref.{now}
 use mathlib.Core.List.{_∷_}
 use lib.ListN.{length, getD}
-use Rattle.table_book.proofs.Lists.{leaf-none, leaf-zero, leaf-past, leaf-earlier, leaf-new, seen-more}
+use Rattle.table_book.proofs.Lists.{leaf-none, leaf-zero, leaf-past, leaf-earlier, leaf-new, seen-is, seen-more}
 use Prim.Native.Nat.{ℕ, _<_}
 use borrow.Fn.Kinds.{In}
 use borrow.Fn.PlainCycle.{Measures, is, falls, and}
@@ -29,7 +29,7 @@ abbrev bad-leaf-calls : ℕ → bad-leaf-lts.Claims
 bad-leaf-calls t = (test-reads.Asked, test-reads.Learnt, set-reads.Asked, set-reads.Learnt, bad-leaf-below t, bad-leaf.Post)
 
 bad-leaf-returns : (t : ℕ) → bad-leaf-lts.Need-returns (bad-leaf-calls t) (bad-leaf-at t) bad-leaf.Post
-bad-leaf-returns t c = λ s f. leaf-none _ s _ _ (c .if1 .taken)
+bad-leaf-returns t c = λ s f. leaf-none _ s _ _ _ (c .if1 .taken) f
 
 bad-leaf-shared-slice-read-b : (t : ℕ) → bad-leaf-lts.Need-shared-slice-read-b (bad-leaf-calls t) (bad-leaf-at t) bad-leaf.Post
 bad-leaf-shared-slice-read-b t c = omega arith
@@ -50,7 +50,7 @@ bad-leaf-same-length : (t : ℕ) → bad-leaf-lts.Need-same-length (bad-leaf-cal
 bad-leaf-same-length t c = refl
 
 bad-leaf-returns-4 : (t : ℕ) → bad-leaf-lts.Need-returns-4 (bad-leaf-calls t) (bad-leaf-at t) bad-leaf.Post
-bad-leaf-returns-4 t c = λ s f. leaf-earlier _ s _ _ (c .before .before .before .before .before .before .if1 .left) (c .before .before .before .before .if2 .left) (c .before .before .before .if3 .left) (sym (f _ (omega (arith, c .before .before .before .before .if2 .left)) (c .before .before .before .if3 .left)) ∙ sym (c .before .test .ensures) ∙ c .if4 .taken)
+bad-leaf-returns-4 t c = λ s f. leaf-earlier _ s _ _ (c .before .before .before .before .before .before .if1 .left) (c .before .before .before .before .if2 .left) (c .before .before .before .if3 .left) (sym (seen-is _ s _ f (omega (arith, c .before .before .before .before .if2 .left)) (omega (arith, c .before .before .before .if3 .left, c .before .before .before .before .before .before .before .before .before .pre .1 .0))) ∙ sym (c .before .test .ensures) ∙ c .if4 .taken)
 
 bad-leaf-set-requires : (t : ℕ) → bad-leaf-lts.Need-set-requires (bad-leaf-calls t) (bad-leaf-at t) bad-leaf.Post
 bad-leaf-set-requires t c κs = tt
@@ -75,8 +75,9 @@ bad-leaf-same-length-2 t c = c .before .before .bad-leaf .kept .1 .1 .1 .0 ∙ c
 
 bad-leaf-returns-5 : (t : ℕ) → bad-leaf-lts.Need-returns-5 (bad-leaf-calls t) (bad-leaf-at t) bad-leaf.Post
 bad-leaf-returns-5 t c =
-    λ s f. c .before .before .bad-leaf .ensures (getD (now (c .before .before .before .before .before .before .before .before .before .before .before .before .before .before .before .before .before .before .args .list)) 0 0 ∷ s) (rw (c .before .before .before .before .before .before .before .set .ensures, c .before .before .before .before .before .before .before .before .before .before .before .before .before .before .before .before .before .before .pre .1 .1) (seen-more 4 _ _ s _ (c .before .before .before .before .before .before .before .before .before .before .before .before .before .before .before .before .before .before .pre .1 .0) f))
-    ∙ sym (leaf-new (c .before .before .before .before .before .before .before .before .before .before .before .before .before .before .before .before .before .before .args .n) s (c .before .before .before .before .before .before .before .before .before .before .before .before .before .before .before .before .before .before .args .k) (now (c .before .before .before .before .before .before .before .before .before .before .before .before .before .before .before .before .before .before .args .list)) (c .before .before .before .before .before .before .before .before .before .before .before .before .before .before .before .if1 .left) (c .before .before .before .before .before .before .before .before .before .before .before .before .before .if2 .left) (c .before .before .before .before .before .before .before .before .before .before .before .before .if3 .left) (sym (f _ (omega (arith, c .before .before .before .before .before .before .before .before .before .before .before .before .before .if2 .left)) (c .before .before .before .before .before .before .before .before .before .before .before .before .if3 .left)) ∙ sym (c .before .before .before .before .before .before .before .before .before .before .test .ensures) ∙ c .before .before .before .before .before .before .before .before .before .if4 .left))
+    λ s f. leaf-new (c .before .before .before .before .before .before .before .before .before .before .before .before .before .before .before .before .before .before .args .n) s (c .before .before .before .before .before .before .before .before .before .before .before .before .before .before .before .before .before .before .args .k) (now (c .before .before .before .before .before .before .before .before .before .before .before .before .before .before .before .before .before .before .args .list)) (c .before .before .bad-leaf .last .1 .1 .1 .0) (c .before .before .bad-leaf .result) (c .before .before .before .before .before .before .before .before .before .before .before .before .before .before .before .if1 .left) (c .before .before .before .before .before .before .before .before .before .before .before .before .before .if2 .left) (c .before .before .before .before .before .before .before .before .before .before .before .before .if3 .left)
+    (sym (seen-is _ s _ f (omega (arith, c .before .before .before .before .before .before .before .before .before .before .before .before .before .if2 .left)) (omega (arith, c .before .before .before .before .before .before .before .before .before .before .before .before .if3 .left, c .before .before .before .before .before .before .before .before .before .before .before .before .before .before .before .before .before .before .pre .1 .0))) ∙ sym (c .before .before .before .before .before .before .before .before .before .before .test .ensures) ∙ c .before .before .before .before .before .before .before .before .before .if4 .left)
+    (c .before .before .bad-leaf .ensures (getD (now (c .before .before .before .before .before .before .before .before .before .before .before .before .before .before .before .before .before .before .args .list)) 0 0 ∷ s) (rw (c .before .before .before .before .before .before .before .set .ensures, c .before .before .before .before .before .before .before .before .before .before .before .before .before .before .before .before .before .before .pre .1 .1) (seen-more _ s _ f)))
 
 pub +bad-leaf-spec : {M : Type 1} → statement M
 +bad-leaf-spec = close μ-bad-leaf λ t. bad-leaf-lts.spec (bad-leaf-calls t)

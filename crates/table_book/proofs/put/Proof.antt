@@ -1,11 +1,11 @@
-use native.Mathlib.Omega.{arith}
+use mathlib.Core.Path.{_∙_}
 use Rattle.table_book.proofs.Laws.{booked-is}
 use borrow.Author.Needs.{needs}
 use Rattle.table_book.proofs.put.Statement.{statement}
 use Rattle.table_book.proofs.put.Tie as tie
 
 returns : tie.Need-returns
-returns c = booked-is (c .before .before .before .before .before .before .args .book .now) (c .before .before .before .before .before .before .args .k) _ (c .before .before .mark-list .last .1 .0) (omega arith) (c .before .before .mark-list .ensures)
+returns c = λ G e. booked-is (c .before .before .before .before .before .before .args .book .now) (c .before .before .before .before .before .before .args .k) G _ (c .before .before .copy-group .ensures ∙ e)
 
 pub put-spec : {M : Type 1} → statement M
 put-spec =
