@@ -11,7 +11,7 @@ use lib.Dec.{eqb, ltb}
 use lib.ListN.{length, take, drop, replicate}
 use lib.Seq.{take-append-seam}
 use Rattle.spec_orders.specs.CircularOrder.{Restriction, WellFormed, group-of}
-use Rattle.spec_orders.proofs.Conflicts.{part-length, book-numbers, ring-demand-3}
+use Rattle.spec_orders.proofs.Conflicts.{sublist-length, book-numbers, ring-demand-3}
 use Rattle.spec_calls.specs.declared.Refusal.{Refusal}
 use Rattle.spec_calls.specs.declared.Refusal.the-variants.{RingSize, ShortTable, NotInForm}
 use Rattle.spec_calls.specs.Tables.{Book, padded}
@@ -60,7 +60,7 @@ module _ (n : ℕ) (book : Book) (list table : List ℕ) where
 -- There are no more numbers than groups.
 pub list-few : (n : ℕ) (book : Book) (new : Restriction) → length (conflicts-of n book new) ≤ book .count
 unfolding conflicts-of
-list-few n book new = omega (arith, part-length (ring-demand-3 n (group-numbered (book .words)) (book .count) new .numbers), numbers-length 1 (book .count))
+list-few n book new = omega (arith, sublist-length (ring-demand-3 n (group-numbered (book .words)) (book .count) new .numbers), numbers-length 1 (book .count))
 
 pub conflict-meets : (n : ℕ) (book : Book) (list table : List ℕ) → 1 ≤ n → n ≤ 256 → LentBook n book → 96 ≤ length table → WellFormed n list
     → Named n book list (conflict-call n book list table .answer) (conflict-call n book list table .table)

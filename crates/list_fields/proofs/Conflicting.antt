@@ -6,7 +6,7 @@ use native.Mathlib.Omega.{arith}
 use lib.ListN.{length}
 use Rattle.spec_orders.specs.Lists.{All, numbers-from}
 use Rattle.spec_orders.specs.Conflict.{possible?, ring-conflicts, numbered}
-use Rattle.spec_orders.proofs.Conflicts.{part-all, list-same, numbered-all, ring-demand-3}
+use Rattle.spec_orders.proofs.Conflicts.{sublist-all, list-same, numbered-all, ring-demand-3}
 use Rattle.spec_calls.specs.Tables.{lent-book}
 use Rattle.spec_orders.specs.CircularOrder.{Restriction}
 use Rattle.spec_orders.proofs.Members.{in-all}
@@ -18,7 +18,7 @@ use Rattle.conflict_rule.proofs.Places.{groups-numbered}
 pub conflicts-all : (n : ℕ) (book : List ℕ) (count : ℕ) (new : Restriction) → All (λ j. (1 ≤ j) × (j ≤ count)) (conflicts-of n (lent-book book count) new)
 unfolding conflicts-of
 conflicts-all n book count new =
-    part-all (λ j. (1 ≤ j) × (j ≤ count)) (ring-demand-3 n (group-numbered book) count new .numbers)
+    sublist-all (λ j. (1 ≤ j) × (j ≤ count)) (ring-demand-3 n (group-numbered book) count new .numbers)
     (in-all (λ j. (1 ≤ j) × (j ≤ count)) (numbers-from 1 count) (λ j i. let r = in-range 1 count j i in (r .0, omega (arith, r .1))))
 
 pub conflicts-listed : (n : ℕ) (book : List ℕ) (Gs : List Restriction) (new : Restriction) → groups (lent-book book (length Gs)) ≡ Gs

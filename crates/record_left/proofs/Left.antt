@@ -25,8 +25,8 @@ use Rattle.spec_calls.specs.Calls.{Ring, ring, is-none, table-checks, ring-chec
 use Rattle.spec_calls.specs.Promises.{OpenPromise, JoinPromise, ReadPromise}
 use Rattle.spec_calls.proofs.NodeTables.{tree-in-holds}
 use Rattle.spec_calls.proofs.Refused.{open-keeps, join-keeps, read-call-keeps}
-use Rattle.call_checks.proofs.Laws.{tables-whole}
 use Rattle.call_text.proofs.Reading.{reads-form}
+use Rattle.spec_calls.proofs.Demands.{tables-whole}
 use Rattle.record_copy.specs.declared.Node.{Node}
 use Rattle.record_copy.specs.Rows.{node-rows, with-rows, Sound}
 use Rattle.record_copy.proofs.Kept.{kept}
@@ -103,9 +103,9 @@ module _ (nodes : Nodes) (book : Book) (list : List ℕ) where
   unfolding joined-tree
   joined-form u l e = go (held-tree nodes) refl e
     where
-      go : (o : Option Forest) → held-tree nodes ≡ o → then o (join (group-of (leaves nodes) list)) ≡ some u → InForm (leaves nodes) u
+      go : (o : Option Forest) → held-tree nodes ≡ o → then o (join (group-of (nodes .bins) list)) ≡ some u → InForm (leaves nodes) u
       go none p q = absurd (let z : _≡_ {A = ℕ} 0 1 = cc in omega arith)
-      go (some t) p q = join-some (leaves nodes) (group-of (leaves nodes) list) t u (tree-in-holds (leaves nodes) (nodes .rows) t l .0 p .in-form) q .form
+      go (some t) p q = join-some (leaves nodes) (group-of (nodes .bins) list) t u (tree-in-holds (leaves nodes) (nodes .rows) t l .0 p .in-form) q .form
 
 join-rows : (n : ℕ) (ns : List Node) (book : Book) (list : List ℕ) (said : Reply) (fs words′ : List ℕ) → ring said fs words′ ≡ join-call (lent-records n ns) book list
     → Rows (leaves (lent-records n ns)) ns fs

@@ -8,7 +8,7 @@ use lib.ListN.{length, take, drop}
 use Rattle.spec_orders.specs.Tree.{Forest}
 use Rattle.spec_orders.specs.Form.{StandardOrder}
 use Rattle.spec_orders.specs.CircularOrder.{group-of}
-use Rattle.spec_calls.specs.Tables.{Nodes, lent-nodes, Book, padded}
+use Rattle.spec_calls.specs.Tables.{same-ring, Nodes, Book, padded}
 use Rattle.spec_calls.specs.Refusals.{Reply, reply}
 use Rattle.spec_calls.specs.Calls.{Ring, Filled, ring, filled-as, open-refusal, open-call, joined-tree, join-refusal, join-call, trial-call, order-call, aim-call, write-call, conflicts-of, conflict-refusal, conflict-call}
 use Rattle.spec_calls.specs.Demands.{LentTree}
@@ -57,29 +57,23 @@ module _ (nodes : Nodes) (book : Book) (list : List ℕ) (t : Forest) (a : Asked
         orders = j .orders;
         standard = λ records order order′ answer r l p.
             let h = lent-again (nodes .bins) records rows′ (j .new) (a .tree .some-leaf) (a .tree .few-leaves) r (j .held) in
-            let w = order-written (lent-nodes (nodes .bins) records rows′) (j .new) h order order′ answer l p in
-            (w .0, record { one = j .orders _ .0 (w .1 .allowed); least = λ other o. w .1 .least other (j .orders other .1 o) });
+            order-written (same-ring nodes records rows′) (j .new) h order order′ answer l p;
       }
 
 pub second-demand : SecondDemand
 unfolding trial-call
 second-demand = record {
   joining = λ nodes book list t a rows′ words′ said e.
-      let i = e .1 t (a .tree) (a .groups) (a .place-left) (a .group) .impossible in
-      ((λ q ord o. i .0 q ord (o .0) (o .1), λ n. i .1 (λ ord o c. n ord (o, c))), new-ring nodes book list t a rows′ words′ said e);
-  trial = λ nodes book list t a said e.
-      let i = e .1 t (a .tree) (a .groups) (a .place-left) (a .group) in
-      (λ q ord o. i .0 q ord (o .0) (o .1), λ n. i .1 (λ ord o c. n ord (o, c)));
+      (e .1 t (a .tree) (a .groups) (a .place-left) (a .group) .impossible, new-ring nodes book list t a rows′ words′ said e);
+  trial = λ nodes book list t a said e. e .1 t (a .tree) (a .groups) (a .place-left) (a .group);
   as-joining = λ nodes book list rows′ words′ said tried e f. f .0 ∙ sym (ap (λ (x : Ring). x .answer) (e .0));
-  standard = λ nodes t h order order′ said l e.
-      let w = order-written nodes t h order order′ said l e in
-      (w .0, record { one = w .1 .allowed; least = w .1 .least });
-  written-read = λ nodes t h bytes bytes′ wrote l e. written-read nodes t h bytes bytes′ wrote l e;
+  standard = order-written;
+  written-read = written-read;
   read-written = read-written;
 }
 
 pub third-demand : ThirdDemand
-unfolding conflict-call conflicts-of
+unfolding conflict-call
 third-demand n book list conflicts l m b w places conflicts′ said e =
     let d = e .1 l m b places w in
     let ys = conflicts-of n book (group-of n list) in

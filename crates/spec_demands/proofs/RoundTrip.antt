@@ -13,7 +13,7 @@ use Rattle.spec_orders.specs.Form.{InForm}
 use Rattle.spec_orders.specs.TreeText.{tree-text, Found, tree, Reads, accepted}
 use Rattle.spec_orders.proofs.TextTree.{text-length}
 use Rattle.spec_calls.specs.declared.Refusal.the-variants.{TreeText}
-use Rattle.spec_calls.specs.Tables.{Nodes, lent-nodes, Book, over, padded}
+use Rattle.spec_calls.specs.Tables.{same-ring, leaves, Nodes, lent-nodes, Book, over, padded}
 use Rattle.spec_calls.specs.NodeTable.{table-of, Holds}
 use Rattle.spec_calls.specs.Refusals.{Reply, reply, short}
 use Rattle.spec_calls.specs.Calls.{Ring, ring, Filled, filled-as, open-refusal, write-refusal, write-call, ReadCall, unread, read, read-outcome}
@@ -64,7 +64,7 @@ module _ (nodes : Nodes) (t : Forest) (h : LentTree nodes t) (bytes bytes′ : L
       ∙ ap (take (length (tree-text t))) (append-assoc (tree-text t) _ _)
       ∙ take-append-seam (tree-text t) _
 
-  pub written-read : ReadsBack (nodes .bins) t bytes′ wrote
+  pub written-read : ReadsBack (leaves nodes) t bytes′ wrote
   unfolding read-outcome
   written-read = record {
     done = ap (λ (x : Filled). x .answer .number) written;
@@ -89,13 +89,13 @@ read-tree nodes book text y (read {f = f} p r) e = go f r e
     go (Found.refused q) r e = absurd (refused-number (TreeText q) e)
 
 pub read-written : (nodes : Nodes) (book : Book) (text rows′ words′ : List ℕ) (said : Reply) → ReadPromise nodes book text rows′ words′ said → said .number ≡ 0
-    → (records : ℕ) (bytes bytes′ : List ℕ) (wrote : Reply) → 256 ≤ records → 2048 ≤ length bytes → WritePromise (lent-nodes (nodes .bins) records rows′) bytes bytes′ wrote
+    → (records : ℕ) (bytes bytes′ : List ℕ) (wrote : Reply) → 256 ≤ records → 2048 ≤ length bytes → WritePromise (same-ring nodes records rows′) bytes bytes′ wrote
     → (wrote ≡ reply 0 (length text)) × (take 2048 bytes′ ≡ padded 2048 text)
 unfolding open-refusal
 read-written nodes book text rows′ words′ said c z records bytes bytes′ wrote r long e =
     let (t, q, o, h) = read-tree nodes book text (ring said rows′ words′) c z in
     let k = tables-whole nodes (short 384 (book .words)) o in
-    let w = written (lent-nodes (nodes .bins) records rows′) t (lent-again (nodes .bins) records rows′ t (k .0) (k .1) r h) bytes bytes′ wrote long e in
+    let w = written (same-ring nodes records rows′) t (lent-again (nodes .bins) records rows′ t (k .0) (k .1) r h) bytes bytes′ wrote long e in
     let few = text-length (nodes .bins) t (h .in-form) (k .1) in
     subst (λ x. (wrote ≡ reply 0 (length x)) × (take 2048 bytes′ ≡ padded 2048 x)) (sym q)
     (ap (λ (x : Filled). x .answer) w, ap (λ (x : Filled). take 2048 (x .table)) w ∙ take-at (padded 2048 (tree-text t)) _ 2048 (padded-length 2048 (tree-text t) few))

@@ -1,25 +1,27 @@
 -- The customer's three demands, each as one statement over the calls of document 01; proofs/Main proves them. They speak of whatever keeps the promise
 -- of a call (spec_calls/specs/Promises): first comes what is lent, then the tables as they are left, last what is returned. The contracts of the
--- calls on rows, on node records and for C are these promises.
+-- calls on rows and for C are these promises; so are those on node records, of the rows that the records are, with `Left` (record_left/specs/Records): a
+-- refusal leaves the records themselves as they were.
 use mathlib.Core.Path.{_≡_}
 use mathlib.Core.Logic.{_↔_, _≢_}
 use mathlib.Core.Option.{Option, none, some}
 use mathlib.Core.List.{List, [], _∷_, _++_, map}
 use Prim.Native.Nat.{ℕ, _+_, _≤_, _<_}
 use lib.ListN.{length, take}
-use Rattle.spec_orders.specs.Lists.{NotAfter, numbers-from}
+use Rattle.spec_orders.specs.Lists.{numbers-from}
 use Rattle.spec_orders.specs.CircularOrder.{Restriction, WellFormed, group-of, Consecutive, Possible}
 use Rattle.spec_orders.specs.Tree.{Forest, Allowed}
+use Rattle.spec_orders.specs.Form.{StandardOrder}
 use Rattle.spec_orders.specs.TreeText.{tree, refused, Reads}
-use Rattle.spec_orders.specs.Conflict.{possible?, conflict-list, Numbers}
+use Rattle.spec_orders.specs.Conflict.{Numbers}
 use Rattle.spec_calls.specs.declared.Refusal.{Refusal}
 use Rattle.spec_calls.specs.declared.Refusal.the-variants.{TreeText}
-use Rattle.spec_calls.specs.Tables.{Nodes, lent-nodes, Book, padded}
+use Rattle.spec_calls.specs.Tables.{Nodes, leaves, same-ring, Book, padded}
 use Rattle.spec_calls.specs.Book.{booked}
 use Rattle.spec_calls.specs.NodeTable.{Holds}
 use Rattle.spec_calls.specs.Refusals.{Reply, reply, reported}
-use Rattle.spec_calls.specs.Calls.{open-refusal, join-refusal, order-refusal, aim-refusal, write-refusal, conflict-refusal, group-numbered}
-use Rattle.spec_calls.specs.Demands.{LentTree, LentBook}
+use Rattle.spec_calls.specs.Calls.{open-refusal, join-refusal, order-refusal, aim-refusal, write-refusal, conflict-refusal, conflicts-of, group-numbered}
+use Rattle.spec_calls.specs.Demands.{LentTree, LentBook, ImpossibleIff}
 use Rattle.spec_calls.specs.Promises.{OpenPromise, JoinPromise, TrialPromise, OrderPromise, AimPromise, WritePromise, ReadPromise, ConflictPromise}
 
 -- ==== The first demand
@@ -36,8 +38,8 @@ pub record ByTheTable (must : Option Refusal) (said : Reply) (Kept : Type 0) : T
 -- The refusal of the tree text's reader: by 1 or 2, the checks of opening; or else by 12, at a byte.
 pub data ReadRefusal (nodes : Nodes) (book : Book) (text : List ℕ) : Option Refusal → Type 0 where
   by-tables : {r : Refusal} → open-refusal nodes book ≡ some r → ReadRefusal nodes book text (some r)
-  by-text : {p : ℕ} → open-refusal nodes book ≡ none → Reads (nodes .bins) text (refused p) → ReadRefusal nodes book text (some (TreeText p))
-  by-none : {t : Forest} → open-refusal nodes book ≡ none → Reads (nodes .bins) text (tree t) → ReadRefusal nodes book text none
+  by-text : {p : ℕ} → open-refusal nodes book ≡ none → Reads (leaves nodes) text (refused p) → ReadRefusal nodes book text (some (TreeText p))
+  by-none : {t : Forest} → open-refusal nodes book ≡ none → Reads (leaves nodes) text (tree t) → ReadRefusal nodes book text none
 
 -- Every call that is lent tables. (11 is the refusal of the ring file's functions, which write no table: `Says`, file_read/specs/RingFile.)
 pub record FirstDemand : Type 0 where
@@ -70,57 +72,44 @@ pub record Asked (nodes : Nodes) (book : Book) (list : List ℕ) (t : Forest) : 
   pub place-left : book .count < 96
   pub group : WellFormed (nodes .bins) list
 
--- The ring orders allowed by the tree that hang the group together.
-abbrev pub AllowedWith : Forest → Restriction → List ℕ → Type 0
-AllowedWith t G ord = Allowed t ord × Consecutive G ord
-
--- "'Impossible' [8] is answered if and only if no ring order allowed by the tree hangs the group together."
-abbrev pub ImpossibleIffNone : Forest → Restriction → Reply → Type 0
-ImpossibleIffNone t G said = (said ≡ reply 8 0) ↔ ((ord : List ℕ) → AllowedWith t G ord → ⊥)
-
--- The first of some orders, in dictionary order.
-pub record FirstOf (Q : List ℕ → Type 0) (ord : List ℕ) : Type 0 where
-  pub one : Q ord
-  pub least : (other : List ℕ) → Q other → NotAfter ord other
-
 -- "Otherwise the new tree allows exactly those that do, and the standard order is the first of them." The group is accepted, and the rows hold the
 -- new tree. Who then calls for its standard order, with these rows in 256 records or more, has the first of those orders in the n places.
 pub record NewRing (nodes : Nodes) (book : Book) (G : Restriction) (t : Forest) (rows′ words′ : List ℕ) (said : Reply) : Type 0 where
   pub accepted : said ≡ reply 0 (book .count + 1)
   pub in-book : words′ ≡ booked (book .words) (book .count) G
   pub new : Forest
-  pub held : Holds (nodes .bins) rows′ new
-  pub orders : (ord : List ℕ) → Allowed new ord ↔ AllowedWith t G ord
+  pub held : Holds (leaves nodes) rows′ new
+  pub orders : (ord : List ℕ) → Allowed new ord ↔ (Allowed t ord × Consecutive G ord)
   pub standard : (records : ℕ) (order order′ : List ℕ) (answer : Reply) → 256 ≤ records → nodes .bins ≤ length order
-      → OrderPromise (lent-nodes (nodes .bins) records rows′) order order′ answer
-      → (answer ≡ reply 0 (nodes .bins)) × FirstOf (AllowedWith t G) (take (nodes .bins) order′)
+      → OrderPromise (same-ring nodes records rows′) order order′ answer → (answer ≡ reply 0 (nodes .bins)) × StandardOrder new (take (nodes .bins) order′)
 
--- A tree t was written: the call is done, and the bytes up to the answered length, read into any ring of n bins that is lent whole, leave rows that
--- hold t.
+-- A tree t of n leaves was written: the call is done, and the bytes up to the answered length, read into any ring of as many leaves that is lent
+-- whole, leave rows that hold t.
 pub record ReadsBack (n : ℕ) (t : Forest) (bytes′ : List ℕ) (wrote : Reply) : Type 0 where
   pub done : wrote .number ≡ 0
-  pub same-tree : (nodes : Nodes) (book : Book) → nodes .bins ≡ n → open-refusal nodes book ≡ none → (rows′ words′ : List ℕ) (said : Reply)
+  pub same-tree : (nodes : Nodes) (book : Book) → leaves nodes ≡ n → open-refusal nodes book ≡ none → (rows′ words′ : List ℕ) (said : Reply)
       → ReadPromise nodes book (take (wrote .value) bytes′) rows′ words′ said → (said ≡ reply 0 0) × Holds n rows′ t
 
 pub record SecondDemand : Type 0 where
+  -- "'Impossible' [8] is answered if and only if no ring order allowed by the tree hangs the group together."
   pub joining : (nodes : Nodes) (book : Book) (list : List ℕ) (t : Forest) → Asked nodes book list t
       → (rows′ words′ : List ℕ) (said : Reply) → JoinPromise nodes book list rows′ words′ said
-      → ImpossibleIffNone t (group-of (nodes .bins) list) said × (said ≢ reply 8 0 → NewRing nodes book (group-of (nodes .bins) list) t rows′ words′ said)
+      → ImpossibleIff (group-of (nodes .bins) list) t said × (said ≢ reply 8 0 → NewRing nodes book (group-of (nodes .bins) list) t rows′ words′ said)
   -- A trial answers so too, and always as joining would.
   pub trial : (nodes : Nodes) (book : Book) (list : List ℕ) (t : Forest) → Asked nodes book list t
-      → (said : Reply) → TrialPromise nodes book list said → ImpossibleIffNone t (group-of (nodes .bins) list) said
+      → (said : Reply) → TrialPromise nodes book list said → ImpossibleIff (group-of (nodes .bins) list) t said
   pub as-joining : (nodes : Nodes) (book : Book) (list rows′ words′ : List ℕ) (said tried : Reply)
       → JoinPromise nodes book list rows′ words′ said → TrialPromise nodes book list tried → tried ≡ said
   -- The standard order of any tree is the first that it allows.
   pub standard : (nodes : Nodes) (t : Forest) → LentTree nodes t → (order order′ : List ℕ) (said : Reply) → nodes .bins ≤ length order
-      → OrderPromise nodes order order′ said → (said ≡ reply 0 (nodes .bins)) × FirstOf (Allowed t) (take (nodes .bins) order′)
+      → OrderPromise nodes order order′ said → (said ≡ reply 0 (nodes .bins)) × StandardOrder t (take (nodes .bins) order′)
   -- "A tree written and read is the same tree."
   pub written-read : (nodes : Nodes) (t : Forest) → LentTree nodes t → (bytes bytes′ : List ℕ) (wrote : Reply) → 2048 ≤ length bytes
-      → WritePromise nodes bytes bytes′ wrote → ReadsBack (nodes .bins) t bytes′ wrote
+      → WritePromise nodes bytes bytes′ wrote → ReadsBack (leaves nodes) t bytes′ wrote
   -- "An accepted text written again is the same text": its length is answered, and the 2,048 bytes are the text and zeros.
   pub read-written : (nodes : Nodes) (book : Book) (text rows′ words′ : List ℕ) (said : Reply) → ReadPromise nodes book text rows′ words′ said
       → said .number ≡ 0 → (records : ℕ) (bytes bytes′ : List ℕ) (wrote : Reply) → 256 ≤ records → 2048 ≤ length bytes
-      → WritePromise (lent-nodes (nodes .bins) records rows′) bytes bytes′ wrote
+      → WritePromise (same-ring nodes records rows′) bytes bytes′ wrote
       → (wrote ≡ reply 0 (length text)) × (take 2048 bytes′ ≡ padded 2048 text)
 
 -- ==== The third demand
@@ -142,7 +131,7 @@ pub record ConflictList (n : ℕ) (book : Book) (G : Restriction) (conflicts′ 
   pub smallest : (before : List ℕ) (left-out : ℕ) (after : List ℕ) → named ≡ before ++ (left-out ∷ after)
       → Possible n (G ∷ groups-numbered book (before ++ after))
   -- "Its 96 places and the count are exactly those of document 01": the numbers that the leaving-out rule keeps, which rise, and zeros.
-  pub rule : named ≡ conflict-list (possible? n) (group-numbered (book .words)) (G ∷ []) (all-numbers book)
+  pub rule : named ≡ conflicts-of n book G
   pub rise : Numbers 1 (book .count) named
   pub places : take 96 conflicts′ ≡ padded 96 named
   pub count : said ≡ reply 0 (length named)

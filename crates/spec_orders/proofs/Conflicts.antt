@@ -10,7 +10,7 @@ use lib.ListN.{length}
 use Rattle.spec_orders.specs.Lists.{In, All, numbers-from, Rearranged, done}
 use Rattle.spec_orders.specs.CircularOrder.{others, Restriction, Consecutive, Possible}
 use Rattle.spec_orders.specs.Join.{side}
-use Rattle.spec_orders.specs.Conflict.{possible?, Part, end, kept, left, leave-out, conflict-list, Demand-3, ring-conflicts, numbered, Numbers}
+use Rattle.spec_orders.specs.Conflict.{possible?, Sublist, end, kept, left, leave-out, conflict-list, Demand-3, ring-conflicts, numbered, Numbers}
 use Rattle.spec_orders.proofs.Rearranged.{perm-insert, perm-skip, pick-middle}
 use Rattle.spec_orders.proofs.Members.{nil-not, in-left, in-right, in-append, in-all, all-in}
 use Rattle.spec_orders.proofs.Tests.{false-if}
@@ -20,45 +20,45 @@ use Rattle.spec_orders.proofs.Decide.{possible-decides}
 
 -- A list with elements left out.
 module _ {A : Type 0} where
-  pub part-in : {l m : List A} → Part l m → (x : A) → In x m → In x l
-  part-in end x i = i
-  part-in (kept p) x (inl e) = inl e
-  part-in (kept p) x (inr i) = inr (part-in p x i)
-  part-in (left p) x i = inr (part-in p x i)
+  pub sublist-in : {l m : List A} → Sublist l m → (x : A) → In x m → In x l
+  sublist-in end x i = i
+  sublist-in (kept p) x (inl e) = inl e
+  sublist-in (kept p) x (inr i) = inr (sublist-in p x i)
+  sublist-in (left p) x i = inr (sublist-in p x i)
 
-  pub part-all : (P : A → Type 0) {l m : List A} → Part l m → All P l → All P m
-  part-all P {l} {m} p h = in-all P m (λ x i. all-in P x l h (part-in p x i))
+  pub sublist-all : (P : A → Type 0) {l m : List A} → Sublist l m → All P l → All P m
+  sublist-all P {l} {m} p h = in-all P m (λ x i. all-in P x l h (sublist-in p x i))
 
-  pub part-length : {l m : List A} → Part l m → length m ≤ length l
-  part-length end = omega arith
-  part-length (kept p) = omega (arith, part-length p)
-  part-length (left p) = omega (arith, part-length p)
+  pub sublist-length : {l m : List A} → Sublist l m → length m ≤ length l
+  sublist-length end = omega arith
+  sublist-length (kept p) = omega (arith, sublist-length p)
+  sublist-length (left p) = omega (arith, sublist-length p)
 
-  part-map : {B : Type 0} (g : A → B) {l m : List A} → Part l m → Part (map g l) (map g m)
-  part-map g end = end
-  part-map g (kept p) = kept (part-map g p)
-  part-map g (left p) = left (part-map g p)
+  sublist-map : {B : Type 0} (g : A → B) {l m : List A} → Sublist l m → Sublist (map g l) (map g m)
+  sublist-map g end = end
+  sublist-map g (kept p) = kept (sublist-map g p)
+  sublist-map g (left p) = left (sublist-map g p)
 
-  part-none : (l : List A) → Part l []
-  part-none [] = end
-  part-none (x ∷ l) = left (part-none l)
+  sublist-none : (l : List A) → Sublist l []
+  sublist-none [] = end
+  sublist-none (x ∷ l) = left (sublist-none l)
 
 -- Numbers that rise do so where some are left out.
 numbers-later : (k i m : ℕ) (ns : List ℕ) → k ≤ i → Numbers i m ns → Numbers k m ns
 numbers-later k i m [] l h = tt
 numbers-later k i m (j ∷ ns) l h = (omega (arith, h .0), h .1, h .2)
 
-pub part-numbers : (k m : ℕ) {l ns : List ℕ} → Part l ns → Numbers k m l → Numbers k m ns
-part-numbers k m end h = h
-part-numbers k m (kept {x = j} p) h = (h .0, h .1, part-numbers (suc j) m p (h .2))
-part-numbers k m (left {x = j} {m = ns} p) h = numbers-later k (suc j) m ns (omega (arith, h .0)) (part-numbers (suc j) m p (h .2))
+pub sublist-numbers : (k m : ℕ) {l ns : List ℕ} → Sublist l ns → Numbers k m l → Numbers k m ns
+sublist-numbers k m end h = h
+sublist-numbers k m (kept {x = j} p) h = (h .0, h .1, sublist-numbers (suc j) m p (h .2))
+sublist-numbers k m (left {x = j} {m = ns} p) h = numbers-later k (suc j) m ns (omega (arith, h .0)) (sublist-numbers (suc j) m p (h .2))
 
 numbers-rise : (k c m : ℕ) → k + c ≤ suc m → Numbers k m (numbers-from k c)
 numbers-rise k zero m h = tt
 numbers-rise k (suc c) m h = (omega arith, omega arith, numbers-rise (suc k) c m (omega arith))
 
-pub book-numbers : (count : ℕ) {ns : List ℕ} → Part (numbers-from 1 count) ns → Numbers 1 count ns
-book-numbers count p = part-numbers 1 count p (numbers-rise 1 count count (omega arith))
+pub book-numbers : (count : ℕ) {ns : List ℕ} → Sublist (numbers-from 1 count) ns → Numbers 1 count ns
+book-numbers count p = sublist-numbers 1 count p (numbers-rise 1 count count (omega arith))
 
 -- One list or the other.
 unfoldable pub by-test : Bool → List ℕ → List ℕ → List ℕ
@@ -88,7 +88,7 @@ module _ {A : Type 0} {Ok : List A → Type 0} {ok : List A → Bool} (t : Tests
 
     -- What the leaving-out rule keeps is impossible where all are, and without any one of them it is possible.
     pub record Kept (stay : List A) (js ns : List ℕ) : Type 0 where
-      pub part : Part js ns
+      pub part : Sublist js ns
       pub impossible : (Ok (stay ++ map f js) → ⊥) → Ok (stay ++ map f ns) → ⊥
       pub smallest : (a : List ℕ) (j : ℕ) (b : List ℕ) → ns ≡ a ++ (j ∷ b) → Ok (stay ++ map f (a ++ b))
 
@@ -103,7 +103,7 @@ module _ {A : Type 0} {Ok : List A → Type 0} {ok : List A → Bool} (t : Tests
         least [] i b e =
             subst (λ l. Ok (stay ++ map f l)) (tail-eq-of-cons-eq e)
             (t .fewer (stay ++ map f js) (stay ++ map f ns)
-            (λ x h. ⊎-elim (in-left x stay (map f js)) (λ w. in-right x stay (map f js) (part-in (part-map f (s .part)) x w)) (in-append x stay (map f ns) h)) q)
+            (λ x h. ⊎-elim (in-left x stay (map f js)) (λ w. in-right x stay (map f js) (sublist-in (sublist-map f (s .part)) x w)) (in-append x stay (map f ns) h)) q)
         least (x ∷ a) i b e =
             subst (λ z. Ok (stay ++ (f z ∷ map f (a ++ b)))) (head-eq-of-cons-eq e)
             (subst Ok (append-assoc stay (f j ∷ []) (map f (a ++ b))) (s .smallest a i b (tail-eq-of-cons-eq e)))
@@ -127,7 +127,7 @@ module _ {A : Type 0} {Ok : List A → Type 0} {ok : List A → Bool} (t : Tests
           empty-iff = ((λ e. t .decides (new ∷ map f js) .0 q), (λ p. refl));
           impossible = λ h. absurd (h refl);
           smallest = λ a j b e. absurd (nil-not a j b e);
-          numbers = part-none js;
+          numbers = sublist-none js;
         }
         go false q =
             let s = leave-out-kept (new ∷ []) js in

@@ -45,11 +45,11 @@ consecutive? G ord = some-of (run-first G) (turns [] ord)
 unfoldable pub possible? : ℕ → List Restriction → Bool
 possible? n Gs = some-of (λ xs. all-of (λ G. consecutive? G (1 ∷ xs)) Gs) (perms (others n))
 
--- Some elements of a list, in their sequence: `Part l m`, m is l with elements left out.
-pub data Part {A : Type 0} : List A → List A → Type 0 where
-  end : Part [] []
-  kept : {x : A} {l m : List A} → Part l m → Part (x ∷ l) (x ∷ m)
-  left : {x : A} {l m : List A} → Part l m → Part (x ∷ l) m
+-- Some elements of a list, in their sequence: `Sublist l m`, m is l with elements left out.
+pub data Sublist {A : Type 0} : List A → List A → Type 0 where
+  end : Sublist [] []
+  kept : {x : A} {l m : List A} → Sublist l m → Sublist (x ∷ l) (x ∷ m)
+  left : {x : A} {l m : List A} → Sublist l m → Sublist (x ∷ l) m
 
 -- The test `ok` says whether groups can hang together, `f j` is the group with the number j, and js are the numbers of the book's groups.
 module _ {A : Type 0} where
@@ -74,7 +74,7 @@ module _ {A : Type 0} where
     pub empty-iff : (ns ≡ []) ↔ Ok (new ∷ map f js)
     pub impossible : ns ≢ [] → Ok (new ∷ map f ns) → ⊥
     pub smallest : (a : List ℕ) (j : ℕ) (b : List ℕ) → ns ≡ a ++ (j ∷ b) → Ok (new ∷ map f (a ++ b))
-    pub numbers : Part js ns
+    pub numbers : Sublist js ns
 
 -- The conflict list of a ring's whole book: its groups have the numbers 1 to count.
 abbrev pub ring-conflicts : ℕ → (ℕ → Restriction) → ℕ → Restriction → List ℕ
