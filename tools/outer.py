@@ -39,23 +39,25 @@ def files():
     return {path: "\n".join(lines) + "\n" for path, lines in made.items()}
 
 
-def main(check):
+def main(words):
+    if words not in ([], ["--check"]):
+        sys.exit(__doc__)
+    check = words == ["--check"]
     made = files()
     differ = [path for path, text in made.items() if not (ROOT / path).exists() or (ROOT / path).read_text() != text]
     if not check:
         for path in differ:
             (ROOT / path).parent.mkdir(parents=True, exist_ok=True)
             (ROOT / path).write_text(made[path])
-    # what is in no table any more, and the functions that are written by hand
-    for path in made:
-        proofs = (ROOT / path).parent.parent / "proofs"
-        lost = {str(x.relative_to(ROOT)) for x in proofs.glob("*/Proof.antt")} - made.keys()
-        differ += sorted(lost - set(differ))
+    # proofs of what is in the table no more, and the functions that are written by hand
+    folders = {(ROOT / path).parent.parent / "proofs" for path in made}
+    lost = sorted({str(x.relative_to(ROOT)) for folder in folders for x in folder.glob("*/Proof.antt")} - made.keys())
+    differ += [f"{path} (of no call)" for path in lost]
     source = (ROOT / "crates/c_file/src/lib.rt").read_text()
     wrong = not all(head in source for head in file_heads())
     print(*differ, *["crates/c_file/src/lib.rt (by hand)"] * wrong, sep="\n", end="\n" if differ or wrong else "")
-    return 1 if check and (differ or wrong) else 0
+    return 1 if lost or wrong or (check and differ) else 0
 
 
 if __name__ == "__main__":
-    sys.exit(main(sys.argv[1:] == ["--check"]))
+    sys.exit(main(sys.argv[1:]))

@@ -59,8 +59,9 @@ fn main() {
     let mut text = vec![0; TEXT];
     let length = write(n, &nodes, &mut text).expect("in form");
     read(n, &mut nodes, &mut book, &text[..length]).expect("a tree text");
-    let pairs: Vec<_> = (1..n as u16).take(GROUPS).map(|leaf| vec![leaf, leaf + 1]).collect();
+    let pairs: Vec<_> = (1..n as u16 - 1).take(GROUPS).map(|leaf| vec![leaf, leaf + 1]).collect();
     let last = pairs.len() as u16 + 1;
-    conflict(n, &booked(&pairs), pairs.len(), &[1, last], &mut vec![0; GROUPS]).expect("a list");
+    let named = conflict(n, &booked(&pairs), pairs.len(), &[1, last], &mut vec![0; GROUPS]).expect("a list");
+    assert_eq!(named, pairs.len());
     println!("open 1 join {GROUPS} trial {GROUPS} order 1 aim {GROUPS} write 1 read 1 conflict 1");
 }

@@ -1,4 +1,4 @@
--- What is said of a file. The ring file itself is defined in `syntax/specs/RingFile`, whose names are passed on here.
+-- What is said of a file. The ring file itself is defined in `file_syntax/specs/RingFile`, whose names are passed on here.
 use Prim.Native.Nat.{ℕ, _≤_, _<_}
 use mathlib.Core.List.{List, [], _∷_}
 use lib.ListN.{length}

@@ -99,7 +99,7 @@ pub record FileHolds (x : List ℕ) (n h l : ℕ) : Type 0 where
   pub lines : l ≡ length vss
 
 -- The readers of names and values, for any bytes x and any numbers; in an accepted file they find the names, the values and the groups
--- (`ringfile/proofs/Values`).
+-- (`file_read/proofs/Values`).
 
 -- The words of the first line: the bytes before the first line end, parted at spaces. `in-front`: one byte more in front of the first word.
 abbrev pub in-front : ℕ → List (List ℕ) → List (List ℕ)

@@ -1,5 +1,5 @@
 // Obeys the commands of script.txt, one a line, and prints a line for each call: its letter, what it answered, and a checksum of each table
-// lent to it. A command is a letter and numbers, one space before each: one of those of crate vector_commands, or
+// lent to it. A command is a letter and numbers, one space before each: one of those of crate test_commands, or
 //
 //   C n b count c list         the conflict list of a group, into the first c places of the conflicts
 use spec_calls::Answer;

@@ -1,4 +1,4 @@
--- Every text has an outcome for n leaves: a tree in form, or the byte at which it is refused. (`orders/proofs/TextOnce.reads-once`: it has one.)
+-- Every text has an outcome for n leaves: a tree in form, or the byte at which it is refused. (`spec_orders/proofs/TextOnce.reads-once`: it has one.)
 use mathlib.Core.Path.{_≡_, refl}
 use mathlib.Core.List.{List}
 use Prim.Native.Nat.{ℕ, zero, suc}

@@ -1,4 +1,4 @@
--- `lent::get` meets its contract: a walk of its MIR, by hand. The slice is looked into, element i is taken out of the row, read whole, and put back.
+-- `record_copy::get` meets its contract: a walk of its MIR, by hand. The slice is looked into, element i is taken out of the row, read whole, and put back.
 -- Assumes nothing.
 use mathlib.Core.Path.{refl, sym}
 use Prim.Native.Nat.{ℕ, _<_, _^_}

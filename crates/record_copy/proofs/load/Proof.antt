@@ -1,4 +1,4 @@
--- `lent::load` meets its contract: a walk of its MIR, by hand, with a loop. Each turn calls `get` with the slice of records, which is Copy, and `put_row` with the other slice lent again for a lifetime of the call.
+-- `record_copy::load` meets its contract: a walk of its MIR, by hand, with a loop. Each turn calls `get` with the slice of records, which is Copy, and `put_row` with the other slice lent again for a lifetime of the call.
 -- The loop's invariant is the whole context at a state: how many records are loaded, the list, and `Loaded` of both. What each turn does to the list is `proofs/Laws.antt`'s.
 -- Assumes nothing.
 use mathlib.Core.Path.{_≡_, refl, sym, _∙_, ap, subst}

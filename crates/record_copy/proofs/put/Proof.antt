@@ -1,4 +1,4 @@
--- `lent::put` meets its contract: a walk of its MIR, by hand. The borrow is opened, element i is taken out of the row and stored to, and the borrow is closed at the list with the record in it.
+-- `record_copy::put` meets its contract: a walk of its MIR, by hand. The borrow is opened, element i is taken out of the row and stored to, and the borrow is closed at the list with the record in it.
 -- Assumes nothing.
 use mathlib.Core.Path.{refl, sym, ap, subst}
 use Prim.Native.Nat.{ℕ, _<_, _^_}

@@ -1,4 +1,4 @@
--- `lent::store` meets its contract: a walk of its MIR, by hand, with a loop. Each turn calls `row_at` with the slice of numbers, which is Copy, and `put` with the slice of records lent again for a lifetime of the call.
+-- `record_copy::store` meets its contract: a walk of its MIR, by hand, with a loop. Each turn calls `row_at` with the slice of numbers, which is Copy, and `put` with the slice of records lent again for a lifetime of the call.
 -- The loop's invariant is the whole context at a state: how many records are stored, the list, and `Stored` of both. What each turn does to the list is `proofs/Laws.antt`'s.
 -- Assumes nothing.
 use mathlib.Core.Path.{_≡_, refl, sym, _∙_, ap, subst}
