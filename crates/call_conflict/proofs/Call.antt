@@ -1,50 +1,39 @@
 -- The call's checks, and its definition meets the third demand.
 use mathlib.Core.Path.{_≡_, refl, sym, ap, subst, _∙_}
-use mathlib.Core.Bool.{Bool, true, false, not, _||_}
-use mathlib.Core.Option.{none}
-use mathlib.Core.List.{List, _∷_, _++_}
+use mathlib.Core.Option.{none, some}
+use mathlib.Core.List.{List, _++_}
 use Prim.Native.Nat.{ℕ, zero, suc, _-_, _≤_}
-use native.Mathlib.Nat.{pos-of-ne-zero}
 use native.Mathlib.Omega.{arith}
-use borrow.Author.Tests.{le-ltb, eqb-false, ltb-false}
-use lib.Dec.{eqb, ltb}
+use borrow.Author.Tests.{le-ltb}
 use lib.ListN.{length, take, drop, replicate}
 use lib.Seq.{take-append-seam}
 use Rattle.spec_orders.specs.CircularOrder.{Restriction, WellFormed, group-of}
 use Rattle.spec_orders.proofs.Conflicts.{sublist-length, book-numbers, ring-demand-3}
 use Rattle.spec_calls.specs.declared.Refusal.{Refusal}
-use Rattle.spec_calls.specs.declared.Refusal.the-variants.{RingSize, ShortTable, NotInForm}
 use Rattle.spec_calls.specs.Tables.{Book, padded}
-use Rattle.spec_calls.specs.Book.{book-in-form?}
 use Rattle.spec_orders.proofs.Numbers.{numbers-length}
-use Rattle.spec_calls.specs.Refusals.{Reply, reply, reported, refuse, first-refusal, list-checks}
+use Rattle.spec_calls.specs.Refusals.{Reply, reply, reported, first-refusal, short, list-checks}
 use Rattle.spec_calls.specs.Calls.{Filled, filled-as, group-numbered, conflict-refusal, conflicts-of, conflict-call}
 use Rattle.spec_calls.proofs.NodeTables.{padded-length}
 use Rattle.spec_calls.proofs.Demands.{passes-iff, size-fine}
-use Rattle.table_book.specs.declared.Checked.{Checked}
-use Rattle.table_book.specs.declared.Checked.the-variants.{Bad}
-use Rattle.table_book.specs.Lists.{refusal-in}
 use Rattle.table_book.proofs.Laws.{few-groups}
 use Rattle.tree_tokens.specs.Tokens.{Wrote}
-use Rattle.spec_calls.specs.Demands.{LentBook, Named, ConflictDemand}
+use Rattle.spec_calls.specs.Demands.{LentBook, Named}
+use Rattle.spec_calls.specs.Promises.{ConflictPromise}
+use Rattle.call_checks.specs.Lent.{book-checks}
+use Rattle.call_checks.proofs.Laws.{first-refusal-some, first-refusal-none}
 
 module _ (n : ℕ) (book : Book) (list table : List ℕ) where
-  -- What passes: what the demand is about.
-  pub passes-lent : conflict-refusal n book list table ≡ none → (1 ≤ n) × (n ≤ 256) × LentBook n book × (96 ≤ length table) × WellFormed n list
+  -- The checks of the lent book, and then those of the list.
+  checks-are : conflict-refusal n book list table ≡ first-refusal (book-checks n book (short 96 table) ++ list-checks n list)
   unfolding conflict-refusal
-  passes-lent e = go (eqb n 0) refl (ltb 256 n) refl (ltb (length (book .words)) 384) refl (ltb (length table) 96) refl (book-in-form? n book) refl e
-    where
-      go : (a : Bool) → eqb n 0 ≡ a → (b : Bool) → ltb 256 n ≡ b → (c : Bool) → ltb (length (book .words)) 384 ≡ c → (d : Bool) → ltb (length table) 96 ≡ d
-          → (f : Bool) → book-in-form? n book ≡ f
-          → first-refusal (refuse (a || b) RingSize ∷ (refuse (c || d) ShortTable ∷ (refuse (not f) NotInForm ∷ list-checks n list))) ≡ none
-          → (1 ≤ n) × (n ≤ 256) × LentBook n book × (96 ≤ length table) × WellFormed n list
-      go true p b q c r d s f w e = absurd (let i : _≡_ {A = ℕ} 0 1 = cc in omega arith)
-      go false p true q c r d s f w e = absurd (let i : _≡_ {A = ℕ} 0 1 = cc in omega arith)
-      go false p false q true r d s f w e = absurd (let i : _≡_ {A = ℕ} 0 1 = cc in omega arith)
-      go false p false q false r true s f w e = absurd (let i : _≡_ {A = ℕ} 0 1 = cc in omega arith)
-      go false p false q false r false s false w e = absurd (let i : _≡_ {A = ℕ} 0 1 = cc in omega arith)
-      go false p false q false r false s true w e =
-          (pos-of-ne-zero (eqb-false n 0 p), ltb-false 256 n q, record { all-words = ltb-false (length (book .words)) 384 r; in-form = w }, ltb-false (length table) 96 s, passes-iff n list .0 e)
+  checks-are = refl
+
+  pub book-refused : (r : Refusal) → first-refusal (book-checks n book (short 96 table)) ≡ some r → conflict-refusal n book list table ≡ some r
+  book-refused r e = checks-are ∙ first-refusal-some (book-checks n book (short 96 table)) (list-checks n list) r e
+
+  pub list-judged : first-refusal (book-checks n book (short 96 table)) ≡ none → conflict-refusal n book list table ≡ first-refusal (list-checks n list)
+  list-judged e = checks-are ∙ first-refusal-none (book-checks n book (short 96 table)) (list-checks n list) e
 
   pub lent-passes : 1 ≤ n → n ≤ 256 → LentBook n book → 96 ≤ length table → WellFormed n list → conflict-refusal n book list table ≡ none
   unfolding conflict-refusal
@@ -86,19 +75,18 @@ drop-zeros zero (suc k) = let e : 0 - suc k ≡ 0 = omega arith in rw e
 drop-zeros (suc w) (suc k) = let e : suc w - suc k ≡ w - k = omega arith in rw e (drop-zeros w k)
 
 module _ (n : ℕ) (book : Book) (list table : List ℕ) where
-  pub call-refused : {r : Checked} {why : Refusal} → r ≡ Bad why → refusal-in r ≡ conflict-refusal n book list table
-      → filled-as (reported why) table ≡ conflict-call n book list table
+  promised : {said : Reply} {new : List ℕ} → filled-as said new ≡ conflict-call n book list table → ConflictPromise n book list table new said
+  promised e = (e, λ l m h places w. subst (λ (c : Filled). Named n book list (c .answer) (c .table)) (sym e) (conflict-meets n book list table l m h places w))
+
+  pub call-refused : (r : Refusal) → conflict-refusal n book list table ≡ some r → ConflictPromise n book list table table (reported r)
   unfolding conflict-call
-  call-refused e h = let q = sym h ∙ ap refusal-in e in rw q
+  call-refused r e = promised (rw e)
 
   pub call-found : {numbers new : List ℕ} {k m : ℕ} → conflict-refusal n book list table ≡ none
       → Wrote (conflicts-of n book (group-of n list)) (replicate 96 0) numbers k → Wrote numbers table new m
-      → filled-as (reply 0 k) new ≡ conflict-call n book list table
+      → ConflictPromise n book list table new (reply 0 k)
   unfolding conflict-call
   call-found {numbers} h a b =
       let xs = conflicts-of n book (group-of n list) in
       let e : numbers ≡ padded 96 xs = a .text ∙ ap (λ (l : List ℕ). xs ++ l) (drop-zeros 96 (length xs)) in
-      rw (h, a .many, b .text, e)
-
-  pub call-meets : {said : Reply} {new : List ℕ} → filled-as said new ≡ conflict-call n book list table → ConflictDemand n book list table said new
-  call-meets e l m h places w = subst (λ (c : Filled). Named n book list (c .answer) (c .table)) (sym e) (conflict-meets n book list table l m h places w)
+      promised (rw (h, a .many, b .text, e))

@@ -1,18 +1,15 @@
 // The conflict call: which groups of the book are impossible together with a new one, none of them needlessly.
 ghost use mathlib.Core.Path.{_≡_};
-ghost use mathlib.Core.List.{List};
-ghost use Prim.Native.Nat.{ℕ, _≤_};
+ghost use Prim.Native.Nat.{_≤_};
 ghost use lib.ListN.{length};
 ghost use Rattle.spec_orders.specs.Lists.{numbers-from};
 ghost use Rattle.mark_words.specs.Marks.{marked};
 ghost use Rattle.tree_tokens.specs.Tokens.{Wrote};
 ghost use Rattle.spec_calls.specs.Tables.{lent-book};
-ghost use Rattle.spec_calls.specs.Calls.{conflict-refusal, conflicts-of};
+ghost use Rattle.spec_calls.specs.Calls.{conflicts-of};
 ghost use Rattle.spec_calls.specs.Refusals.{report};
-ghost use Rattle.table_book.specs.Lists.{refusal-in};
 ghost use Rattle.spec_calls.specs.Promises.{ConflictPromise};
 use spec_calls::Answer;
-use spec_calls::Refusal;
 use table_book::Checked;
 use tree_update::Updated;
 
@@ -49,40 +46,18 @@ pub fn find(n: usize, book: &[u64], count: usize, group: &[u64], out: &mut [u16]
     conflict_rule::leave_out(&toks[0..k], book, n, &numbers[0..many], out)
 }
 
-// Checks 1 to 6 down the table, for a conflict list of this many places.
-fn check(n: usize, book: &[u64], count: usize, list: &[u16], places: usize) -> Checked
-    ensures { λ r. ⌜ ((conflicts : List ℕ) → length conflicts ≡ places
-        → refusal-in r ≡ conflict-refusal n (lent-book (now (book .entry)) count) (now (list .entry)) conflicts) ⌝ }
-{
-    if n == 0 {
-        return Checked::Bad(Refusal::RingSize);
-    }
-    if n > 256 {
-        return Checked::Bad(Refusal::RingSize);
-    }
-    if book.len() < 384 {
-        return Checked::Bad(Refusal::ShortTable);
-    }
-    if places < 96 {
-        return Checked::Bad(Refusal::ShortTable);
-    }
-    if !table_book::in_form(book, n, count) {
-        return Checked::Bad(Refusal::NotInForm);
-    }
-    table_book::check_list(list, n)
-}
-
 // Writes the numbers of the groups in conflict with the list's group, rising, and zeros up to 96 places. Answers how many numbers there are, or
 // why the call is refused.
 pub fn conflict(n: usize, book: &[u64], count: usize, list: &[u16], conflicts: &mut [u16]) -> Answer
     ensures { λ r. ⌜ ConflictPromise n (lent-book (now (book .entry)) count) (now (list .entry)) (now (conflicts .entry)) (now (conflicts .exit)) (report r) ⌝ }
 {
-    let checked = check(n, book, count, list, conflicts.len());
-    if let Checked::Bad(why) = checked {
-        return Answer::Refused(why);
+    if let Checked::Bad(refusal) = call_checks::lent_book(n, book, count, conflicts.len() < 96) {
+        return Answer::Refused(refusal);
     }
     let mut group = [0u64; 4];
-    mark_words::mark_list(list, &mut group);
+    if let Checked::Bad(refusal) = table_book::check_list(list, n, &mut group) {
+        return Answer::Refused(refusal);
+    }
     let mut numbers = [0u16; 96];
     let k = find(n, book, count, &group, &mut numbers);
     tree_tokens::copy(&numbers, conflicts);

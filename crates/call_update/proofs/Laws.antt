@@ -34,11 +34,11 @@ module _ (nodes : Nodes) (book : Book) (list : List ℕ) where
   unfolding join-call joined
   join-refused r e = ap (λ o. joined o (joined-tree nodes list) nodes book list) (sym e)
 
-  pub join-done : (old new : List ℕ) (k : ℕ) (h : JoinedRing nodes book list old new k) (rows′ words′ : List ℕ)
+  pub join-done : (marks old new : List ℕ) (k : ℕ) (h : JoinedRing nodes book list marks old new k) (rows′ words′ : List ℕ)
       → rows′ ≡ over (table-of (h .tree)) (nodes .rows) → words′ ≡ booked (book .words) (book .count) (group-of (nodes .bins) list)
       → ring (reply 0 (book .count + 1)) rows′ words′ ≡ join-call nodes book list
   unfolding join-call joined
-  join-done old new k h rows′ words′ p q =
+  join-done marks old new k h rows′ words′ p q =
       ap₂ (ring (reply 0 (book .count + 1))) p q ∙ ap₂ (λ o t. joined o t nodes book list) (sym (h .passes)) (sym (h .is))
 
   pub join-demand : (r : Reply) (rows′ words′ : List ℕ) → ring r rows′ words′ ≡ join-call nodes book list → JoinDemand nodes book list r rows′
@@ -49,10 +49,10 @@ module _ (nodes : Nodes) (book : Book) (list : List ℕ) where
   unfolding trial-call
   trial-refused r e = ap (λ x. x .answer) (join-refused r e)
 
-  pub trial-done : (old new : List ℕ) (k : ℕ) → JoinedRing nodes book list old new k → reply 0 (book .count + 1) ≡ trial-call nodes book list
+  pub trial-done : (marks old new : List ℕ) (k : ℕ) → JoinedRing nodes book list marks old new k → reply 0 (book .count + 1) ≡ trial-call nodes book list
   unfolding trial-call
-  trial-done old new k h =
-      ap (λ x. x .answer) (join-done old new k h (over (table-of (h .tree)) (nodes .rows)) (booked (book .words) (book .count) (group-of (nodes .bins) list)) refl refl)
+  trial-done marks old new k h =
+      ap (λ x. x .answer) (join-done marks old new k h (over (table-of (h .tree)) (nodes .rows)) (booked (book .words) (book .count) (group-of (nodes .bins) list)) refl refl)
 
   pub trial-demand : (r : Reply) → r ≡ trial-call nodes book list → TrialDemand nodes book list r
   unfolding trial-call

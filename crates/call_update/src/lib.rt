@@ -33,13 +33,14 @@ pub fn join(
 ) -> Answer
     ensures { λ r. ⌜ JoinPromise (lent-nodes n have (now (nodes .entry))) (lent-book (now (book .entry)) count) (now (list .entry)) (now (nodes .exit)) (now (book .exit)) (report r) ⌝ }
 {
+    let mut marks = [0u64; 4];
     let mut toks = [0u16; 512];
-    let tried = call_attempt::attempt(n, nodes, have, book, count, list, &mut toks);
+    let tried = call_attempt::attempt(n, nodes, have, book, count, list, &mut marks, &mut toks);
     match tried {
         Tried::Refused(refusal) => Answer::Refused(refusal),
         Tried::Joined(k) => {
             table_store::store(&toks[0..k], nodes);
-            table_book::put(book, count, list);
+            table_book::put(book, count, &marks);
             Answer::Done(count + 1)
         }
     }
@@ -56,8 +57,9 @@ pub fn trial(
 ) -> Answer
     ensures { λ r. ⌜ TrialPromise (lent-nodes n have (now (nodes .entry))) (lent-book (now (book .entry)) count) (now (list .entry)) (report r) ⌝ }
 {
+    let mut marks = [0u64; 4];
     let mut spare = [0u16; 512];
-    let tried = call_attempt::attempt(n, nodes, have, book, count, list, &mut spare);
+    let tried = call_attempt::attempt(n, nodes, have, book, count, list, &mut marks, &mut spare);
     match tried {
         Tried::Refused(refusal) => Answer::Refused(refusal),
         Tried::Joined(_) => Answer::Done(count + 1),
