@@ -26,7 +26,7 @@ pub record RingState : Type 0 where
 abbrev pub opened : ℕ → RingState
 opened n = record { tree = fresh n; groups = []; lines = [] }
 
--- What a group line comes to: "`kept`", with the new tree; "`refused` (8)", with the numbers of the book's groups in conflict; "`empty` (4)";
+-- A group line has the group of its leaves. What it comes to: "`kept`", with the new tree; "`refused` (8)", with the numbers of the book's groups in conflict; "`empty` (4)";
 -- "`full` (7)". 4 comes before 7, and 7 before 8.
 pub data Outcome : Type 0 where
   kept : Forest → Outcome
