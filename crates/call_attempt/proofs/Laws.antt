@@ -12,7 +12,6 @@ use Rattle.spec_orders.specs.Tree.{Forest}
 use Rattle.spec_orders.specs.Join.{join, then}
 use Rattle.spec_orders.proofs.Joining.{join-some}
 use Rattle.mark_words.specs.Marks.{marked, words-of}
-use Rattle.mark_words.proofs.Leaves.{marked-group}
 use Rattle.tree_update.specs.declared.Updated.the-variants.{Impossible, Tokens}
 use Rattle.tree_update.specs.Update.{Answers, written}
 use Rattle.spec_calls.specs.declared.Refusal.{Refusal}
@@ -20,17 +19,22 @@ use Rattle.spec_calls.specs.declared.Refusal.the-variants.{BookFull, Impossible
 use Rattle.spec_calls.specs.Tables.{Nodes, leaves, Book}
 use Rattle.spec_calls.specs.Refusals.{refuse, first-refusal, list-checks}
 use Rattle.spec_calls.specs.Calls.{is-none, ring-checks, joined-tree, join-refusal}
-use Rattle.spec_calls.proofs.Demands.{passes-iff, lent-held}
+use Rattle.spec_calls.proofs.Demands.{lent-held}
 use Rattle.table_book.proofs.Laws.{few-groups}
+use Rattle.table_book.proofs.Lists.{group-held}
 use Rattle.call_checks.specs.Lent.{RingLent}
-use Rattle.call_checks.proofs.Laws.{first-refusal-some, first-refusal-none}
+use Rattle.call_checks.proofs.Laws.{first-refusal-some, first-refusal-none, first-refusal-left}
 use Rattle.call_attempt.specs.declared.Tried.{Tried}
 use Rattle.call_attempt.specs.declared.Tried.the-variants.{Joined, Refused}
 use Rattle.call_attempt.specs.Attempts.{group-refusal, JoinedTree, AttemptsOn, Attempts}
 
 module _ (t : Forest) (n count : ℕ) (list : List ℕ) where
-  abbrev after-list : List (Option Refusal)
+  abbrev pub after-list : List (Option Refusal)
   after-list = refuse (eqb count 96) BookFull ∷ refuse (is-none (join (group-of n list) t)) Not-possible ∷ []
+
+  pub list-passed : group-refusal t n count list ≡ none → first-refusal (list-checks n list) ≡ none
+  unfolding group-refusal
+  list-passed e = first-refusal-left (list-checks n list) after-list e
 
   pub list-refused : (r : Refusal) → first-refusal (list-checks n list) ≡ some r → group-refusal t n count list ≡ some r
   unfolding group-refusal
@@ -47,7 +51,7 @@ module _ (t : Forest) (n count : ℕ) (list : List ℕ) where
 
     -- The marks of the list are its leaves.
     marks-are : (words : List ℕ) → n ≤ 256 → words ≡ words-of 4 (group-of n list) → marked words ≡ group-of n list
-    marks-are words h w = ap marked w ∙ marked-group 4 n list h (passes-iff n list .0 e)
+    marks-are words h w = ap marked w ∙ group-held n list h e
 
     pub none-joined : (words old new : List ℕ) → n ≤ 256 → words ≡ words-of 4 (group-of n list) → (count ≡ 96 → ⊥) → Answers (join (marked words) t) old new Impossible
         → group-refusal t n count list ≡ some Not-possible

@@ -37,6 +37,11 @@ first-refusal-none [] ys e = refl
 first-refusal-none (none ∷ xs) ys e = first-refusal-none xs ys e
 first-refusal-none (some x ∷ xs) ys e = absurd (let z : _≡_ {A = ℕ} 0 1 = cc in omega arith)
 
+pub first-refusal-left : (xs ys : List (Option Refusal)) → first-refusal (xs ++ ys) ≡ none → first-refusal xs ≡ none
+first-refusal-left [] ys e = refl
+first-refusal-left (none ∷ xs) ys e = first-refusal-left xs ys e
+first-refusal-left (some x ∷ xs) ys e = e
+
 -- 1 and 2.
 module _ (nodes : Nodes) (other : Bool) where
   pub no-leaf : nodes .bins ≡ 0 → some RingSize ≡ first-refusal (table-checks nodes other)

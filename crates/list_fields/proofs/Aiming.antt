@@ -1,4 +1,4 @@
--- The aim of a well-formed group in the standard order, from its mark words.
+-- A group line's marks; the aim of its group in the standard order, from them.
 use mathlib.Core.Path.{_≡_, sym, ap, _∙_}
 use mathlib.Core.List.{List}
 use Prim.Native.Nat.{ℕ, _+_, _-_, _/_, _%_, _≤_}
@@ -6,7 +6,7 @@ use native.Mathlib.Nat.{mod-lt}
 use native.Mathlib.Omega.{arith}
 use lib.ListN.{length}
 use Rattle.spec_orders.specs.Lists.{All, elem, numbers-from}
-use Rattle.spec_orders.specs.CircularOrder.{Restriction, WellFormed}
+use Rattle.spec_orders.specs.CircularOrder.{Restriction, WellFormed, group-of}
 use Rattle.spec_orders.specs.Form.{standard}
 use Rattle.spec_orders.specs.Aim.{count-in, run-start, aim-of}
 use Rattle.spec_orders.proofs.ListLaws.{all-map, all-at}
@@ -17,9 +17,18 @@ use Rattle.spec_orders.proofs.TextTree.{form-length}
 use Rattle.mark_words.specs.Marks.{marked, words-of, leaves-of}
 use Rattle.mark_words.proofs.Words.{length-words}
 use Rattle.mark_words.proofs.Leaves.{marked-group, size-of-list}
+use Rattle.spec_calls.proofs.Demands.{well-formed-passes}
+use Rattle.table_book.specs.declared.Checked.{Checked}
+use Rattle.table_book.specs.declared.Checked.the-variants.{Fine, Bad}
+use Rattle.table_book.specs.Lists.{ListChecked}
 use Rattle.call_order.specs.Starts.{GroupWithin}
 use Rattle.call_order.proofs.Sizes.{count-in-is, perm-count, all-standard}
 use Rattle.list_fields.specs.Ordered.{Ordered}
+
+-- A well-formed list passes the checks.
+pub line-marked : (n : ℕ) (list words : List ℕ) (r : Checked) → WellFormed n list → ListChecked n list words r → words ≡ words-of 4 (group-of n list)
+line-marked n list words Fine g h = h .1
+line-marked n list words (Bad r) g h = absurd (let e = sym (well-formed-passes n list g) ∙ h in let z : _≡_ {A = ℕ} 0 1 = cc in omega (arith, z))
 
 module _ {n : ℕ} {order : List ℕ} (o : Ordered n order) where
   pub order-length : length order ≡ n

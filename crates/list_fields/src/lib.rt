@@ -4,9 +4,10 @@ ghost use mathlib.Core.List.{List, _++_};
 ghost use Prim.Native.Nat.{ℕ, _+_, _-_, _≤_};
 ghost use lib.ListN.{length, take, drop};
 ghost use Rattle.spec_orders.specs.Lists.{elem};
-ghost use Rattle.spec_orders.specs.CircularOrder.{WellFormed};
+ghost use Rattle.spec_orders.specs.CircularOrder.{WellFormed, group-of};
 ghost use Rattle.spec_orders.specs.Aim.{aim-of};
 ghost use Rattle.spec_orders.specs.Circles.{bytes};
+ghost use Rattle.mark_words.specs.Marks.{words-of};
 ghost use Rattle.spec_calls.specs.Tables.{lent-book};
 ghost use Rattle.spec_calls.specs.Calls.{conflicts-of};
 ghost use Rattle.list_bytes.specs.Appends.{Appends};
@@ -15,6 +16,14 @@ ghost use Rattle.spec_listing.specs.Listing.{RingState, outcome, next, name, co
 ghost use Rattle.list_ring.specs.Stands.{RingStands, Line};
 ghost use Rattle.list_fields.specs.Ordered.{Ordered};
 use list_bytes::put;
+
+// Marks the group of a line with some leaf: such a list passes the checks.
+fn mark_line(list: &[u16], n: usize, marks: &mut [u64])
+    requires { ⌜ (n ≤ 256) × (length (now marks) ≡ 4) × (WellFormed n (now list)) ⌝ }
+    ensures { λ _. ⌜ now (marks .exit) ≡ words-of 4 (group-of n (now (list .entry))) ⌝ }
+{
+    table_book::check_list(list, n, marks);
+}
 
 // Appends the fields of a group line that is refused: the groups in conflict with it, of the book's first `count`, by their input lines.
 fn put_refused(
@@ -32,7 +41,7 @@ fn put_refused(
         at (now (out .entry)) (now (out .exit)) r) ⌝ }
 {
     let mut group = [0u64; 4];
-    mark_words::mark_list(list, &mut group);
+    mark_line(list, n, &mut group);
     let mut numbers = [0u16; 96];
     let k = call_conflict::find(n, book, count, &group, &mut numbers);
     let a = put(b" refused - ", out, at);
@@ -55,7 +64,7 @@ fn put_kept(
         → Appends (bytes " kept " ++ (name (f .ns) (aim-of (elem (now (list .entry))) (now (order .entry))) ++ bytes " -")) at (now (out .entry)) (now (out .exit)) r) ⌝ }
 {
     let mut words = [0u64; 4];
-    mark_words::mark_list(list, &mut words);
+    mark_line(list, names, &mut words);
     let leaf = call_order::middle(&words, order);
     let a = put(b" kept ", out, at);
     let b = put(file_read::name_of(file, leaf - 1), out, a);

@@ -1,33 +1,34 @@
--- What a group line comes to, by the tests that the code makes; the ring in its tables before and after it.
+-- What a group line comes to, and what the attempt to join its group; the ring in its tables before and after it.
 use mathlib.Core.Path.{_≡_, refl, sym, ap, subst, _∙_}
 use mathlib.Core.Bool.{Bool, true, false, cond}
 use mathlib.Core.Option.{Option, none, some}
 use mathlib.Core.List.{List, [], _∷_}
 use Prim.Native.Nat.{ℕ, _+_, _-_, _≤_, _<_}
 use native.Mathlib.Omega.{arith}
-use borrow.Author.Tests.{eq-eqb, ne-eqb, eqb-false}
+use borrow.Author.Tests.{eq-eqb, ne-eqb}
 use lib.Dec.{eqb}
 use lib.ListN.{length, take, drop, set, length-append}
 use Rattle.spec_orders.specs.Lists.{elem}
-use Rattle.spec_orders.specs.CircularOrder.{Restriction}
+use Rattle.spec_orders.specs.CircularOrder.{group-of}
 use Rattle.spec_orders.specs.Tree.{Forest}
 use Rattle.spec_orders.specs.Join.{fresh, join}
 use Rattle.spec_orders.proofs.Fresh.{fresh-form}
 use Rattle.spec_orders.proofs.Joining.{join-some}
-use Rattle.mark_words.specs.Marks.{marked, words-of}
-use Rattle.mark_words.proofs.Leaves.{marked-group}
+use Rattle.spec_calls.specs.declared.Refusal.{Refusal}
+use Rattle.spec_calls.specs.declared.Refusal.the-variants.{EmptyGroup, BookFull, Impossible}
 use Rattle.spec_calls.specs.Tables.{lent-book}
 use Rattle.spec_calls.specs.Book.{groups, booked}
-use Rattle.tree_tokens.specs.Tokens.{Wrote, flat}
+use Rattle.spec_calls.specs.Refusals.{refuse, first-refusal, list-checks}
+use Rattle.spec_calls.specs.Calls.{is-none}
+use Rattle.spec_calls.proofs.Demands.{well-formed-passes, passes-iff}
+use Rattle.table_book.proofs.Lists.{group-held}
+use Rattle.tree_tokens.specs.Tokens.{Wrote, flat, TreeTokens}
 use Rattle.tree_tokens.proofs.Writes.{read-part, wrote-most}
-use Rattle.tree_update.specs.declared.Updated.{Updated}
-use Rattle.tree_update.specs.declared.Updated.the-variants.{Impossible, Tokens}
-use Rattle.tree_update.specs.Update.{Answers as Joined}
-use Rattle.conflict_rule.proofs.Joined.{answers-tree, no-tree}
-use Rattle.spec_listing.specs.Listing.{Outcome, kept, empty, full, RingState, opened, joined, outcome, next}
-use Rattle.list_ring.specs.declared.Tried.{Tried}
-use Rattle.list_ring.specs.declared.Tried.the-variants.{Kept, Stays}
-use Rattle.list_ring.specs.Stands.{RingStands, Line, LineAnswers, is-kept, is-refused, is-empty, is-full}
+use Rattle.call_checks.proofs.Laws.{first-refusal-none}
+use Rattle.call_attempt.specs.Attempts.{group-refusal, JoinedTree}
+use Rattle.call_attempt.proofs.Laws.{after-list, list-passed}
+use Rattle.spec_listing.specs.Listing.{Outcome, kept, refused, empty, full, RingState, opened, joined, outcome, next}
+use Rattle.list_ring.specs.Stands.{RingStands, Line}
 use Rattle.list_ring.proofs.Books.{groups-booked, table-more}
 
 -- The fresh ring.
@@ -42,8 +43,6 @@ opened-stands n w book table = record {
   counted = refl;
   few = omega arith;
 }
-
--- The tokens that are read.
 
 module _ (n : ℕ) (s : RingState) where
   pub outcome-empty : (list : List ℕ) → length list ≡ 0 → outcome n s list ≡ empty
@@ -62,93 +61,70 @@ module _ (n : ℕ) (s : RingState) where
   outcome-joined [] h e = absurd (h refl)
   outcome-joined (b ∷ l) h e = rw (ne-eqb (length (s .groups)) 96 e)
 
-  module _ (list words : List ℕ) (old new : List ℕ) (line : Line n list) (some-leaf : length list ≡ 0 → ⊥) (w : words ≡ words-of 4 (elem list)) where
-    same-group : marked words ≡ elem list
-    same-group = ap marked w ∙ marked-group 4 n list (line .few-leaves) (line .group (omega (arith, some-leaf)))
+-- "`refused` (8)", "`empty` (4)", "`full` (7)": the refusal that a line meets is the attempt's.
+abbrev refusal-of : Outcome → Option Refusal
+refusal-of (kept t) = none
+refusal-of (refused ns) = some Impossible
+refusal-of empty = some EmptyGroup
+refusal-of full = some BookFull
 
-    pub tried-refused : {r : Updated} → (length (s .groups) ≡ 96 → ⊥) → r ≡ Impossible → Joined (join (marked words) (s .tree)) old new r
-        → LineAnswers (outcome n s list) old new Stays
-    tried-refused q e a =
-        let z = no-tree (s .tree) same-group e a in
-        rw (outcome-joined list some-leaf q, z) is-refused
-
-    pub tried-kept : {r : Updated} {m : ℕ} → (length (s .groups) ≡ 96 → ⊥) → r ≡ Tokens m → Joined (join (marked words) (s .tree)) old new r
-        → LineAnswers (outcome n s list) old new (Kept m)
-    tried-kept {r} {m} q e a =
-        let x = answers-tree e (subst (λ H. Joined (join H (s .tree)) old new r) same-group a) in
-        rw (outcome-joined list some-leaf q, x .1) (is-kept (x .2))
-
-  pub tried-empty : (list : List ℕ) {old new : List ℕ} → length list ≡ 0 → LineAnswers (outcome n s list) old new Stays
-  tried-empty list h = rw (outcome-empty list h) is-empty
-
-  pub tried-full : (list : List ℕ) {old new : List ℕ} → (length list ≡ 0 → ⊥) → length (s .groups) ≡ 96 → LineAnswers (outcome n s list) old new Stays
-  tried-full list h e = rw (outcome-full list h e) is-full
+outcome-refusal : (n : ℕ) (s : RingState) (list : List ℕ) → Line n list → group-refusal (s .tree) n (length (s .groups)) list ≡ refusal-of (outcome n s list)
+unfolding outcome group-refusal
+outcome-refusal n s [] line = refl
+outcome-refusal n s (b ∷ l) line =
+    first-refusal-none (list-checks n (b ∷ l)) (after-list (s .tree) n (length (s .groups)) (b ∷ l)) (well-formed-passes n (b ∷ l) (line .group (omega arith)))
+    ∙ judged (eqb (length (s .groups)) 96) (join (elem (b ∷ l)) (s .tree))
+  where
+    judged : (f : Bool) (o : Option Forest)
+        → first-refusal (refuse f BookFull ∷ refuse (is-none o) Impossible ∷ []) ≡ refusal-of (cond f full (joined n s (elem (b ∷ l)) o))
+    judged true o = refl
+    judged false none = refl
+    judged false (some t) = refl
 
 -- Only a line that is kept changes the ring.
-pub answers-kept : {o : Outcome} {old new : List ℕ} {r : Tried} {k : ℕ} → r ≡ Kept k → LineAnswers o old new r
-    → (t : Forest) × (o ≡ kept t) × Wrote (flat t) old new k
-answers-kept {old = old} {new} {k = k} e (is-kept {t = t} {k = j} w) = let q : j ≡ k = cc in (t, refl, subst (Wrote (flat t) old new) q w)
-answers-kept e is-refused = absurd (let z : _≡_ {A = ℕ} 0 1 = cc in omega (arith, z))
-answers-kept e is-empty = absurd (let z : _≡_ {A = ℕ} 0 1 = cc in omega (arith, z))
-answers-kept e is-full = absurd (let z : _≡_ {A = ℕ} 0 1 = cc in omega (arith, z))
+refused-next : (o : Outcome) (r : Refusal) → refusal-of o ≡ some r → (s : RingState) (line : ℕ) (list : List ℕ) → next s line list o ≡ s
+refused-next (kept t) r e s line list = absurd (let z : _≡_ {A = ℕ} 0 1 = cc in omega (arith, z))
+refused-next (refused ns) r e s line list = refl
+refused-next empty r e s line list = refl
+refused-next full r e s line list = refl
 
-pub answers-stays : {o : Outcome} {old new : List ℕ} {r : Tried} → r ≡ Stays → LineAnswers o old new r
-    → (s : RingState) (line : ℕ) (list : List ℕ) → next s line list o ≡ s
-answers-stays h (is-kept {k = k} w) s line list = absurd (let z : _≡_ {A = ℕ} 0 1 = cc in omega (arith, z))
-answers-stays h is-refused s line list = refl
-answers-stays h is-empty s line list = refl
-answers-stays h is-full s line list = refl
-
--- A line that is kept has a leaf, the book has a place, and the group joins.
-join-kept : (n : ℕ) (s : RingState) (G : Restriction) (o : Option Forest) (t : Forest) → joined n s G o ≡ kept t → o ≡ some t
-join-kept n s G (some u) t e = ap some cc
-join-kept n s G none t e = absurd (let z : _≡_ {A = ℕ} 0 1 = cc in omega (arith, z))
-
-full-kept : (b : Bool) (x : Outcome) (t : Forest) → cond b full x ≡ kept t → (b ≡ false) × (x ≡ kept t)
-full-kept true x t e = absurd (let z : _≡_ {A = ℕ} 0 1 = cc in omega (arith, z))
-full-kept false x t e = (refl, e)
-
-pub outcome-kept : (n : ℕ) (s : RingState) (list : List ℕ) (t : Forest) → outcome n s list ≡ kept t
-    → (1 ≤ length list) × (length (s .groups) ≡ 96 → ⊥) × (join (elem list) (s .tree) ≡ some t)
-unfolding outcome
-outcome-kept n s [] t e = absurd (let z : _≡_ {A = ℕ} 0 1 = cc in omega (arith, z))
-outcome-kept n s (b ∷ l) t e =
-    let x = full-kept (eqb (length (s .groups)) 96) _ t e in
-    (omega arith, eqb-false (length (s .groups)) 96 (x .0), join-kept n s (elem (b ∷ l)) (join (elem (b ∷ l)) (s .tree)) t (x .1))
-
--- The ring after a line that is kept.
+-- The ring after a line.
 module _ (n : ℕ) (s : RingState) (line : ℕ) (list : List ℕ) {toks book table : List ℕ} {m count : ℕ} (h : RingStands n s toks m book table count) where
-  pub stays : {old new : List ℕ} {r : Tried} → r ≡ Stays → LineAnswers (outcome n s list) old new r
-      → RingStands n (next s line list (outcome n s list)) toks m book table count
-  stays e a = subst (λ (u : RingState). RingStands n u toks m book table count) (sym (answers-stays e a s line list)) h
+  pub tree-tokens : n ≤ 256 → TreeTokens n (take (m - 0) (drop 0 toks))
+  tree-tokens l = record { shown = s .tree; is = h .tokens; in-form = h .form; few-leaves = l }
 
-  module _ {old tree : List ℕ} {r : Tried} {k : ℕ} (e : r ≡ Kept k) (a : LineAnswers (outcome n s list) old tree r) where
-    x : (t : Forest) × (outcome n s list ≡ kept t) × Wrote (flat t) old tree k
-    x = answers-kept e a
+  pub stays : Line n list → (r : Refusal) → group-refusal (s .tree) n count list ≡ some r
+      → RingStands n (next s line list (outcome n s list)) toks m book table count
+  stays l r e =
+      let q = sym (outcome-refusal n s list l) ∙ ap (λ (c : ℕ). group-refusal (s .tree) n c list) (sym (h .counted)) ∙ e in
+      subst (λ (u : RingState). RingStands n u toks m book table count) (sym (refused-next (outcome n s list) r q s line list)) h
+
+  module _ {marks old tree : List ℕ} {k : ℕ} (a : JoinedTree (s .tree) n count list marks old tree k) where
+    passed : first-refusal (list-checks n list) ≡ none
+    passed = list-passed (s .tree) n count list (a .passes)
+
+    is-kept : outcome n s list ≡ kept (a .tree)
+    is-kept =
+        outcome-joined n s list (λ e. omega (arith, passes-iff n list .0 passed .some-leaf)) (λ e. a .not-full (h .counted ∙ e))
+        ∙ ap (joined n s (elem list)) (a .is)
 
     pub kept-few : count < 96
-    kept-few = omega (arith, h .few, h .counted, outcome-kept n s list (x .0) (x .1) .1)
+    kept-few = omega (arith, h .few, a .not-full)
 
-    pub kept-room : k ≤ length tree
-    kept-room = wrote-most (x .2)
-
-    pub kept-stands : {toks′ book′ : List ℕ} {j : ℕ} → Line n list → Wrote (take (k - 0) (drop 0 tree)) toks toks′ j
-        → book′ ≡ booked book count (elem list) → 384 ≤ length book → 96 ≤ length table
+    pub kept-stands : {toks′ book′ : List ℕ} {j : ℕ} → n ≤ 256 → Wrote (take (k - 0) (drop 0 tree)) toks toks′ j
+        → book′ ≡ booked book count (group-of n list) → 384 ≤ length book → 96 ≤ length table
         → RingStands n (next s line list (outcome n s list)) toks′ k book′ (set table count line) (count + 1)
     kept-stands {toks′} {book′} {j} l w b all-words all-places =
-        let t = x .0 in
-        let o = outcome-kept n s list t (x .1) in
-        let v : Wrote (flat t) toks toks′ j = subst (λ (u : List ℕ). Wrote u toks toks′ j) (read-part (x .2)) w in
-        let q : j ≡ k = v .many ∙ sym (x .2 .many) in
-        let same : marked (words-of 4 (elem list)) ≡ elem list = marked-group 4 n list (l .few-leaves) (l .group (o .0)) in
-        rw (x .1)
+        let v : Wrote (flat (a .tree)) toks toks′ j = subst (λ (u : List ℕ). Wrote u toks toks′ j) (read-part (a .wrote)) w in
+        let q : j ≡ k = v .many ∙ sym (a .wrote .many) in
+        rw is-kept
         (record {
-          form = join-some n (elem list) (s .tree) t (h .form) (o .2) .form;
-          tokens = subst (λ (i : ℕ). take (i - 0) (drop 0 toks′) ≡ flat t) q (read-part v);
+          form = join-some n (group-of n list) (s .tree) (a .tree) (h .form) (a .is) .form;
+          tokens = subst (λ (i : ℕ). take (i - 0) (drop 0 toks′) ≡ flat (a .tree)) q (read-part v);
           all-tokens = omega (arith, wrote-most v, q);
           in-book = ap (λ (c : List ℕ). groups (lent-book c (count + 1))) b
-              ∙ groups-booked book count (elem list) (omega (arith, kept-few))
-              ∙ rw (h .in-book, same);
+              ∙ groups-booked book count (group-of n list) (omega (arith, kept-few))
+              ∙ rw (h .in-book, group-held n list l passed);
           in-table = table-more table count line (omega (arith, kept-few)) ∙ rw (h .in-table);
           counted = omega (arith, h .counted, length-append (s .groups) (elem list ∷ []));
           few = omega (arith, kept-few);

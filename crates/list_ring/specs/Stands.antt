@@ -1,18 +1,15 @@
--- The ring in lent tables, and what joining a line's group to it comes to.
+-- The ring in lent tables, and the leaves of a group line.
 use mathlib.Core.Path.{_≡_}
 use mathlib.Core.List.{List, map}
 use Prim.Native.Nat.{ℕ, _-_, _≤_}
 use lib.ListN.{length, take, drop}
 use Rattle.spec_orders.specs.CircularOrder.{WellFormed}
-use Rattle.spec_orders.specs.Tree.{Forest}
 use Rattle.spec_orders.specs.Form.{InForm}
 use Rattle.spec_calls.specs.Tables.{lent-book}
 use Rattle.spec_calls.specs.Book.{groups}
-use Rattle.tree_tokens.specs.Tokens.{Wrote, flat}
+use Rattle.tree_tokens.specs.Tokens.{flat}
 use Rattle.file_read.specs.RingFile.{leaves-on, FileHolds}
-use Rattle.spec_listing.specs.Listing.{Outcome, kept, refused, empty, full, RingState, state-at}
-use Rattle.list_ring.specs.declared.Tried.{Tried}
-use Rattle.list_ring.specs.declared.Tried.the-variants.{Kept, Stays}
+use Rattle.spec_listing.specs.Listing.{RingState, state-at}
 
 -- The tables hold the ring: its tree in the first m tokens, its groups in the book up to the count, and the input line of each in a table.
 pub record RingStands (n : ℕ) (s : RingState) (toks : List ℕ) (m : ℕ) (book table : List ℕ) (count : ℕ) : Type 0 where
@@ -28,14 +25,6 @@ pub record RingStands (n : ℕ) (s : RingState) (toks : List ℕ) (m : ℕ) (boo
 pub record Line (n : ℕ) (list : List ℕ) : Type 0 where
   pub few-leaves : n ≤ 256
   pub group : 1 ≤ length list → WellFormed n list
-
--- What a group line does: where it is kept, the new tree is written to the start of a table, and the answer says how many tokens it has; else
--- the ring stays as it is.
-pub data LineAnswers : Outcome → List ℕ → List ℕ → Tried → Type 0 where
-  is-kept : {t : Forest} {old new : List ℕ} {k : ℕ} → Wrote (flat t) old new k → LineAnswers (kept t) old new (Kept k)
-  is-refused : {ns old new : List ℕ} → LineAnswers (refused ns) old new Stays
-  is-empty : {old new : List ℕ} → LineAnswers empty old new Stays
-  is-full : {old new : List ℕ} → LineAnswers full old new Stays
 
 -- The groups of an accepted file, in the sequence of its lines.
 abbrev pub lists-of : {x : List ℕ} {n h l : ℕ} → FileHolds x n h l → List (List ℕ)

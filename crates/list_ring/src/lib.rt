@@ -1,24 +1,16 @@
 // The ring of a ring file as its group lines join it, one after another, in lent tables.
-ghost use mathlib.Core.Path.{_≡_};
 ghost use mathlib.Core.List.{List};
 ghost use Prim.Native.Nat.{ℕ, _+_, _≤_, _<_};
 ghost use lib.ListN.{length};
-ghost use Rattle.tree_tokens.specs.Tokens.{flat, TreeTokens};
 ghost use Rattle.file_read.specs.RingFile.{FileHolds};
 ghost use Rattle.spec_listing.specs.Listing.{RingState, opened, outcome, next};
-ghost use Rattle.list_ring.specs.Stands.{RingStands, Line, LineAnswers, StandsAt, Tables};
-use tree_update::Updated;
+ghost use Rattle.list_ring.specs.Stands.{RingStands, Line, StandsAt, Tables};
+use call_attempt::Tried;
 
 // The sizes of a ring in lent tables: how many tokens its tree has, and how many groups its book.
 pub struct Ring {
     pub tokens: usize,
     pub count: usize,
-}
-
-// What a group line does: it is kept, with a new tree of so many tokens; or the ring stays as it is.
-enum Tried {
-    Kept(usize),
-    Stays,
 }
 
 // Opens the ring of n leaves: writes its fresh tree, and has no group.
@@ -31,27 +23,6 @@ pub fn fresh_ring(n: usize, toks: &mut [u16]) -> Ring
         tokens: m,
         count: 0,
     }
-}
-
-// What the group line with these leaves does, for a tree and a count of groups. Writes the new tree to the start of out.
-fn attempt(toks: &[u16], n: usize, count: usize, list: &[u16], out: &mut [u16]) -> Tried
-    requires { ⌜ (TreeTokens n (now toks)) × (Line n (now list)) × (512 ≤ length (now out)) ⌝ }
-    ensures { λ r. ⌜ ((s : RingState) → now (toks .entry) ≡ flat (s .tree) → count ≡ length (s .groups)
-        → LineAnswers (outcome n s (now (list .entry))) (now (out .entry)) (now (out .exit)) r) ⌝ }
-{
-    if list.len() == 0 {
-        return Tried::Stays;
-    }
-    if count == 96 {
-        return Tried::Stays;
-    }
-    let mut group = [0u64; 4];
-    mark_words::mark_list(list, &mut group);
-    let got = tree_update::join(toks, &group, n, out);
-    let Updated::Tokens(m) = got else {
-        return Tried::Stays;
-    };
-    Tried::Kept(m)
 }
 
 // Joins the group line with this number and these leaves to the ring in the tables. Returns the ring's sizes after it.
@@ -71,13 +42,14 @@ pub fn advance(
 {
     let m = ring.tokens;
     let count = ring.count;
+    let mut marks = [0u64; 4];
     let mut tree = [0u16; 512];
-    let got = attempt(&toks[0..m], n, count, list, &mut tree);
-    let Tried::Kept(k) = got else {
+    let tried = call_attempt::attempt_on(&toks[0..m], n, count, list, &mut marks, &mut tree);
+    let Tried::Joined(k) = tried else {
         return ring;
     };
     tree_tokens::copy(&tree[0..k], toks);
-    table_book::put(book, count, list);
+    table_book::put(book, count, &marks);
     table[count] = line;
     Ring {
         tokens: k,

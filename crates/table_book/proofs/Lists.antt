@@ -2,7 +2,7 @@
 use mathlib.Core.Path.{_≡_, refl, _∙_, ap}
 use mathlib.Core.Logic.{_≢_}
 use mathlib.Core.Bool.{Bool, true, false, cond, _||_}
-use mathlib.Core.Option.{some}
+use mathlib.Core.Option.{none, some}
 use mathlib.Core.List.{List, [], _∷_, _++_, append-nil}
 use Prim.Native.Nat.{ℕ, suc, _+_, _≤_, _<_}
 use native.Mathlib.Omega.{arith}
@@ -11,11 +11,14 @@ use borrow.Author.Tests.{eq-eqb, ne-eqb, lt-ltb, le-ltb}
 use lib.Dec.{eqb}
 use lib.ListN.{length, getD}
 use Rattle.spec_orders.specs.Lists.{elem}
+use Rattle.spec_orders.specs.CircularOrder.{group-of}
 use Rattle.spec_orders.proofs.ListLaws.{tail, tail-is}
 use Rattle.mark_words.specs.Marks.{marked, words-of, with-leaf, no-leaf}
 use Rattle.mark_words.proofs.Words.{marked-words, words-agree}
+use Rattle.mark_words.proofs.Leaves.{marked-group}
 use Rattle.spec_calls.specs.declared.Refusal.the-variants.{EmptyGroup, OutsideRing, Repeated}
 use Rattle.spec_calls.specs.Refusals.{first-refusal, bad-leaf, list-checks}
+use Rattle.spec_calls.proofs.Demands.{passes-iff}
 use Rattle.table_book.specs.declared.Checked.{Checked}
 use Rattle.table_book.specs.declared.Checked.the-variants.{Fine, Bad}
 use Rattle.table_book.specs.Lists.{LeavesChecked, ListChecked}
@@ -85,3 +88,7 @@ pub checks-leaves : (n : ℕ) (l words : List ℕ) (r : Checked) → length l �
 checks-leaves n [] words r h f = absurd (h refl)
 checks-leaves n (b ∷ l) words Fine h f = (rw (f .0), f .1 ∙ rw append-nil)
 checks-leaves n (b ∷ l) words (Bad r) h f = rw f
+
+-- Four words hold the group of a list that passes.
+pub group-held : (n : ℕ) (l : List ℕ) → n ≤ 256 → first-refusal (list-checks n l) ≡ none → marked (words-of 4 (group-of n l)) ≡ group-of n l
+group-held n l h e = marked-group 4 n l h (passes-iff n l .0 e)

@@ -10,12 +10,11 @@ use Rattle.spec_calls.specs.Tables.{lent-book}
 use Rattle.spec_calls.specs.Refusals.{first-refusal, short}
 use Rattle.spec_calls.specs.Calls.{conflicts-of}
 use Rattle.spec_calls.specs.Demands.{LentBook}
-use Rattle.spec_calls.proofs.Demands.{passes-iff}
 use Rattle.mark_words.specs.Marks.{marked}
-use Rattle.mark_words.proofs.Leaves.{marked-group}
 use Rattle.table_book.specs.declared.Checked.the-variants.{Fine}
 use Rattle.table_book.specs.Lists.{refusal-in, ListChecked}
 use Rattle.table_book.proofs.Laws.{few-groups}
+use Rattle.table_book.proofs.Lists.{group-held}
 use Rattle.tree_update.proofs.Updates.{wrote-as}
 use Rattle.call_checks.specs.Lent.{book-checks}
 use Rattle.call_checks.proofs.Laws.{book-lent}
@@ -61,7 +60,7 @@ returns-3 c =
     let f = fine (c .before .before .before .before .before .before .before .before .before) in
     call-found (c .before .before .before .before .before .before .before .before .before .before .before .before .before .before .before .before .before .before .before .before .args .n) (lent-book (now (c .before .before .before .before .before .before .before .before .before .before .before .before .before .before .before .before .before .before .before .before .args .book)) (c .before .before .before .before .before .before .before .before .before .before .before .before .before .before .before .before .before .before .before .before .args .count)) (now (c .before .before .before .before .before .before .before .before .before .before .before .before .before .before .before .before .before .before .before .before .args .list)) (now (c .before .before .before .before .before .before .before .before .before .before .before .before .before .before .before .before .before .before .before .before .args .conflicts))
     (list-judged (c .before .before .before .before .before .before .before .before .before .before .before .before .before .before .before .before .before .before .before .before .args .n) (lent-book (now (c .before .before .before .before .before .before .before .before .before .before .before .before .before .before .before .before .before .before .before .before .args .book)) (c .before .before .before .before .before .before .before .before .before .before .before .before .before .before .before .before .before .before .before .before .args .count)) (now (c .before .before .before .before .before .before .before .before .before .before .before .before .before .before .before .before .before .before .before .before .args .list)) (now (c .before .before .before .before .before .before .before .before .before .before .before .before .before .before .before .before .before .before .before .before .args .conflicts)) (passed (c .before .before .before .before .before .before .before .before .before .before .before .before .before .before)) ∙ f .0)
-    (wrote-as (ap (conflicts-of (c .before .before .before .before .before .before .before .before .before .before .before .before .before .before .before .before .before .before .before .before .args .n) (lent-book (now (c .before .before .before .before .before .before .before .before .before .before .before .before .before .before .before .before .before .before .before .before .args .book)) (c .before .before .before .before .before .before .before .before .before .before .before .before .before .before .before .before .before .before .before .before .args .count))) (ap marked (f .1) ∙ marked-group 4 (c .before .before .before .before .before .before .before .before .before .before .before .before .before .before .before .before .before .before .before .before .args .n) (now (c .before .before .before .before .before .before .before .before .before .before .before .before .before .before .before .before .before .before .before .before .args .list)) (h .1) (passes-iff (c .before .before .before .before .before .before .before .before .before .before .before .before .before .before .before .before .before .before .before .before .args .n) (now (c .before .before .before .before .before .before .before .before .before .before .before .before .before .before .before .before .before .before .before .before .args .list)) .0 (f .0)))) (c .before .before .before .before .before .before .find .ensures))
+    (wrote-as (ap (conflicts-of (c .before .before .before .before .before .before .before .before .before .before .before .before .before .before .before .before .before .before .before .before .args .n) (lent-book (now (c .before .before .before .before .before .before .before .before .before .before .before .before .before .before .before .before .before .before .before .before .args .book)) (c .before .before .before .before .before .before .before .before .before .before .before .before .before .before .before .before .before .before .before .before .args .count))) (ap marked (f .1) ∙ group-held (c .before .before .before .before .before .before .before .before .before .before .before .before .before .before .before .before .before .before .before .before .args .n) (now (c .before .before .before .before .before .before .before .before .before .before .before .before .before .before .before .before .before .before .before .before .args .list)) (h .1) (f .0))) (c .before .before .before .before .before .before .find .ensures))
     (c .before .before .copy .ensures)
 
 pub conflict-spec : {M : Type 1} → statement M

@@ -18,7 +18,7 @@ use Rattle.list_fields.proofs.put_kept.Tie as tie
 
 -- The leaf that is aimed at, and its name.
 aimed : (c : tie.After-middle) → c .middle .result ≡ aim-of (elem (now (c .before .before .before .before .before .before .before .before .before .args .list))) (now (c .before .before .before .before .before .before .before .before .before .args .order))
-aimed c = c .middle .ensures ∙ ap (λ (G : Restriction). aim-of G (now (c .before .before .before .before .before .before .before .before .before .args .order))) (same-group (c .before .before .before .before .before .before .before .before .before .pre .2) (now (c .before .before .before .before .before .before .before .before .before .args .list)) _ (c .before .before .before .before .before .before .before .before .before .pre .1) (c .before .before .before .mark-list .ensures))
+aimed c = c .middle .ensures ∙ ap (λ (G : Restriction). aim-of G (now (c .before .before .before .before .before .before .before .before .before .args .order))) (same-group (c .before .before .before .before .before .before .before .before .before .pre .2) (now (c .before .before .before .before .before .before .before .before .before .args .list)) _ (c .before .before .before .before .before .before .before .before .before .pre .1) (c .before .before .before .mark-line .ensures))
 
 leaf : (c : tie.After-middle) → (1 ≤ c .middle .result) × (c .middle .result ≤ c .before .before .before .before .before .before .before .before .before .args .names)
 leaf c = rw (aimed c) (aim-range (c .before .before .before .before .before .before .before .before .before .pre .2) (elem (now (c .before .before .before .before .before .before .before .before .before .args .list))))
@@ -36,7 +36,7 @@ few c =
     (name-few f (c .before .before .before .before .before .before .middle .result - 1) (omega (arith, leaf (c .before .before .before .before .before .before))))
 
 middle-requires : tie.Need-middle-requires
-middle-requires c κs = kept-within (c .before .before .before .before .before .before .before .before .pre .2) (now (c .before .before .before .before .before .before .before .before .args .list)) _ (c .before .before .before .before .before .before .before .before .pre .1) (c .before .before .mark-list .ensures)
+middle-requires c κs = kept-within (c .before .before .before .before .before .before .before .before .pre .2) (now (c .before .before .before .before .before .before .before .before .args .list)) _ (c .before .before .before .before .before .before .before .before .pre .1) (c .before .before .mark-line .ensures)
 
 sub-name-of : tie.Need-sub-name-of
 sub-name-of c = leaf (c .before .before .before .before .before) .0

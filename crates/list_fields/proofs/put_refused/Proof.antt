@@ -19,17 +19,17 @@ use Rattle.list_fields.proofs.put_refused.Statement.{statement}
 use Rattle.list_fields.proofs.put_refused.Tie as tie
 
 -- The words mark the list's group; the numbers that were found.
-same : (c : tie.After-find) → marked (c .before .before .before .before .mark-list .last .1 .0) ≡ elem (now (c .before .before .before .before .before .before .before .before .before .before .args .list))
-same c = ap marked (c .before .before .before .before .mark-list .ensures) ∙ marked-group 4 (c .before .before .before .before .before .before .before .before .before .before .args .n) (now (c .before .before .before .before .before .before .before .before .before .before .args .list)) (c .before .before .before .before .before .before .before .before .before .before .pre .0) (c .before .before .before .before .before .before .before .before .before .before .pre .3)
+same : (c : tie.After-find) → marked (c .before .before .before .before .mark-line .last .1 .1 .0) ≡ elem (now (c .before .before .before .before .before .before .before .before .before .before .args .list))
+same c = ap marked (c .before .before .before .before .mark-line .ensures) ∙ marked-group 4 (c .before .before .before .before .before .before .before .before .before .before .args .n) (now (c .before .before .before .before .before .before .before .before .before .before .args .list)) (c .before .before .before .before .before .before .before .before .before .before .pre .0) (c .before .before .before .before .before .before .before .before .before .before .pre .3)
 
 found : (c : tie.After-find) → take (c .find .result - 0) (drop 0 (c .find .last .1 .1 .1 .1 .0)) ≡ conflicts-of (c .before .before .before .before .before .before .before .before .before .before .args .n) (lent-book (now (c .before .before .before .before .before .before .before .before .before .before .args .book)) (c .before .before .before .before .before .before .before .before .before .before .args .count)) (elem (now (c .before .before .before .before .before .before .before .before .before .before .args .list)))
 found c = read-part (c .find .ensures) ∙ ap (conflicts-of (c .before .before .before .before .before .before .before .before .before .before .args .n) (lent-book (now (c .before .before .before .before .before .before .before .before .before .before .args .book)) (c .before .before .before .before .before .before .before .before .before .before .args .count))) (same c)
 
 few : (c : tie.After-find) → c .find .result ≤ c .before .before .before .before .before .before .before .before .before .before .args .count
-few c = omega (arith, c .find .ensures .many, list-few (c .before .before .before .before .before .before .before .before .before .before .args .n) (lent-book (now (c .before .before .before .before .before .before .before .before .before .before .args .book)) (c .before .before .before .before .before .before .before .before .before .before .args .count)) (marked (c .before .before .before .before .mark-list .last .1 .0)))
+few c = omega (arith, c .find .ensures .many, list-few (c .before .before .before .before .before .before .before .before .before .before .args .n) (lent-book (now (c .before .before .before .before .before .before .before .before .before .before .args .book)) (c .before .before .before .before .before .before .before .before .before .before .args .count)) (marked (c .before .before .before .before .mark-line .last .1 .1 .0)))
 
 find-requires : tie.Need-find-requires
-find-requires c κs = (c .before .before .before .before .before .before .before .before .before .pre .0, c .before .before .before .before .before .before .before .before .before .pre .1, c .before .before .before .before .before .before .before .before .before .pre .2, c .before .before .before .mark-list .kept .1 .0, c .before .before .before .before .before .before .before .before .before .pre .2)
+find-requires c κs = (c .before .before .before .before .before .before .before .before .before .pre .0, c .before .before .before .before .before .before .before .before .before .pre .1, c .before .before .before .before .before .before .before .before .before .pre .2, c .before .before .before .mark-line .kept .1 .1 .0, c .before .before .before .before .before .before .before .before .before .pre .2)
 
 part-put-conflicts-end : tie.Need-part-put-conflicts-end
 part-put-conflicts-end c = omega (arith, wrote-most (c .before .before .before .before .before .before .before .find .ensures))
