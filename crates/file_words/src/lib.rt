@@ -21,7 +21,7 @@ pub fn letter(b: u8) -> bool
 }
 
 // Whether w is one of the words of x, a space after each. j: how many bytes of the word are those of w; m + 1 where it differs.
-pub fn is_among(x: &[u8], w: &[u8]) -> bool
+fn is_among(x: &[u8], w: &[u8]) -> bool
     ensures { λ r. ⌜ ((ns : List (List ℕ)) → All Word ns → now (x .entry) ≡ spaced ns → r ≡ is-among ns (now (w .entry))) ⌝ }
 {
     let m = w.len();
@@ -51,7 +51,7 @@ pub fn is_among(x: &[u8], w: &[u8]) -> bool
 }
 
 // How many of the words of x, a space after each, begin with t. j: as in is_among, but m where more bytes follow t.
-pub fn begin_with(x: &[u8], t: &[u8]) -> usize
+fn begin_with(x: &[u8], t: &[u8]) -> usize
     ensures { λ r. ⌜ ((ns : List (List ℕ)) → All Word ns → now (x .entry) ≡ spaced ns → r ≡ length (those-of (begins-with (now (t .entry))) ns)) ⌝ }
     ensures { λ r. ⌜ r ≤ length (now (x .entry)) ⌝ }
 {

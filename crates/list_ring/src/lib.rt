@@ -14,7 +14,7 @@ pub struct Ring {
 }
 
 // Opens the ring of n leaves: writes its fresh tree, and has no group.
-pub fn fresh_ring(n: usize, toks: &mut [u16]) -> Ring
+fn fresh_ring(n: usize, toks: &mut [u16]) -> Ring
     requires { ⌜ (n ≤ 256) × (512 ≤ length (now toks)) ⌝ }
     ensures { λ r. ⌜ ((book table : List ℕ) → RingStands n (opened n) (now (toks .exit)) (r .tokens) book table (r .count)) ⌝ }
 {

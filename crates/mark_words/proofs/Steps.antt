@@ -1,24 +1,22 @@
 -- What the functions do to a word.
 use mathlib.Core.Path.{_≡_, refl, sym, ap, ap₂, _∙_}
 use mathlib.Core.Logic.{_≢_}
-use mathlib.Core.Bool.{Bool, true, false, cond, _||_}
-use mathlib.Core.List.{List, [], _∷_, _++_}
+use mathlib.Core.Bool.{Bool, true, false, _||_}
+use mathlib.Core.List.{List}
 use Prim.Native.Nat.{ℕ, suc, _+_, _*_, _/_, _%_, _^_, _≤_, _<_}
 use native.Mathlib.Nat.{mod-lt}
 use native.Mathlib.Decide.{ℕ-discrete}
-use native.Mathlib.Numerals.{add-one}
 use native.Mathlib.Omega.{arith}
 use lib.Dec.{eqb}
-use lib.ListN.{length, getD, set, take, length-set}
-use lib.Seq.{getD-set-same, getD-set-other, take-suc}
+use lib.ListN.{length, getD, set, length-set}
+use lib.Seq.{getD-set-same, getD-set-other}
 use lib.Pow.{pow-lt}
 use lib.Bits.{bitOr, or-lt}
 use borrow.Author.Tests.{eq-eqb, ne-eqb}
-use Rattle.spec_orders.specs.Lists.{elem}
 use Rattle.spec_orders.specs.CircularOrder.{Restriction}
 use Rattle.mark_words.specs.Marks.{bit, marked, word-of, words-of, with-leaf}
 use Rattle.mark_words.proofs.Word.{word-is, bit-or, bit-pow}
-use Rattle.mark_words.proofs.Words.{Words, length-words, marked-words, words-are, marked-at, leaf-at, words-agree, words-of-marked}
+use Rattle.mark_words.proofs.Words.{Words, words-are, marked-at, leaf-at, words-agree, words-of-marked}
 
 -- ---- one leaf more
 
@@ -71,24 +69,3 @@ set-one ws m v l =
     others i j n h = rw (ne-eqb (64 * i + suc j) (suc m) (λ e. n (omega (arith, leaf-at m, small)))) (sym (marked-at ws i j h))
 
 -- ---- the leaves of a list
-
-elem-more : (l : List ℕ) (b x : ℕ) → elem (l ++ (b ∷ [])) x ≡ (eqb x b || elem l x)
-elem-more [] b x = last (eqb x b)
-  where
-    last : (t : Bool) → cond t true false ≡ (t || false)
-    last true = refl
-    last false = refl
-elem-more (y ∷ l) b x = ap (cond (eqb x y) true) (elem-more l b x) ∙ past (eqb x y) (eqb x b) (elem l x)
-  where
-    past : (s t e : Bool) → cond s true (t || e) ≡ (t || cond s true e)
-    past true true e = refl
-    past true false e = refl
-    past false t e = refl
-
-pub list-more : (k : ℕ) (l : List ℕ) (i : ℕ) (ws : List ℕ) → i < length l → ws ≡ words-of k (elem (take i l))
-    → words-of (length ws) (with-leaf (getD l i 0) (marked ws)) ≡ words-of k (elem (take (i + 1) l))
-list-more k l i ws h e =
-    rw (e, length-words)
-    (words-agree k (with-leaf (getD l i 0) (marked (words-of k (elem (take i l))))) (elem (take (i + 1) l))
-    (λ x a b. ap (λ (t : Bool). eqb x (getD l i 0) || t) (marked-words k (elem (take i l)) x a b)
-    ∙ sym (elem-more (take i l) (getD l i 0) x) ∙ ap (λ (m : List ℕ). elem m x) (sym (take-suc l i 0 h) ∙ ap (λ (j : ℕ). take j l) (sym (add-one i)))))

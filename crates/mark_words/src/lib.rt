@@ -2,7 +2,6 @@
 ghost use mathlib.Core.Path.{_≡_};
 ghost use Prim.Native.Nat.{_%_, _^_};
 ghost use lib.ListN.{length};
-ghost use Rattle.spec_orders.specs.Lists.{elem};
 ghost use Rattle.mark_words.specs.Marks.{marked, words-of, no-leaf, with-leaf};
 
 // Whether the leaf is marked.
@@ -52,17 +51,5 @@ pub fn clear(words: &mut [u64])
     while w < words.len() {
         words[w] = 0;
         w += 1;
-    }
-}
-
-// Marks the leaves of the list and no other.
-pub fn mark_list(list: &[u16], words: &mut [u64])
-    ensures { λ _. ⌜ now (words .exit) ≡ words-of (length (now (words .entry))) (elem (now (list .entry))) ⌝ }
-{
-    clear(words);
-    let mut at = 0;
-    while at < list.len() {
-        set(words, list[at]);
-        at += 1;
     }
 }

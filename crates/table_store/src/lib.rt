@@ -100,7 +100,7 @@ fn rows_match(toks: &[u16], r: usize, table: &[u16]) -> bool
 }
 
 // Whether the first 65,792 numbers are the table of a tree in form.
-pub fn matches(toks: &[u16], table: &[u16]) -> bool
+fn matches(toks: &[u16], table: &[u16]) -> bool
     requires { ⌜ ((n : ℕ) × TreeTokens n (now toks)) × (65792 ≤ length (now table)) ⌝ }
     ensures { λ r. ⌜ ((t : Forest) → now (toks .entry) ≡ flat t
         → r ≡ same (take 65792 (now (table .entry))) (table-of t)) ⌝ }

@@ -59,7 +59,7 @@ fn put_first(x: &[u16], out: &mut [u16]) -> usize
 }
 
 // Writes the items of state s, in their order.
-pub fn only(x: &[u16], s: u16, out: &mut [u16]) -> usize
+fn only(x: &[u16], s: u16, out: &mut [u16]) -> usize
     requires { ⌜ (Fits (λ ts. whole-of (with-state s ts)) (now x) (now out)) × (s ≤ 4) ⌝ }
     ensures { λ r. ⌜ ((j : Judged) → now (x .entry) ≡ encode j
         → Wrote (flat (whole-of (with-state s (totals j)))) (now (out .entry)) (now (out .exit)) r) ⌝ }
@@ -151,7 +151,7 @@ pub fn c_node(x: &[u16], out: &mut [u16]) -> usize
 }
 
 // Writes the empty items of x, and t, whose first leaf is b, before the first of them with a larger first leaf.
-pub fn insert(x: &[u16], b: u16, t: &[u16], out: &mut [u16]) -> usize
+fn insert(x: &[u16], b: u16, t: &[u16], out: &mut [u16]) -> usize
     requires { ⌜ ((j : Judged) × (g : Forest) × (now x ≡ encode j) × (now t ≡ flat g) × (b ≡ first g)
         × (length (flat (put-sorted g (whole-of (with-state 0 (totals j))))) ≤ length (now out))) ⌝ }
     ensures { λ r. ⌜ ((j : Judged) (g : Forest) → now (x .entry) ≡ encode j → now (t .entry) ≡ flat g

@@ -106,7 +106,7 @@ pub enum Updated {
 }
 
 // Writes the tree with its marked leaves consecutive to the start of out.
-pub fn update(toks: &[u16], marks: &[u64], out: &mut [u16]) -> Updated
+fn update(toks: &[u16], marks: &[u64], out: &mut [u16]) -> Updated
     requires { ⌜ ((n : ℕ) × (TokensWithin n (now toks)) × (512 ≤ length (now out))) ⌝ }
     ensures { λ r. ⌜ ((t : Forest) → now (toks .entry) ≡ flat t
         → Answers (reduce (marked (now (marks .entry))) t) (now (out .entry)) (now (out .exit)) r) ⌝ }
