@@ -67,5 +67,3 @@ set-one ws m v l =
 
     others : (i j : ℕ) → i ≢ m / 64 → j < 64 → bit (getD ws i 0) j ≡ with-leaf (suc m) (marked ws) (64 * i + suc j)
     others i j n h = rw (ne-eqb (64 * i + suc j) (suc m) (λ e. n (omega (arith, leaf-at m, small)))) (sym (marked-at ws i j h))
-
--- ---- the leaves of a list
