@@ -1,8 +1,8 @@
--- What the functions do to a word.
+-- What the functions do to a word; four words.
 use mathlib.Core.Path.{_≡_, refl, sym, ap, ap₂, _∙_}
 use mathlib.Core.Logic.{_≢_}
 use mathlib.Core.Bool.{Bool, true, false, _||_}
-use mathlib.Core.List.{List}
+use mathlib.Core.List.{List, [], _∷_}
 use Prim.Native.Nat.{ℕ, suc, _+_, _*_, _/_, _%_, _^_, _≤_, _<_}
 use native.Mathlib.Nat.{mod-lt}
 use native.Mathlib.Decide.{ℕ-discrete}
@@ -67,3 +67,22 @@ set-one ws m v l =
 
     others : (i j : ℕ) → i ≢ m / 64 → j < 64 → bit (getD ws i 0) j ≡ with-leaf (suc m) (marked ws) (64 * i + suc j)
     others i j n h = rw (ne-eqb (64 * i + suc j) (suc m) (λ e. n (omega (arith, leaf-at m, small)))) (sym (marked-at ws i j h))
+
+-- ---- four words, one by one; written over four others
+
+pub four-words : (l : List ℕ) → length l ≡ 4 → getD l 0 0 ∷ (getD l 1 0 ∷ (getD l 2 0 ∷ (getD l 3 0 ∷ []))) ≡ l
+four-words [] h = absurd (omega arith)
+four-words (a ∷ []) h = absurd (omega arith)
+four-words (a ∷ (b ∷ [])) h = absurd (omega arith)
+four-words (a ∷ (b ∷ (c ∷ []))) h = absurd (omega arith)
+four-words (a ∷ (b ∷ (c ∷ (d ∷ [])))) h = refl
+four-words (a ∷ (b ∷ (c ∷ (d ∷ (e ∷ l))))) h = absurd (omega arith)
+
+pub four-set : (from to : List ℕ) → length from ≡ 4 → length to ≡ 4
+    → set (set (set (set to 0 (getD from 0 0)) 1 (getD from 1 0)) 2 (getD from 2 0)) 3 (getD from 3 0) ≡ from
+four-set from [] p h = absurd (omega arith)
+four-set from (a ∷ []) p h = absurd (omega arith)
+four-set from (a ∷ (b ∷ [])) p h = absurd (omega arith)
+four-set from (a ∷ (b ∷ (c ∷ []))) p h = absurd (omega arith)
+four-set from (a ∷ (b ∷ (c ∷ (d ∷ [])))) p h = four-words from p
+four-set from (a ∷ (b ∷ (c ∷ (d ∷ (e ∷ l))))) p h = absurd (omega arith)

@@ -11,7 +11,7 @@ use native.Mathlib.Decide.{ℕ-discrete}
 use borrow.Author.Tests.{eq-eqb, eqb-true, ltb-true, ltb-false, leb-true}
 use lib.Dec.{eqb, ltb, leb}
 use borrow.Rule.Slice.PartMut.{putMid}
-use lib.ListN.{length, getD, set, take, drop, replicate, length-take, length-drop, length-replicate, List·getD-eq-default}
+use lib.ListN.{length, getD, take, drop, replicate, length-take, length-drop, length-replicate, List·getD-eq-default}
 use lib.Seq.{getD-take, getD-drop, drop-drop}
 use Rattle.spec_orders.specs.Lists.{numbers-from, same, all-of}
 use Rattle.spec_orders.specs.CircularOrder.{Restriction}
@@ -69,24 +69,7 @@ pub groups-all : (n : ℕ) (book : Book) → groups-in-form? n book 0 ≡ all-of
 unfolding groups-in-form?
 groups-all n book = let e : book .count - 0 ≡ book .count = omega arith in rw e
 
--- Four words in the place of four others; a group's words in their place; all words of no leaf.
-four-words : (l : List ℕ) → length l ≡ 4 → getD l 0 0 ∷ (getD l 1 0 ∷ (getD l 2 0 ∷ (getD l 3 0 ∷ []))) ≡ l
-four-words [] h = absurd (omega arith)
-four-words (a ∷ []) h = absurd (omega arith)
-four-words (a ∷ (b ∷ [])) h = absurd (omega arith)
-four-words (a ∷ (b ∷ (c ∷ []))) h = absurd (omega arith)
-four-words (a ∷ (b ∷ (c ∷ (d ∷ [])))) h = refl
-four-words (a ∷ (b ∷ (c ∷ (d ∷ (e ∷ l))))) h = absurd (omega arith)
-
-pub four-set : (from to : List ℕ) → length from ≡ 4 → length to ≡ 4
-    → set (set (set (set to 0 (getD from 0 0)) 1 (getD from 1 0)) 2 (getD from 2 0)) 3 (getD from 3 0) ≡ from
-four-set from [] p h = absurd (omega arith)
-four-set from (a ∷ []) p h = absurd (omega arith)
-four-set from (a ∷ (b ∷ [])) p h = absurd (omega arith)
-four-set from (a ∷ (b ∷ (c ∷ []))) p h = absurd (omega arith)
-four-set from (a ∷ (b ∷ (c ∷ (d ∷ [])))) p h = four-words from p
-four-set from (a ∷ (b ∷ (c ∷ (d ∷ (e ∷ l))))) p h = absurd (omega arith)
-
+-- A group's words in their place; all words of no leaf.
 pub booked-is : (book : List ℕ) (k : ℕ) (G : Restriction) (new : List ℕ) → new ≡ words-of 4 G → putMid (4 * k) (4 * k + 4 - 4 * k) book new ≡ booked book k G
 unfolding booked
 booked-is book k G new e =

@@ -5,7 +5,7 @@ use mathlib.Core.List.{List, [], _∷_}
 use Prim.Native.Nat.{ℕ, _*_, _≤_}
 use native.Mathlib.Omega.{arith}
 use borrow.Author.Tests.{le-leb}
-use lib.ListN.{length, getD}
+use lib.ListN.{length}
 use Rattle.spec_orders.specs.Lists.{All, some-of}
 use Rattle.spec_orders.specs.CircularOrder.{Restriction}
 use Rattle.spec_orders.specs.Tree.{Forest, nil, leaf, node, frontier, leaf-item}
@@ -64,12 +64,3 @@ join-outside n ws vs us t f h e v u =
 pub join-inside : (ws : List ℕ) (t : Forest) → false ≡ marked ws 1 → join (marked ws) t ≡ reduce (marked ws) t
 unfolding join side
 join-inside ws t e = rw (← e)
-
--- Four words, one by one.
-pub four-words : (l : List ℕ) → length l ≡ 4 → getD l 0 0 ∷ (getD l 1 0 ∷ (getD l 2 0 ∷ (getD l 3 0 ∷ []))) ≡ l
-four-words [] h = absurd (omega arith)
-four-words (a ∷ []) h = absurd (omega arith)
-four-words (a ∷ (b ∷ [])) h = absurd (omega arith)
-four-words (a ∷ (b ∷ (c ∷ []))) h = absurd (omega arith)
-four-words (a ∷ (b ∷ (c ∷ (d ∷ [])))) h = refl
-four-words (a ∷ (b ∷ (c ∷ (d ∷ (e ∷ l))))) h = absurd (omega arith)

@@ -10,7 +10,7 @@ use Rattle.mark_words.specs.Marks.{marked}
 use Rattle.spec_calls.specs.Calls.{group-numbered, conflicts-of}
 use Rattle.tree_tokens.specs.Tokens.{Wrote, flat}
 use Rattle.tree_tokens.proofs.Writes.{read-part, wrote-most}
-use Rattle.tree_update.proofs.Agree.{four-words}
+use Rattle.mark_words.proofs.Steps.{four-words}
 use Rattle.conflict_leaves.specs.StandIn.{Chosen, start}
 use Rattle.conflict_rule.specs.LeavingOut.{InBook}
 use Rattle.conflict_rule.proofs.Joined.{Next, next-tree, no-tree}

@@ -1,4 +1,4 @@
-use Rattle.table_book.proofs.Laws.{four-set}
+use Rattle.mark_words.proofs.Steps.{four-set}
 use borrow.Author.Needs.{needs}
 use Rattle.table_book.proofs.copy_group.Statement.{statement}
 use Rattle.table_book.proofs.copy_group.Tie as tie

@@ -1,6 +1,7 @@
 use mathlib.Core.Path.{sym, _∙_}
 use native.Mathlib.Omega.{arith}
-use Rattle.tree_update.proofs.Agree.{join-outside, join-inside, four-words}
+use Rattle.mark_words.proofs.Steps.{four-words}
+use Rattle.tree_update.proofs.Agree.{join-outside, join-inside}
 use Rattle.tree_update.proofs.Updates.{the-form}
 use borrow.Author.Needs.{needs}
 use Rattle.tree_update.proofs.join.Statement.{statement}
