@@ -16,21 +16,22 @@ def exported():
         yield call.name, params(call.lent), call.result, call.does
 
 
-def counted(p, nodes):
-    """What the number of a table's entries is called, of a node table `nodes`."""
-    return nodes if p.nodes else "words" if p.name == "book" else "places" if p.written else "length"
+def counts(lent, nodes):
+    """What the number of entries of each table is called, of a node table `nodes`; with the table's name where two would be called alike."""
+    short = {p.name: nodes if p.nodes else "words" if p.name == "book" else "places" if p.written else "length" for p in lent if not p.number}
+    return {name: word if list(short.values()).count(word) == 1 else f"{name}_{word}" for name, word in short.items()}
 
 
 def declared():
     """The calls in C. There a leaf is a bin, as in document 01."""
     for name, lent, result, does in exported():
-        given = []
+        given, counted = [], counts(lent, "numbers")
         for p in lent:
             kind = C_TYPES[p.type]
             if p.number:
                 given.append(f"{kind} {'*' if p.written else ''}{p.name}")
             else:
-                given += [f"{'' if p.written else 'const '}{kind} *{p.name}", f"size_t {counted(p, 'numbers')}"]
+                given += [f"{'' if p.written else 'const '}{kind} *{p.name}", f"size_t {counted[p.name]}"]
         head = f"{C_TYPES[result]} tokuwhape_{name}("
         does = does.replace("leaves", "bins").replace("leaf", "bin")
         yield wrapped(f"{does}~*/", 140, "/* ", " * ")
@@ -48,11 +49,11 @@ def symbols(prefix, made, about, nodes):
     yield wrapped(f"{about} {MADE}", 140, "//! ", "//! ")
     yield 'use crate::Node;\n\nextern "C" {'
     for name, lent, result, _ in made:
-        given = []
+        given, counted = [], counts(lent, nodes)
         for p in lent:
             if p.number:
                 given.append(f"{p.name}: {'*mut ' if p.written else ''}{p.type}")
             else:
-                given += [f"{p.name}: *{'mut' if p.written else 'const'} {p.type}", f"{counted(p, nodes)}: usize"]
+                given += [f"{p.name}: *{'mut' if p.written else 'const'} {p.type}", f"{counted[p.name]}: usize"]
         yield signature(f"pub fn {prefix}_{name}", given, result, 140, "    ", ";")
     yield "}"
