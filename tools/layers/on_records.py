@@ -1,5 +1,5 @@
 """The walk of a call of crate record_NAME, over record_copy/proofs/Steps."""
-from layers.table import lent, promise
+from layers.table import lent, of_book, promise
 from layers.text import MADE, imported
 from layers.walk import ANSWER, GIVEN, LAWFUL, MEMORY, USES, Context, Walk, at, load, nest, operands, product, sub, values
 
@@ -230,7 +230,10 @@ class OnRecords(Walk):
         """What the contract says, from what the core ensures: by a law of record_left where nodes are written."""
         if not self.nodes.mut:
             return "h"
-        given = [*lent(self.call, lambda p: p.name, lambda of, p: f"{of} {p.name}"), "(report (r′ .0))", *self.after(lambda s: self.last("r′", s))]
+        name = lambda p: p.name
+        given = [*lent(self.call, name, lambda of, p: f"{of} {p.name}"), "(report (r′ .0))"]
+        for s, last in zip((s for s in self.tables if s.mut), self.after(lambda s: self.last("r′", s))):
+            given.append(of_book(self.call, last, name) if s.name == "book" else last)
         return f"{self.name}-left {' '.join(given)} sound m₁ h"
 
     def imports(self):

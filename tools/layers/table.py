@@ -33,6 +33,12 @@ def of_crate(crate):
     return [call for call in calls.RING if call.crate == crate]
 
 
+def of_book(call, words, entry):
+    """A book with these words, and what else of it the call is lent."""
+    by_name = {p.name: p for p in params(call.lent)}
+    return " ".join(["(lent-book", words, *(entry(by_name[x]) if x in by_name else "0" for x in calls.OF_BOOK)]) + ")"
+
+
 def lent(call, entry, nodes):
     """What is lent as a promise takes it: `entry` gives a parameter, `nodes` a node table, from the numbers that stand before it and the table."""
     by_name = {p.name: p for p in params(call.lent)}
@@ -41,14 +47,15 @@ def lent(call, entry, nodes):
         if p.nodes:
             yield nodes(" ".join(entry(by_name[x]) for x in first), p)
         elif p.name == "book":
-            yield " ".join(["(lent-book", entry(p), *(entry(by_name[x]) if x in by_name else "0" for x in calls.OF_BOOK)]) + ")"
+            yield of_book(call, entry(p), entry)
         elif p.name not in first and p.name not in calls.OF_BOOK:
             yield entry(p)
 
 
 def promise(call, entry, exit, nodes, said):
     """The call's promise, of what is lent (see `lent`), of what is written, each by `exit`, and of what is returned."""
-    return " ".join([call.promise, *lent(call, entry, nodes), *(exit(p) for p in written(call)), said])
+    left = (of_book(call, exit(p), entry) if p.name == "book" else exit(p) for p in written(call))
+    return " ".join([call.promise, *lent(call, entry, nodes), *left, said])
 
 
 def on_records(call, entry, exit, said):

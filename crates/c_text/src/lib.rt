@@ -30,7 +30,7 @@ pub extern "C" fn tokuwhape_read(
     text: &[u8],
     value: &mut usize,
 ) -> u8
-    ensures { λ r. ⌜ ReadPromise (lent-rows n (now (nodes .entry))) (lent-book (now (book .entry)) 0) (now (text .entry)) (now (nodes .exit)) (now (book .exit)) (reply r (now (value .exit))) ⌝ }
+    ensures { λ r. ⌜ ReadPromise (lent-rows n (now (nodes .entry))) (lent-book (now (book .entry)) 0) (now (text .entry)) (now (nodes .exit)) (lent-book (now (book .exit)) 0) (reply r (now (value .exit))) ⌝ }
 {
     let have = c_rows::records(nodes);
     let answer = call_text::read(n, nodes, have, book, text);

@@ -13,7 +13,7 @@ pub extern "C" fn tokuwhape_open(
     book: &mut [u64],
     value: &mut usize,
 ) -> u8
-    ensures { λ r. ⌜ OpenPromise (lent-rows n (now (nodes .entry))) (lent-book (now (book .entry)) 0) (now (nodes .exit)) (now (book .exit)) (reply r (now (value .exit))) ⌝ }
+    ensures { λ r. ⌜ OpenPromise (lent-rows n (now (nodes .entry))) (lent-book (now (book .entry)) 0) (now (nodes .exit)) (lent-book (now (book .exit)) 0) (reply r (now (value .exit))) ⌝ }
 {
     let have = c_rows::records(nodes);
     let answer = call_update::open(n, nodes, have, book);
@@ -30,7 +30,7 @@ pub extern "C" fn tokuwhape_join(
     list: &[u16],
     value: &mut usize,
 ) -> u8
-    ensures { λ r. ⌜ JoinPromise (lent-rows n (now (nodes .entry))) (lent-book (now (book .entry)) count) (now (list .entry)) (now (nodes .exit)) (now (book .exit)) (reply r (now (value .exit))) ⌝ }
+    ensures { λ r. ⌜ JoinPromise (lent-rows n (now (nodes .entry))) (lent-book (now (book .entry)) count) (now (list .entry)) (now (nodes .exit)) (lent-book (now (book .exit)) count) (reply r (now (value .exit))) ⌝ }
 {
     let have = c_rows::records(nodes);
     let answer = call_update::join(n, nodes, have, book, count, list);

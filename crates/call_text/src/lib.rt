@@ -53,7 +53,7 @@ pub fn write(n: usize, nodes: &[u16], have: usize, bytes: &mut [u8]) -> Answer
 // Reads a tree text for n leaves, lent exactly: the node table gets its tree, and the book is emptied. Answers the count of groups, 0; or refuses
 // (1, 2, 12), and leaves both tables as they were.
 pub fn read(n: usize, nodes: &mut [u16], have: usize, book: &mut [u64], text: &[u8]) -> Answer
-    ensures { λ r. ⌜ ReadPromise (lent-nodes n have (now (nodes .entry))) (lent-book (now (book .entry)) 0) (now (text .entry)) (now (nodes .exit)) (now (book .exit)) (report r) ⌝ }
+    ensures { λ r. ⌜ ReadPromise (lent-nodes n have (now (nodes .entry))) (lent-book (now (book .entry)) 0) (now (text .entry)) (now (nodes .exit)) (lent-book (now (book .exit)) 0) (report r) ⌝ }
 {
     if let Checked::Bad(refusal) = call_checks::check_tables(n, nodes, have, book.len() < 384) {
         return Answer::Refused(refusal);

@@ -6,7 +6,7 @@ use Prim.Native.Nat.{ℕ, _+_}
 use Rattle.spec_orders.specs.CircularOrder.{group-of}
 use Rattle.spec_orders.specs.Join.{fresh}
 use Rattle.spec_calls.specs.declared.Refusal.{Refusal}
-use Rattle.spec_calls.specs.Tables.{Nodes, leaves, Book, over}
+use Rattle.spec_calls.specs.Tables.{Nodes, leaves, Book, lent-book, over}
 use Rattle.spec_calls.specs.Book.{booked, emptied}
 use Rattle.spec_calls.specs.NodeTable.{table-of}
 use Rattle.spec_calls.specs.Refusals.{Reply, reply, reported, first-refusal, short}
@@ -23,9 +23,9 @@ module _ (nodes : Nodes) (book : Book) where
   open-refused r e = ap (λ o. opened o nodes book) (sym e)
 
   pub opens : (rows′ words′ : List ℕ) → first-refusal (table-checks nodes (short 384 (book .words))) ≡ none
-      → rows′ ≡ over (table-of (fresh (leaves nodes))) (nodes .rows) → words′ ≡ emptied (book .words) → ring (reply 0 0) rows′ words′ ≡ open-call nodes book
+      → rows′ ≡ over (table-of (fresh (leaves nodes))) (nodes .rows) → words′ ≡ emptied (book .words) → ring (reply 0 0) rows′ (lent-book words′ (book .count)) ≡ open-call nodes book
   unfolding open-call open-refusal opened
-  opens rows′ words′ e p q = ap₂ (ring (reply 0 0)) p q ∙ ap (λ o. opened o nodes book) (sym e)
+  opens rows′ words′ e p q = ap₂ (λ r w. ring (reply 0 0) r (lent-book w (book .count))) p q ∙ ap (λ o. opened o nodes book) (sym e)
 
 -- ---- joining and trying
 
@@ -36,13 +36,13 @@ module _ (nodes : Nodes) (book : Book) (list : List ℕ) where
 
   pub join-done : (marks old new : List ℕ) (k : ℕ) (h : JoinedRing nodes book list marks old new k) (rows′ words′ : List ℕ)
       → rows′ ≡ over (table-of (h .tree)) (nodes .rows) → words′ ≡ booked (book .words) (book .count) (group-of (nodes .bins) list)
-      → ring (reply 0 (book .count + 1)) rows′ words′ ≡ join-call nodes book list
+      → ring (reply 0 (book .count + 1)) rows′ (lent-book words′ (book .count)) ≡ join-call nodes book list
   unfolding join-call joined
   join-done marks old new k h rows′ words′ p q =
-      ap₂ (ring (reply 0 (book .count + 1))) p q ∙ ap₂ (λ o t. joined o t nodes book list) (sym (h .passes)) (sym (h .is))
+      ap₂ (λ r w. ring (reply 0 (book .count + 1)) r (lent-book w (book .count))) p q ∙ ap₂ (λ o t. joined o t nodes book list) (sym (h .passes)) (sym (h .is))
 
-  pub join-demand : (r : Reply) (rows′ words′ : List ℕ) → ring r rows′ words′ ≡ join-call nodes book list → JoinDemand nodes book list r rows′
-  join-demand r rows′ words′ e t h b l w =
+  pub join-demand : (r : Reply) (rows′ : List ℕ) (book′ : Book) → ring r rows′ book′ ≡ join-call nodes book list → JoinDemand nodes book list r rows′
+  join-demand r rows′ book′ e t h b l w =
       subst (λ x. Joins (leaves nodes) (group-of (nodes .bins) list) t (x .answer) (x .rows)) (sym e) (join-meets nodes book list t h b l w)
 
   pub trial-refused : (r : Refusal) → join-refusal nodes book list ≡ some r → reported r ≡ trial-call nodes book list

@@ -9,7 +9,7 @@ use table_book::Checked;
 
 // Opens a ring of n leaves: its node table gets the fresh tree, and its book is emptied. Answers the count of groups, 0; or refuses (1, 2).
 pub fn open(n: usize, nodes: &mut [u16], have: usize, book: &mut [u64]) -> Answer
-    ensures { λ r. ⌜ OpenPromise (lent-nodes n have (now (nodes .entry))) (lent-book (now (book .entry)) 0) (now (nodes .exit)) (now (book .exit)) (report r) ⌝ }
+    ensures { λ r. ⌜ OpenPromise (lent-nodes n have (now (nodes .entry))) (lent-book (now (book .entry)) 0) (now (nodes .exit)) (lent-book (now (book .exit)) 0) (report r) ⌝ }
 {
     if let Checked::Bad(refusal) = call_checks::check_tables(n, nodes, have, book.len() < 384) {
         return Answer::Refused(refusal);
@@ -31,7 +31,7 @@ pub fn join(
     count: usize,
     list: &[u16],
 ) -> Answer
-    ensures { λ r. ⌜ JoinPromise (lent-nodes n have (now (nodes .entry))) (lent-book (now (book .entry)) count) (now (list .entry)) (now (nodes .exit)) (now (book .exit)) (report r) ⌝ }
+    ensures { λ r. ⌜ JoinPromise (lent-nodes n have (now (nodes .entry))) (lent-book (now (book .entry)) count) (now (list .entry)) (now (nodes .exit)) (lent-book (now (book .exit)) count) (report r) ⌝ }
 {
     let mut marks = [0u64; 4];
     let mut toks = [0u16; 512];

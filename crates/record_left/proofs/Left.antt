@@ -63,25 +63,25 @@ module _ (nodes : Nodes) (book : Book) where
   unfolding open-refusal
   open-whole e = let w = tables-whole nodes (short 384 (book .words)) e in (w .1, w .2)
 
-open-rows : (n : ℕ) (ns : List Node) (book : Book) (said : Reply) (fs words′ : List ℕ) → ring said fs words′ ≡ open-call (lent-records n ns) book
+open-rows : (n : ℕ) (ns : List Node) (book : Book) (said : Reply) (fs : List ℕ) (book′ : Book) → ring said fs book′ ≡ open-call (lent-records n ns) book
     → Rows (leaves (lent-records n ns)) ns fs
 unfolding open-call opened
-open-rows n ns book said fs words′ e = go (open-refusal (lent-records n ns) book) refl e
+open-rows n ns book said fs book′ e = go (open-refusal (lent-records n ns) book) refl e
   where
-    go : (o : Option Refusal) → open-refusal (lent-records n ns) book ≡ o → ring said fs words′ ≡ opened o (lent-records n ns) book
+    go : (o : Option Refusal) → open-refusal (lent-records n ns) book ≡ o → ring said fs book′ ≡ opened o (lent-records n ns) book
         → Rows (leaves (lent-records n ns)) ns fs
     go (some x) p q = as-before (ap (λ (y : Ring). y .rows) q)
     go none p q =
         let w = open-whole (lent-records n ns) book p in
         of-tree (fresh (leaves (lent-records n ns))) (fresh-form (leaves (lent-records n ns))) (w .0) (w .1) (ap (λ (y : Ring). y .rows) q)
 
-pub open-left : (n : ℕ) (ns : List Node) (book : Book) (said : Reply) (fs words′ : List ℕ) → Sound (take 256 ns) → length (node-rows ns) ≡ 65792
-    → OpenPromise (lent-records n ns) book fs words′ said
-    → OpenPromise (lent-records n ns) book (node-rows (with-rows fs ns)) words′ said × Left ns (with-rows fs ns) said
-open-left n ns book said fs words′ sound long e =
-    left ns sound long (leaves (lent-records n ns)) fs (open-rows n ns book said fs words′ e) said
+pub open-left : (n : ℕ) (ns : List Node) (book : Book) (said : Reply) (fs : List ℕ) (book′ : Book) → Sound (take 256 ns) → length (node-rows ns) ≡ 65792
+    → OpenPromise (lent-records n ns) book fs book′ said
+    → OpenPromise (lent-records n ns) book (node-rows (with-rows fs ns)) book′ said × Left ns (with-rows fs ns) said
+open-left n ns book said fs book′ sound long e =
+    left ns sound long (leaves (lent-records n ns)) fs (open-rows n ns book said fs book′ e) said
     (λ q. ap (λ (y : Ring). y .rows) e ∙ open-keeps (lent-records n ns) book (λ z. q (ap (λ (y : Ring). y .answer .number) e ∙ z)) .0)
-    (λ (rows : List ℕ). OpenPromise (lent-records n ns) book rows words′ said) e
+    (λ (rows : List ℕ). OpenPromise (lent-records n ns) book rows book′ said) e
 
 -- ---- joining
 
@@ -107,26 +107,26 @@ module _ (nodes : Nodes) (book : Book) (list : List ℕ) where
       go none p q = absurd (let z : _≡_ {A = ℕ} 0 1 = cc in omega arith)
       go (some t) p q = join-some (leaves nodes) (group-of (nodes .bins) list) t u (tree-in-holds (leaves nodes) (nodes .rows) t l .0 p .in-form) q .form
 
-join-rows : (n : ℕ) (ns : List Node) (book : Book) (list : List ℕ) (said : Reply) (fs words′ : List ℕ) → ring said fs words′ ≡ join-call (lent-records n ns) book list
+join-rows : (n : ℕ) (ns : List Node) (book : Book) (list : List ℕ) (said : Reply) (fs : List ℕ) (book′ : Book) → ring said fs book′ ≡ join-call (lent-records n ns) book list
     → Rows (leaves (lent-records n ns)) ns fs
 unfolding join-call joined
-join-rows n ns book list said fs words′ e = go (join-refusal (lent-records n ns) book list) refl (joined-tree (lent-records n ns) list) refl e
+join-rows n ns book list said fs book′ e = go (join-refusal (lent-records n ns) book list) refl (joined-tree (lent-records n ns) list) refl e
   where
     go : (o : Option Refusal) → join-refusal (lent-records n ns) book list ≡ o → (u : Option Forest) → joined-tree (lent-records n ns) list ≡ u
-        → ring said fs words′ ≡ joined o u (lent-records n ns) book list → Rows (leaves (lent-records n ns)) ns fs
+        → ring said fs book′ ≡ joined o u (lent-records n ns) book list → Rows (leaves (lent-records n ns)) ns fs
     go (some x) p u s q = as-before (ap (λ (y : Ring). y .rows) q)
     go none p none s q = as-before (ap (λ (y : Ring). y .rows) q)
     go none p (some t) s q =
         let w = join-whole (lent-records n ns) book list p in
         of-tree t (joined-form (lent-records n ns) book list t (w .0) s) (w .0) (w .1) (ap (λ (y : Ring). y .rows) q)
 
-pub join-left : (n : ℕ) (ns : List Node) (book : Book) (list : List ℕ) (said : Reply) (fs words′ : List ℕ) → Sound (take 256 ns) → length (node-rows ns) ≡ 65792
-    → JoinPromise (lent-records n ns) book list fs words′ said
-    → JoinPromise (lent-records n ns) book list (node-rows (with-rows fs ns)) words′ said × Left ns (with-rows fs ns) said
-join-left n ns book list said fs words′ sound long (e, demand) =
-    left ns sound long (leaves (lent-records n ns)) fs (join-rows n ns book list said fs words′ e) said
+pub join-left : (n : ℕ) (ns : List Node) (book : Book) (list : List ℕ) (said : Reply) (fs : List ℕ) (book′ : Book) → Sound (take 256 ns) → length (node-rows ns) ≡ 65792
+    → JoinPromise (lent-records n ns) book list fs book′ said
+    → JoinPromise (lent-records n ns) book list (node-rows (with-rows fs ns)) book′ said × Left ns (with-rows fs ns) said
+join-left n ns book list said fs book′ sound long (e, demand) =
+    left ns sound long (leaves (lent-records n ns)) fs (join-rows n ns book list said fs book′ e) said
     (λ q. ap (λ (y : Ring). y .rows) e ∙ join-keeps (lent-records n ns) book list (λ z. q (ap (λ (y : Ring). y .answer .number) e ∙ z)) .0)
-    (λ (rows : List ℕ). JoinPromise (lent-records n ns) book list rows words′ said) (e, demand)
+    (λ (rows : List ℕ). JoinPromise (lent-records n ns) book list rows book′ said) (e, demand)
 
 -- ---- reading a text
 
@@ -139,10 +139,10 @@ read-rows n ns book text x (read {f = f} p h) = go f h
     go (refused q) h = as-before refl
     go (tree t) h = let w = open-whole (lent-records n ns) book p in of-tree t (reads-form h) (w .0) (w .1) refl
 
-pub read-left : (n : ℕ) (ns : List Node) (book : Book) (text : List ℕ) (said : Reply) (fs words′ : List ℕ) → Sound (take 256 ns) → length (node-rows ns) ≡ 65792
-    → ReadPromise (lent-records n ns) book text fs words′ said
-    → ReadPromise (lent-records n ns) book text (node-rows (with-rows fs ns)) words′ said × Left ns (with-rows fs ns) said
-read-left n ns book text said fs words′ sound long h =
-    left ns sound long (leaves (lent-records n ns)) fs (read-rows n ns book text (ring said fs words′) h) said
-    (λ q. read-call-keeps (lent-records n ns) book text (ring said fs words′) h q .0)
-    (λ (rows : List ℕ). ReadPromise (lent-records n ns) book text rows words′ said) h
+pub read-left : (n : ℕ) (ns : List Node) (book : Book) (text : List ℕ) (said : Reply) (fs : List ℕ) (book′ : Book) → Sound (take 256 ns) → length (node-rows ns) ≡ 65792
+    → ReadPromise (lent-records n ns) book text fs book′ said
+    → ReadPromise (lent-records n ns) book text (node-rows (with-rows fs ns)) book′ said × Left ns (with-rows fs ns) said
+read-left n ns book text said fs book′ sound long h =
+    left ns sound long (leaves (lent-records n ns)) fs (read-rows n ns book text (ring said fs book′) h) said
+    (λ q. read-call-keeps (lent-records n ns) book text (ring said fs book′) h q .0)
+    (λ (rows : List ℕ). ReadPromise (lent-records n ns) book text rows book′ said) h

@@ -19,7 +19,7 @@ pub fn write(n: usize, nodes: &[Node], bytes: &mut [u8]) -> Answer
 // Reads a tree text for n leaves, lent without zeros after it: the node table gets its tree, and the book is emptied. Answers the count of groups, 0;
 // or refuses (1, 2, 12), and leaves every table as it was.
 pub fn read(n: usize, nodes: &mut [Node], book: &mut [u64], text: &[u8]) -> Answer
-    ensures { λ r. ⌜ ReadPromise (lent-records n (now (nodes .entry))) (lent-book (now (book .entry)) 0) (now (text .entry)) (node-rows (now (nodes .exit))) (now (book .exit)) (report r) × Left (now (nodes .entry)) (now (nodes .exit)) (report r) ⌝ }
+    ensures { λ r. ⌜ ReadPromise (lent-records n (now (nodes .entry))) (lent-book (now (book .entry)) 0) (now (text .entry)) (node-rows (now (nodes .exit))) (lent-book (now (book .exit)) 0) (report r) × Left (now (nodes .entry)) (now (nodes .exit)) (report r) ⌝ }
 {
     let mut flat = [0u16; 65792];
     let have = record_copy::load(nodes, &mut flat);

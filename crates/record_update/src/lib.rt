@@ -10,7 +10,7 @@ use spec_calls::Answer;
 // Opens a ring of n leaves: its node table gets the fresh tree, and its book is emptied. Answers the count of groups, 0; or refuses (1, 2), and
 // leaves every table as it was.
 pub fn open(n: usize, nodes: &mut [Node], book: &mut [u64]) -> Answer
-    ensures { λ r. ⌜ OpenPromise (lent-records n (now (nodes .entry))) (lent-book (now (book .entry)) 0) (node-rows (now (nodes .exit))) (now (book .exit)) (report r) × Left (now (nodes .entry)) (now (nodes .exit)) (report r) ⌝ }
+    ensures { λ r. ⌜ OpenPromise (lent-records n (now (nodes .entry))) (lent-book (now (book .entry)) 0) (node-rows (now (nodes .exit))) (lent-book (now (book .exit)) 0) (report r) × Left (now (nodes .entry)) (now (nodes .exit)) (report r) ⌝ }
 {
     let mut flat = [0u16; 65792];
     let have = record_copy::load(nodes, &mut flat);
@@ -22,7 +22,7 @@ pub fn open(n: usize, nodes: &mut [Node], book: &mut [u64]) -> Answer
 // Joins the list's group: the node table gets the new tree, and the group takes the book's next place. Answers the new count of groups; or refuses (1
 // to 8), and leaves every table as it was.
 pub fn join(n: usize, nodes: &mut [Node], book: &mut [u64], count: usize, list: &[u16]) -> Answer
-    ensures { λ r. ⌜ JoinPromise (lent-records n (now (nodes .entry))) (lent-book (now (book .entry)) count) (now (list .entry)) (node-rows (now (nodes .exit))) (now (book .exit)) (report r) × Left (now (nodes .entry)) (now (nodes .exit)) (report r) ⌝ }
+    ensures { λ r. ⌜ JoinPromise (lent-records n (now (nodes .entry))) (lent-book (now (book .entry)) count) (now (list .entry)) (node-rows (now (nodes .exit))) (lent-book (now (book .exit)) count) (report r) × Left (now (nodes .entry)) (now (nodes .exit)) (report r) ⌝ }
 {
     let mut flat = [0u16; 65792];
     let have = record_copy::load(nodes, &mut flat);

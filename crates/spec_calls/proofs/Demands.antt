@@ -22,7 +22,7 @@ use Rattle.spec_orders.proofs.Joining.{join-none, join-some}
 use Rattle.spec_calls.specs.declared.Refusal.{Refusal}
 use Rattle.spec_calls.specs.declared.Refusal.the-variants.{RingSize, ShortTable, OutsideRing, Repeated, BookFull, Impossible}
 use Rattle.spec_calls.specs.Tables.{Nodes, leaves, Book, over}
-use Rattle.spec_calls.specs.Book.{booked}
+use Rattle.spec_calls.specs.Book.{with-group}
 use Rattle.spec_calls.specs.NodeTable.{held-tree}
 use Rattle.spec_calls.specs.Refusals.{Reply, reply, refuse, first-refusal, bad-size, short, short-nodes, bad-leaf, list-checks}
 use Rattle.spec_calls.specs.Calls.{filled-as, is-none, table-checks, joined-tree, join-refusal, joined, join-call, order-refusal, order-call}
@@ -150,13 +150,13 @@ module _ (nodes : Nodes) (book : Book) (list : List ℕ) (t : Forest) (h : LentT
 
   -- A group that is not impossible is accepted.
   pub join-done : join-call nodes book list .answer ≢ reply 8 0
-      → (join-call nodes book list .answer ≡ reply 0 (book .count + 1)) × (join-call nodes book list .words ≡ booked (book .words) (book .count) (group-of (nodes .bins) list))
+      → (join-call nodes book list .answer ≡ reply 0 (book .count + 1)) × (join-call nodes book list .book ≡ with-group book (group-of (nodes .bins) list))
   unfolding join-call joined
   join-done = rw (the-refusal, the-joined) (by-answer (join (group-of (nodes .bins) list) t))
     where
       by-answer : (o : Option Forest) → joined (first-refusal (refuse (is-none o) Impossible ∷ [])) o nodes book list .answer ≢ reply 8 0
           → (joined (first-refusal (refuse (is-none o) Impossible ∷ [])) o nodes book list .answer ≡ reply 0 (book .count + 1))
-          × (joined (first-refusal (refuse (is-none o) Impossible ∷ [])) o nodes book list .words ≡ booked (book .words) (book .count) (group-of (nodes .bins) list))
+          × (joined (first-refusal (refuse (is-none o) Impossible ∷ [])) o nodes book list .book ≡ with-group book (group-of (nodes .bins) list))
       by-answer none q = absurd (q refl)
       by-answer (some u) q = (refl, refl)
 

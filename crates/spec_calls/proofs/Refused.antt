@@ -22,7 +22,7 @@ use Rattle.spec_calls.proofs.Demands.{Fine, fine-more}
 
 -- "Left as it was: every table."
 abbrev pub Keeps : Ring → Nodes → Book → Type 0
-Keeps x nodes book = x .answer .number ≢ 0 → (x .rows ≡ nodes .rows) × (x .words ≡ book .words)
+Keeps x nodes book = x .answer .number ≢ 0 → (x .rows ≡ nodes .rows) × (x .book ≡ book)
 
 opened-keeps : (o : Option Refusal) (nodes : Nodes) (book : Book) → Keeps (opened o nodes book) nodes book
 unfolding opened

@@ -7,7 +7,7 @@ use lib.ListN.{take, drop, replicate}
 use Rattle.spec_orders.specs.Lists.{numbers-from, same, all-of}
 use Rattle.spec_orders.specs.CircularOrder.{Restriction}
 use Rattle.mark_words.specs.Marks.{marked, words-of, leaves-of}
-use Rattle.spec_calls.specs.Tables.{Book, over}
+use Rattle.spec_calls.specs.Tables.{Book, lent-book, over}
 
 -- The four words of the group at place k, from 0.
 abbrev pub group-words : List ℕ → ℕ → List ℕ
@@ -36,3 +36,10 @@ booked words k G = take (4 * k) words ++ (words-of 4 G ++ drop (4 * k + 4) words
 -- The words of the book emptied: 384 zeros.
 unfoldable pub emptied : List ℕ → List ℕ
 emptied words = over (replicate 384 0) words
+
+-- The book as a call leaves it: with the group in its next place; emptied. The count is the one that was lent.
+abbrev pub with-group : Book → Restriction → Book
+with-group book G = lent-book (booked (book .words) (book .count) G) (book .count)
+
+abbrev pub without-groups : Book → Book
+without-groups book = lent-book (emptied (book .words)) (book .count)

@@ -18,22 +18,22 @@ use Rattle.mark_words.specs.Marks.{marked}
 use Rattle.spec_calls.specs.declared.Refusal.{Refusal}
 use Rattle.spec_calls.specs.declared.Refusal.the-variants.{RingSize, ShortTable, NotInForm, BookFull, Impossible, NoSuchGroup, NotConsecutive, TreeText}
 use Rattle.spec_calls.specs.Tables.{Nodes, leaves, Book, over, padded}
-use Rattle.spec_calls.specs.Book.{group-words, book-in-form?, booked, emptied}
+use Rattle.spec_calls.specs.Book.{group-words, book-in-form?, with-group, without-groups}
 use Rattle.spec_calls.specs.NodeTable.{table-of, held-tree}
 use Rattle.spec_calls.specs.Refusals.{Reply, reply, reported, refuse, first-refusal, bad-size, short, short-nodes, list-checks}
 
--- A call that may change a ring's tables: what it returns, and the rows and the words afterwards.
+-- A call that may change a ring's tables: what it returns, and the rows and the book afterwards.
 pub record Ring : Type 0 where
   pub answer : Reply
   pub rows : List ℕ
-  pub words : List ℕ
+  pub book : Book
 
-abbrev pub ring : Reply → List ℕ → List ℕ → Ring
-ring answer rows words = record { answer = answer; rows = rows; words = words }
+abbrev pub ring : Reply → List ℕ → Book → Ring
+ring answer rows book = record { answer = answer; rows = rows; book = book }
 
 -- A refusal, and both tables as they were.
 abbrev pub unchanged : Refusal → Nodes → Book → Ring
-unchanged r nodes book = ring (reported r) (nodes .rows) (book .words)
+unchanged r nodes book = ring (reported r) (nodes .rows) book
 
 -- A call that fills one table: what it returns, and the table afterwards.
 pub record Filled : Type 0 where
@@ -70,7 +70,7 @@ open-refusal nodes book = first-refusal (table-checks nodes (short 384 (book .wo
 
 unfoldable pub opened : Option Refusal → Nodes → Book → Ring
 opened (some r) nodes book = unchanged r nodes book
-opened none nodes book = ring (reply 0 0) (over (table-of (fresh (leaves nodes))) (nodes .rows)) (emptied (book .words))
+opened none nodes book = ring (reply 0 0) (over (table-of (fresh (leaves nodes))) (nodes .rows)) (without-groups book)
 
 unfoldable pub open-call : Nodes → Book → Ring
 open-call nodes book = opened (open-refusal nodes book) nodes book
@@ -89,7 +89,7 @@ join-refusal nodes book list =
 unfoldable pub joined : Option Refusal → Option Forest → Nodes → Book → List ℕ → Ring
 joined (some r) t nodes book list = unchanged r nodes book
 joined none t nodes book list =
-    ring (reply 0 (book .count + 1)) (with-tree t (nodes .rows)) (booked (book .words) (book .count) (group-of (nodes .bins) list))
+    ring (reply 0 (book .count + 1)) (with-tree t (nodes .rows)) (with-group book (group-of (nodes .bins) list))
 
 unfoldable pub join-call : Nodes → Book → List ℕ → Ring
 join-call nodes book list = joined (join-refusal nodes book list) (joined-tree nodes list) nodes book list
@@ -125,7 +125,7 @@ write-call nodes bytes =
 -- The tree text, read: checks 1, 2 and 12; the tree, an empty book. Answers the count of the book's groups, 0.
 unfoldable pub read-outcome : Found → Nodes → Book → Ring
 read-outcome (refused p) nodes book = unchanged (TreeText p) nodes book
-read-outcome (tree t) nodes book = ring (reply 0 0) (over (table-of t) (nodes .rows)) (emptied (book .words))
+read-outcome (tree t) nodes book = ring (reply 0 0) (over (table-of t) (nodes .rows)) (without-groups book)
 
 pub data ReadCall (nodes : Nodes) (book : Book) (text : List ℕ) : Ring → Type 0 where
   unread : {r : Refusal} → open-refusal nodes book ≡ some r → ReadCall nodes book text (unchanged r nodes book)

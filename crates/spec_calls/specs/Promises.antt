@@ -8,11 +8,11 @@ use Rattle.spec_calls.specs.Refusals.{Reply}
 use Rattle.spec_calls.specs.Calls.{ring, filled-as, open-call, join-call, trial-call, order-call, aim-call, write-call, ReadCall, conflict-call}
 use Rattle.spec_calls.specs.Demands.{JoinDemand, TrialDemand, OrderDemand, ConflictDemand}
 
-abbrev pub OpenPromise : Nodes → Book → List ℕ → List ℕ → Reply → Type 0
-OpenPromise nodes book rows′ words′ said = ring said rows′ words′ ≡ open-call nodes book
+abbrev pub OpenPromise : Nodes → Book → List ℕ → Book → Reply → Type 0
+OpenPromise nodes book rows′ book′ said = ring said rows′ book′ ≡ open-call nodes book
 
-abbrev pub JoinPromise : Nodes → Book → List ℕ → List ℕ → List ℕ → Reply → Type 0
-JoinPromise nodes book list rows′ words′ said = (ring said rows′ words′ ≡ join-call nodes book list) × JoinDemand nodes book list said rows′
+abbrev pub JoinPromise : Nodes → Book → List ℕ → List ℕ → Book → Reply → Type 0
+JoinPromise nodes book list rows′ book′ said = (ring said rows′ book′ ≡ join-call nodes book list) × JoinDemand nodes book list said rows′
 
 abbrev pub TrialPromise : Nodes → Book → List ℕ → Reply → Type 0
 TrialPromise nodes book list said = (said ≡ trial-call nodes book list) × TrialDemand nodes book list said
@@ -26,8 +26,8 @@ AimPromise nodes book group said = said ≡ aim-call nodes book group
 abbrev pub WritePromise : Nodes → List ℕ → List ℕ → Reply → Type 0
 WritePromise nodes bytes bytes′ said = filled-as said bytes′ ≡ write-call nodes bytes
 
-abbrev pub ReadPromise : Nodes → Book → List ℕ → List ℕ → List ℕ → Reply → Type 0
-ReadPromise nodes book text rows′ words′ said = ReadCall nodes book text (ring said rows′ words′)
+abbrev pub ReadPromise : Nodes → Book → List ℕ → List ℕ → Book → Reply → Type 0
+ReadPromise nodes book text rows′ book′ said = ReadCall nodes book text (ring said rows′ book′)
 
 abbrev pub ConflictPromise : ℕ → Book → List ℕ → List ℕ → List ℕ → Reply → Type 0
 ConflictPromise n book list conflicts conflicts′ said =

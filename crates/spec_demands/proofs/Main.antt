@@ -23,18 +23,18 @@ use Rattle.spec_demands.proofs.RoundTrip.{lent-again, written-read, rea
 pub first-demand : FirstDemand
 unfolding open-call join-call trial-call order-call aim-call write-call conflict-call
 first-demand = record {
-  opening = λ nodes book rows′ words′ said e.
-      ring-by-the-table nodes book (open-refusal nodes book) 0 (ring said rows′ words′) (open-call nodes book) e (open-answer (open-refusal nodes book) nodes book) (open-keeps nodes book);
-  joining = λ nodes book list rows′ words′ said e.
-      ring-by-the-table nodes book (join-refusal nodes book list) (book .count + 1) (ring said rows′ words′) (join-call nodes book list) (e .0)
+  opening = λ nodes book rows′ book′ said e.
+      ring-by-the-table nodes book (open-refusal nodes book) 0 (ring said rows′ book′) (open-call nodes book) e (open-answer (open-refusal nodes book) nodes book) (open-keeps nodes book);
+  joining = λ nodes book list rows′ book′ said e.
+      ring-by-the-table nodes book (join-refusal nodes book list) (book .count + 1) (ring said rows′ book′) (join-call nodes book list) (e .0)
       (join-answer (join-refusal nodes book list) (joined-tree nodes list) nodes book list) (join-keeps nodes book list);
   trial = λ nodes book list said e.
       by-the-table (join-refusal nodes book list) (book .count + 1) said (e .0 ∙ join-answer (join-refusal nodes book list) (joined-tree nodes list) nodes book list) (λ q. tt);
   ordering = λ nodes order order′ said e. filled-by-the-table _ _ _ order order′ said (e .0);
   aiming = λ nodes book group said e. by-the-table _ _ said e (λ q. tt);
   writing = λ nodes bytes bytes′ said e. filled-by-the-table _ _ _ bytes bytes′ said e;
-  reading = λ nodes book text rows′ words′ said c must m.
-      by-the-table must 0 said (read-answer nodes book text must m (ring said rows′ words′) c) (read-call-keeps nodes book text (ring said rows′ words′) c);
+  reading = λ nodes book text rows′ book′ said c must m.
+      by-the-table must 0 said (read-answer nodes book text must m (ring said rows′ book′) c) (read-call-keeps nodes book text (ring said rows′ book′) c);
   any-text = some-refusal;
   conflict = λ n book list conflicts conflicts′ said e. filled-by-the-table _ _ _ conflicts conflicts′ said (e .0);
 }
@@ -44,14 +44,14 @@ order-written : (nodes : Nodes) (t : Forest) → LentTree nodes t → (order ord
     → OrderPromise nodes order order′ said → (said ≡ reply 0 (nodes .bins)) × StandardOrder t (take (nodes .bins) order′)
 order-written nodes t h order order′ said l e = (ap (λ (x : Filled). x .answer) (e .0 ∙ order-done nodes order t h l), e .1 t h l)
 
-module _ (nodes : Nodes) (book : Book) (list : List ℕ) (t : Forest) (a : Asked nodes book list t) (rows′ words′ : List ℕ) (said : Reply) (e : JoinPromise nodes book list rows′ words′ said) where
-  new-ring : said ≢ reply 8 0 → NewRing nodes book (group-of (nodes .bins) list) t rows′ words′ said
+module _ (nodes : Nodes) (book : Book) (list : List ℕ) (t : Forest) (a : Asked nodes book list t) (rows′ : List ℕ) (book′ : Book) (said : Reply) (e : JoinPromise nodes book list rows′ book′ said) where
+  new-ring : said ≢ reply 8 0 → NewRing nodes book (group-of (nodes .bins) list) t rows′ book′ said
   new-ring q =
       let j = e .1 t (a .tree) (a .groups) (a .place-left) (a .group) .otherwise q in
       let d = join-done nodes book list t (a .tree) (a .groups) (a .place-left) (a .group) (λ z. q (ap (λ (x : Ring). x .answer) (e .0) ∙ z)) in
       record {
         accepted = ap (λ (x : Ring). x .answer) (e .0) ∙ d .0;
-        in-book = ap (λ (x : Ring). x .words) (e .0) ∙ d .1;
+        in-book = ap (λ (x : Ring). x .book) (e .0) ∙ d .1;
         new = j .new;
         held = j .held;
         orders = j .orders;
@@ -63,10 +63,10 @@ module _ (nodes : Nodes) (book : Book) (list : List ℕ) (t : Forest) (a : Asked
 pub second-demand : SecondDemand
 unfolding trial-call
 second-demand = record {
-  joining = λ nodes book list t a rows′ words′ said e.
-      (e .1 t (a .tree) (a .groups) (a .place-left) (a .group) .impossible, new-ring nodes book list t a rows′ words′ said e);
+  joining = λ nodes book list t a rows′ book′ said e.
+      (e .1 t (a .tree) (a .groups) (a .place-left) (a .group) .impossible, new-ring nodes book list t a rows′ book′ said e);
   trial = λ nodes book list t a said e. e .1 t (a .tree) (a .groups) (a .place-left) (a .group);
-  as-joining = λ nodes book list rows′ words′ said tried e f. f .0 ∙ sym (ap (λ (x : Ring). x .answer) (e .0));
+  as-joining = λ nodes book list rows′ book′ said tried e f. f .0 ∙ sym (ap (λ (x : Ring). x .answer) (e .0));
   standard = order-written;
   written-read = written-read;
   read-written = read-written;

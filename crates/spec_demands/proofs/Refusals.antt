@@ -32,7 +32,7 @@ by-the-table none v said e k = record {
 }
 
 pub ring-by-the-table : (nodes : Nodes) (book : Book) (must : Option Refusal) (v : ℕ) (x y : Ring) → x ≡ y → y .answer ≡ answered must v → Keeps y nodes book
-    → ByTheTable must (x .answer) ((x .rows ≡ nodes .rows) × (x .words ≡ book .words))
+    → ByTheTable must (x .answer) ((x .rows ≡ nodes .rows) × (x .book ≡ book))
 ring-by-the-table nodes book must v x y e a k =
     by-the-table must v (x .answer) (ap (λ (z : Ring). z .answer) e ∙ a) (subst (λ (z : Ring). Keeps z nodes book) (sym e) k)
 

@@ -68,9 +68,9 @@ module _ (nodes : Nodes) (t : Forest) (h : LentTree nodes t) (bytes bytes′ : L
   unfolding read-outcome
   written-read = record {
     done = ap (λ (x : Filled). x .answer .number) written;
-    same-tree = λ other book s o rows′ words′ said c.
+    same-tree = λ other book s o rows′ book′ said c.
         let form = subst (λ k. InForm k t) (sym s) (h .tree .in-form) in
-        let y = read-call-once (subst (λ x. ReadCall other book x (ring said rows′ words′)) written-text c) (read {f = tree t} o (accepted form refl)) in
+        let y = read-call-once (subst (λ x. ReadCall other book x (ring said rows′ book′)) written-text c) (read {f = tree t} o (accepted form refl)) in
         (ap (λ (x : Ring). x .answer) y, subst (λ k. Holds k rows′ t) s (subst (λ r. Holds (other .bins) r t) (sym (ap (λ (x : Ring). x .rows) y)) (read-holds other book t o form)));
   }
 
@@ -88,12 +88,12 @@ read-tree nodes book text y (read {f = f} p r) e = go f r e
     go (tree t) (accepted g q) e = (t, q, p, read-holds nodes book t p g)
     go (Found.refused q) r e = absurd (refused-number (TreeText q) e)
 
-pub read-written : (nodes : Nodes) (book : Book) (text rows′ words′ : List ℕ) (said : Reply) → ReadPromise nodes book text rows′ words′ said → said .number ≡ 0
+pub read-written : (nodes : Nodes) (book : Book) (text rows′ : List ℕ) (book′ : Book) (said : Reply) → ReadPromise nodes book text rows′ book′ said → said .number ≡ 0
     → (records : ℕ) (bytes bytes′ : List ℕ) (wrote : Reply) → 256 ≤ records → 2048 ≤ length bytes → WritePromise (same-ring nodes records rows′) bytes bytes′ wrote
     → (wrote ≡ reply 0 (length text)) × (take 2048 bytes′ ≡ padded 2048 text)
 unfolding open-refusal
-read-written nodes book text rows′ words′ said c z records bytes bytes′ wrote r long e =
-    let (t, q, o, h) = read-tree nodes book text (ring said rows′ words′) c z in
+read-written nodes book text rows′ book′ said c z records bytes bytes′ wrote r long e =
+    let (t, q, o, h) = read-tree nodes book text (ring said rows′ book′) c z in
     let k = tables-whole nodes (short 384 (book .words)) o in
     let w = written (same-ring nodes records rows′) t (lent-again (nodes .bins) records rows′ t (k .0) (k .1) r h) bytes bytes′ wrote long e in
     let few = text-length (nodes .bins) t (h .in-form) (k .1) in

@@ -17,7 +17,7 @@ use Rattle.spec_orders.specs.Conflict.{Numbers}
 use Rattle.spec_calls.specs.declared.Refusal.{Refusal}
 use Rattle.spec_calls.specs.declared.Refusal.the-variants.{TreeText}
 use Rattle.spec_calls.specs.Tables.{Nodes, leaves, same-ring, Book, padded}
-use Rattle.spec_calls.specs.Book.{booked}
+use Rattle.spec_calls.specs.Book.{with-group}
 use Rattle.spec_calls.specs.NodeTable.{Holds}
 use Rattle.spec_calls.specs.Refusals.{Reply, reply, reported}
 use Rattle.spec_calls.specs.Calls.{open-refusal, join-refusal, order-refusal, aim-refusal, write-refusal, conflict-refusal, conflicts-of, group-numbered}
@@ -43,10 +43,10 @@ pub data ReadRefusal (nodes : Nodes) (book : Book) (text : List ℕ) : Option Re
 
 -- Every call that is lent tables. (11 is the refusal of the ring file's functions, which write no table: `Says`, file_read/specs/RingFile.)
 pub record FirstDemand : Type 0 where
-  pub opening : (nodes : Nodes) (book : Book) (rows′ words′ : List ℕ) (said : Reply) → OpenPromise nodes book rows′ words′ said
-      → ByTheTable (open-refusal nodes book) said ((rows′ ≡ nodes .rows) × (words′ ≡ book .words))
-  pub joining : (nodes : Nodes) (book : Book) (list rows′ words′ : List ℕ) (said : Reply) → JoinPromise nodes book list rows′ words′ said
-      → ByTheTable (join-refusal nodes book list) said ((rows′ ≡ nodes .rows) × (words′ ≡ book .words))
+  pub opening : (nodes : Nodes) (book : Book) (rows′ : List ℕ) (book′ : Book) (said : Reply) → OpenPromise nodes book rows′ book′ said
+      → ByTheTable (open-refusal nodes book) said ((rows′ ≡ nodes .rows) × (book′ ≡ book))
+  pub joining : (nodes : Nodes) (book : Book) (list rows′ : List ℕ) (book′ : Book) (said : Reply) → JoinPromise nodes book list rows′ book′ said
+      → ByTheTable (join-refusal nodes book list) said ((rows′ ≡ nodes .rows) × (book′ ≡ book))
   pub trial : (nodes : Nodes) (book : Book) (list : List ℕ) (said : Reply) → TrialPromise nodes book list said
       → ByTheTable (join-refusal nodes book list) said (Unit {0})
   pub ordering : (nodes : Nodes) (order order′ : List ℕ) (said : Reply) → OrderPromise nodes order order′ said
@@ -55,8 +55,8 @@ pub record FirstDemand : Type 0 where
       → ByTheTable (aim-refusal nodes book group) said (Unit {0})
   pub writing : (nodes : Nodes) (bytes bytes′ : List ℕ) (said : Reply) → WritePromise nodes bytes bytes′ said
       → ByTheTable (write-refusal nodes bytes) said (bytes′ ≡ bytes)
-  pub reading : (nodes : Nodes) (book : Book) (text rows′ words′ : List ℕ) (said : Reply) → ReadPromise nodes book text rows′ words′ said
-      → (must : Option Refusal) → ReadRefusal nodes book text must → ByTheTable must said ((rows′ ≡ nodes .rows) × (words′ ≡ book .words))
+  pub reading : (nodes : Nodes) (book : Book) (text rows′ : List ℕ) (book′ : Book) (said : Reply) → ReadPromise nodes book text rows′ book′ said
+      → (must : Option Refusal) → ReadRefusal nodes book text must → ByTheTable must said ((rows′ ≡ nodes .rows) × (book′ ≡ book))
   -- There is such an answer to every text.
   pub any-text : (nodes : Nodes) (book : Book) (text : List ℕ) → (must : Option Refusal) × ReadRefusal nodes book text must
   pub conflict : (n : ℕ) (book : Book) (list conflicts conflicts′ : List ℕ) (said : Reply) → ConflictPromise n book list conflicts conflicts′ said
@@ -74,9 +74,9 @@ pub record Asked (nodes : Nodes) (book : Book) (list : List ℕ) (t : Forest) : 
 
 -- "Otherwise the new tree allows exactly those that do, and the standard order is the first of them." The group is accepted, and the rows hold the
 -- new tree. Who then calls for its standard order, with these rows in 256 records or more, has the first of those orders in the n places.
-pub record NewRing (nodes : Nodes) (book : Book) (G : Restriction) (t : Forest) (rows′ words′ : List ℕ) (said : Reply) : Type 0 where
+pub record NewRing (nodes : Nodes) (book : Book) (G : Restriction) (t : Forest) (rows′ : List ℕ) (book′ : Book) (said : Reply) : Type 0 where
   pub accepted : said ≡ reply 0 (book .count + 1)
-  pub in-book : words′ ≡ booked (book .words) (book .count) G
+  pub in-book : book′ ≡ with-group book G
   pub new : Forest
   pub held : Holds (leaves nodes) rows′ new
   pub orders : (ord : List ℕ) → Allowed new ord ↔ (Allowed t ord × Consecutive G ord)
@@ -87,19 +87,19 @@ pub record NewRing (nodes : Nodes) (book : Book) (G : Restriction) (t : Forest) 
 -- whole, leave rows that hold t.
 pub record ReadsBack (n : ℕ) (t : Forest) (bytes′ : List ℕ) (wrote : Reply) : Type 0 where
   pub done : wrote .number ≡ 0
-  pub same-tree : (nodes : Nodes) (book : Book) → leaves nodes ≡ n → open-refusal nodes book ≡ none → (rows′ words′ : List ℕ) (said : Reply)
-      → ReadPromise nodes book (take (wrote .value) bytes′) rows′ words′ said → (said ≡ reply 0 0) × Holds n rows′ t
+  pub same-tree : (nodes : Nodes) (book : Book) → leaves nodes ≡ n → open-refusal nodes book ≡ none → (rows′ : List ℕ) (book′ : Book) (said : Reply)
+      → ReadPromise nodes book (take (wrote .value) bytes′) rows′ book′ said → (said ≡ reply 0 0) × Holds n rows′ t
 
 pub record SecondDemand : Type 0 where
   -- "'Impossible' [8] is answered if and only if no ring order allowed by the tree hangs the group together."
   pub joining : (nodes : Nodes) (book : Book) (list : List ℕ) (t : Forest) → Asked nodes book list t
-      → (rows′ words′ : List ℕ) (said : Reply) → JoinPromise nodes book list rows′ words′ said
-      → ImpossibleIff (group-of (nodes .bins) list) t said × (said ≢ reply 8 0 → NewRing nodes book (group-of (nodes .bins) list) t rows′ words′ said)
+      → (rows′ : List ℕ) (book′ : Book) (said : Reply) → JoinPromise nodes book list rows′ book′ said
+      → ImpossibleIff (group-of (nodes .bins) list) t said × (said ≢ reply 8 0 → NewRing nodes book (group-of (nodes .bins) list) t rows′ book′ said)
   -- A trial answers so too, and always as joining would.
   pub trial : (nodes : Nodes) (book : Book) (list : List ℕ) (t : Forest) → Asked nodes book list t
       → (said : Reply) → TrialPromise nodes book list said → ImpossibleIff (group-of (nodes .bins) list) t said
-  pub as-joining : (nodes : Nodes) (book : Book) (list rows′ words′ : List ℕ) (said tried : Reply)
-      → JoinPromise nodes book list rows′ words′ said → TrialPromise nodes book list tried → tried ≡ said
+  pub as-joining : (nodes : Nodes) (book : Book) (list rows′ : List ℕ) (book′ : Book) (said tried : Reply)
+      → JoinPromise nodes book list rows′ book′ said → TrialPromise nodes book list tried → tried ≡ said
   -- The standard order of any tree is the first that it allows.
   pub standard : (nodes : Nodes) (t : Forest) → LentTree nodes t → (order order′ : List ℕ) (said : Reply) → nodes .bins ≤ length order
       → OrderPromise nodes order order′ said → (said ≡ reply 0 (nodes .bins)) × StandardOrder t (take (nodes .bins) order′)
@@ -107,7 +107,7 @@ pub record SecondDemand : Type 0 where
   pub written-read : (nodes : Nodes) (t : Forest) → LentTree nodes t → (bytes bytes′ : List ℕ) (wrote : Reply) → 2048 ≤ length bytes
       → WritePromise nodes bytes bytes′ wrote → ReadsBack (leaves nodes) t bytes′ wrote
   -- "An accepted text written again is the same text": its length is answered, and the 2,048 bytes are the text and zeros.
-  pub read-written : (nodes : Nodes) (book : Book) (text rows′ words′ : List ℕ) (said : Reply) → ReadPromise nodes book text rows′ words′ said
+  pub read-written : (nodes : Nodes) (book : Book) (text rows′ : List ℕ) (book′ : Book) (said : Reply) → ReadPromise nodes book text rows′ book′ said
       → said .number ≡ 0 → (records : ℕ) (bytes bytes′ : List ℕ) (wrote : Reply) → 256 ≤ records → 2048 ≤ length bytes
       → WritePromise (same-ring nodes records rows′) bytes bytes′ wrote
       → (wrote ≡ reply 0 (length text)) × (take 2048 bytes′ ≡ padded 2048 text)

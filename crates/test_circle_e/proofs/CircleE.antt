@@ -30,7 +30,7 @@ abbrev nodes-of : Ring → Nodes
 nodes-of r = lent-nodes 5 256 (r .rows)
 
 abbrev book-of : Ring → ℕ → Book
-book-of r count = lent-book (r .words) count
+book-of r count = lent-book (r .book .words) count
 
 -- What is asked of the ring of circle e.
 abbrev right-e : Ring → Bool
@@ -39,7 +39,7 @@ right-e e =
     && (same (take 6 (e .rows)) (2 ∷ 3 ∷ 257 ∷ 5 ∷ 3 ∷ 0 ∷ [])
     && (same (take 5 (drop 257 (e .rows))) (1 ∷ 2 ∷ 2 ∷ 4 ∷ 0 ∷ [])
     && (same (drop 65792 (e .rows)) (7 ∷ [])
-    && (same (take 9 (e .words)) (5 ∷ 0 ∷ 0 ∷ 0 ∷ 20 ∷ 0 ∷ 0 ∷ 0 ∷ 0 ∷ [])
+    && (same (take 9 (e .book .words)) (5 ∷ 0 ∷ 0 ∷ 0 ∷ 20 ∷ 0 ∷ 0 ∷ 0 ∷ 0 ∷ [])
     && (says (trial-call (nodes-of e) (book-of e 2) (1 ∷ 5 ∷ [])) 8 0
     && (says (trial-call (nodes-of e) (book-of e 2) (2 ∷ 4 ∷ [])) 0 3
     && (same (conflict-call 5 (book-of e 2) (1 ∷ 5 ∷ []) (replicate 97 7) .table) (1 ∷ 2 ∷ (replicate 94 0 ++ (7 ∷ [])))

@@ -10,7 +10,7 @@ use record_copy::Node;
 // Opens a ring of n leaves: its node table gets the fresh tree, and its book is emptied. The value is the count of groups, 0.
 #[no_mangle]
 pub extern "C" fn ring_open(n: usize, nodes: &mut [Node], book: &mut [u64], value: &mut usize) -> u8
-    ensures { λ r. ⌜ OpenPromise (lent-records n (now (nodes .entry))) (lent-book (now (book .entry)) 0) (node-rows (now (nodes .exit))) (now (book .exit)) (reply r (now (value .exit))) × Left (now (nodes .entry)) (now (nodes .exit)) (reply r (now (value .exit))) ⌝ }
+    ensures { λ r. ⌜ OpenPromise (lent-records n (now (nodes .entry))) (lent-book (now (book .entry)) 0) (node-rows (now (nodes .exit))) (lent-book (now (book .exit)) 0) (reply r (now (value .exit))) × Left (now (nodes .entry)) (now (nodes .exit)) (reply r (now (value .exit))) ⌝ }
 {
     let answer = record_calls::open(n, nodes, book);
     spec_calls::code(answer, value)
@@ -26,7 +26,7 @@ pub extern "C" fn ring_join(
     list: &[u16],
     value: &mut usize,
 ) -> u8
-    ensures { λ r. ⌜ JoinPromise (lent-records n (now (nodes .entry))) (lent-book (now (book .entry)) count) (now (list .entry)) (node-rows (now (nodes .exit))) (now (book .exit)) (reply r (now (value .exit))) × Left (now (nodes .entry)) (now (nodes .exit)) (reply r (now (value .exit))) ⌝ }
+    ensures { λ r. ⌜ JoinPromise (lent-records n (now (nodes .entry))) (lent-book (now (book .entry)) count) (now (list .entry)) (node-rows (now (nodes .exit))) (lent-book (now (book .exit)) count) (reply r (now (value .exit))) × Left (now (nodes .entry)) (now (nodes .exit)) (reply r (now (value .exit))) ⌝ }
 {
     let answer = record_calls::join(n, nodes, book, count, list);
     spec_calls::code(answer, value)
@@ -92,7 +92,7 @@ pub extern "C" fn ring_read(
     text: &[u8],
     value: &mut usize,
 ) -> u8
-    ensures { λ r. ⌜ ReadPromise (lent-records n (now (nodes .entry))) (lent-book (now (book .entry)) 0) (now (text .entry)) (node-rows (now (nodes .exit))) (now (book .exit)) (reply r (now (value .exit))) × Left (now (nodes .entry)) (now (nodes .exit)) (reply r (now (value .exit))) ⌝ }
+    ensures { λ r. ⌜ ReadPromise (lent-records n (now (nodes .entry))) (lent-book (now (book .entry)) 0) (now (text .entry)) (node-rows (now (nodes .exit))) (lent-book (now (book .exit)) 0) (reply r (now (value .exit))) × Left (now (nodes .entry)) (now (nodes .exit)) (reply r (now (value .exit))) ⌝ }
 {
     let answer = record_calls::read(n, nodes, book, text);
     spec_calls::code(answer, value)

@@ -11,7 +11,7 @@ returns : tie.Need-returns
 returns c =
     let a = c .before .before .before .before .before .before .before .before .before .before .before .before .before .before .args in
     let x = c .before .before .before .before .before .before .read .last in
-    coded (λ (have : ℕ). ReadPromise (lent-nodes (a .n) have (a .nodes .now)) (lent-book (a .book .now) 0) (a .text .now) (x .1 .0) (x .1 .1 .1 .0)) (c .before .before .before .before .before .before .before .before .before .records .ensures) (c .code .ensures) (c .before .before .before .before .before .before .read .ensures)
+    coded (λ (have : ℕ). ReadPromise (lent-nodes (a .n) have (a .nodes .now)) (lent-book (a .book .now) 0) (a .text .now) (x .1 .0) (lent-book (x .1 .1 .1 .0) 0)) (c .before .before .before .before .before .before .before .before .before .records .ensures) (c .code .ensures) (c .before .before .before .before .before .before .read .ensures)
 
 pub tokuwhape-read-spec : {M : Type 1} → statement M
 tokuwhape-read-spec =

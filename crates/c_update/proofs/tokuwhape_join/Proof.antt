@@ -11,7 +11,7 @@ returns : tie.Need-returns
 returns c =
     let a = c .before .before .before .before .before .before .before .before .before .before .before .before .before .before .args in
     let x = c .before .before .before .before .before .before .join .last in
-    coded (λ (have : ℕ). JoinPromise (lent-nodes (a .n) have (a .nodes .now)) (lent-book (a .book .now) (a .count)) (a .list .now) (x .1 .0) (x .1 .1 .1 .0)) (c .before .before .before .before .before .before .before .before .before .records .ensures) (c .code .ensures) (c .before .before .before .before .before .before .join .ensures)
+    coded (λ (have : ℕ). JoinPromise (lent-nodes (a .n) have (a .nodes .now)) (lent-book (a .book .now) (a .count)) (a .list .now) (x .1 .0) (lent-book (x .1 .1 .1 .0) (a .count))) (c .before .before .before .before .before .before .before .before .before .records .ensures) (c .code .ensures) (c .before .before .before .before .before .before .join .ensures)
 
 pub tokuwhape-join-spec : {M : Type 1} → statement M
 tokuwhape-join-spec =
