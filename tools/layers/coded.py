@@ -1,11 +1,12 @@
 """The walk of a function of crate test_records, over its proofs/Steps."""
 from layers.table import on_records
-from layers.text import MADE, imported
-from layers.walk import ANSWER, GIVEN, LAWFUL, MEMORY, USES, Context, Value, Walk, at, nest, operands, product, values
+from layers.walk import ANSWER, LAWFUL, USES, Value, Walk, at, nest, operands, product, values
 
 
 class Coded(Walk):
     """{ let answer = record_calls::NAME(..); code(answer, value) }"""
+
+    makes = ("call", "Call")
 
     def __init__(self, call, home):
         super().__init__(call, "test_records", "ring_" + call.name, False)
@@ -47,22 +48,7 @@ class Coded(Walk):
         shown = "(r, " + nest(at("ws", s.i) for s in self.written) + ")"
         says = f"Ensured {shown} (report r)"
         told = f"λ (r : {self.R}). sep 𝓤 (sem 𝓤 H A (Rest r)) (fact 𝓤 (Said r w))"
-        c = Context(["lasts", "rest"])
-        for s in self.slots:
-            c.split("fsplit", "lasts", "one", "lasts")
-            if s.mut:
-                c.split("fsplit", "one", "f-" + s.name, "eq")
-                c.move("eq")
-                c.say(f"feqL ! (λ m-{s.name}.")
-                c.items.pop(0)
-            else:
-                c.drop("one")
-        c.drop("lasts")
-        c.split("split", "rest", "toks", "result")
-        c.move("result")
-        c.say(f"facts ! {ANSWER} (Is {ANSWER}) (shows 𝓤 H A {ANSWER}) r (w ∷ []) (λ is.")
-        c.items.pop(0)
-        c.drained("toks", "split", ["t-" + s.name for s in self.tables])
+        c = self.after_call([s.mut and s.name for s in self.slots])
         c.say(f"at-once ! $ show ! ({told}) {shown} $ says ! {nest(['is'] + [f'm-{s.name}' for s in self.written], 'e')} $")
         c.nothing("all")
         for s in reversed(self.tables):
@@ -142,25 +128,14 @@ class Coded(Walk):
         yield f"{core} as call\n{core}.Symbol as call-def\n{core}.Met as call-thm"
         yield self.of_code()
 
-    def body(self):
-        known = [("call", "Call", f"{self.home}·{self.call.name}"), ("code", "Code", "spec_calls·code")]
-        yield from self.stayed()
-        yield f"abbrev Call : {{M : Type 1}} {GIVEN} {MEMORY} → Contract 𝓤"
-        yield "Call 𝓤 H A mem run = tripleOf 𝓤 H A call.signature (call.spec 𝓤 H A mem run)\n"
-        yield f"module _ {{M : Type 1}} {GIVEN} (W : Given 𝓤 H A) {MEMORY}{''.join(s.bound for s in self.all)} where"
-        yield "  abbrev s : RefT ℕ\n  s = number b o γ v\n"
-        for s in self.tables:
-            yield s.named
-        yield from self.stated()
-        yield from self.said()
-        yield from self.post(known)
-        self.numbered()
-        self.c = Context([f"{z}{k}" for k in range(self.locals - 1, -1, -1) for z in "LD"] + ["toks", "owns"])
-        yield from self.walk([*self.entered(), *self.together(), *self.called(), *self.freed(), *self.ended()])
-        yield from self.met(known)
+    def known(self):
+        return [("call", "Call", f"{self.home}·{self.call.name}"), ("code", "Code", "spec_calls·code")]
 
-    def proof(self):
-        yield f"-- `test_records::{self.name}` meets its contract: a walk of its MIR, whose two calls are steps of proofs/Steps. {MADE}"
-        body = list(self.body())
-        yield from imported(self.imports(), body)
-        yield from body
+    def opened(self):
+        yield "  abbrev s : RefT ℕ\n  s = number b o γ v\n"
+
+    def steps(self):
+        return [*self.entered(), *self.together(), *self.called(), *self.freed(), *self.ended()]
+
+    def about(self):
+        return f"`test_records::{self.name}` meets its contract: a walk of its MIR, whose two calls are steps of proofs/Steps."

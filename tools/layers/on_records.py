@@ -1,12 +1,13 @@
 """The walk of a call of crate record_NAME, over record_copy/proofs/Steps."""
 from layers.table import lent, of_book, promise
-from layers.text import MADE, imported
-from layers.walk import ANSWER, GIVEN, LAWFUL, MEMORY, USES, Context, Walk, at, load, nest, operands, product, sub, values
+from layers.walk import ANSWER, LAWFUL, USES, Context, Walk, at, load, nest, operands, product, sub, values
 
 
 class OnRecords(Walk):
     """{ let mut flat = [0u16; 65792]; let have = load(nodes, &mut flat); let r = core(.., &mut flat, have, ..); store(&flat, nodes); r } where nodes are
     written, and where they are not { let mut flat = [0u16; 65792]; let have = load(nodes, &mut flat); core(.., &flat, have, ..) }."""
+
+    makes = ("core", "Core")
 
     def __init__(self, call, crate):
         super().__init__(call, crate, call.name, True)
@@ -82,23 +83,7 @@ class OnRecords(Walk):
         left = [s == "flat" and self.nodes.mut or s not in ("flat", "have") and s.mut for s in self.passed]
         last = {("flat" if s == "flat" else s.name): at("ws", i) for i, s in enumerate(self.passed) if left[i]}
         ensured = "Ensured ys r" + "".join(f" ({last['flat' if s.nodes else s.name]})" for s in self.tables if s.mut)
-        c = Context(["lasts", "rest"])
-        for i, s in enumerate(self.passed):
-            c.split("fsplit", "lasts", "one", "lasts")
-            if left[i]:
-                name = "fs" if s == "flat" else s.name
-                c.split("fsplit", "one", "f-" + name, "eq")
-                c.move("eq")
-                c.say(f"feqL ! (λ m-{name}.")
-                c.items.pop(0)
-            else:
-                c.drop("one")
-        c.drop("lasts")
-        c.split("split", "rest", "toks", "result")
-        c.move("result")
-        c.say(f"facts ! {ANSWER} (Is {ANSWER}) (shows 𝓤 H A {ANSWER}) r (w ∷ []) (λ is.")
-        c.items.pop(0)
-        c.drained("toks", "split", ["t-" + s.name for s in self.tables])
+        c = self.after_call([left[i] and ("fs" if s == "flat" else s.name) for i, s in enumerate(self.passed)])
         shown = "(r, " + nest(last[s.name] for s in self.exits) + ")"
         facts = nest(["is"] + ["m-fs"] * self.nodes.mut + [f"m-{s.name}" for s in self.exits], "e")
         c.say(f"at-once ! $ show ! ({told}) {f'({shown}, ' + last['flat'] + ')' if self.nodes.mut else shown} $ says ! {facts} $")
@@ -252,25 +237,12 @@ class OnRecords(Walk):
         yield f"{core} as core\n{core}.Symbol as core-def\n{core}.Met as core-thm"
         yield self.of_code()
 
-    def body(self):
+    def known(self):
         known = [("load", "Load", "record_copy·load"), ("core", "Core", f"{self.call.rows}·{self.call.name}")]
-        known += [("store", "Store", "record_copy·store")] * self.nodes.mut
-        yield from self.stayed()
-        yield f"abbrev Core : {{M : Type 1}} {GIVEN} {MEMORY} → Contract 𝓤"
-        yield "Core 𝓤 H A mem run = tripleOf 𝓤 H A core.signature (core.spec 𝓤 H A mem run)\n"
-        yield f"module _ {{M : Type 1}} {GIVEN} (W : Given 𝓤 H A) {MEMORY}{''.join(s.bound for s in self.slots)} where"
-        for s in self.tables:
-            yield s.named
-        yield from self.stated()
-        yield from self.said()
-        yield from self.post(known)
-        self.numbered()
-        self.c = Context([f"{z}{k}" for k in range(self.locals - 1, -1, -1) for z in "LD"] + ["toks", "owns"])
-        yield from self.walk([*self.entered(), *self.filled(), *self.called(), *self.freed(), *self.ended()])
-        yield from self.met(known)
+        return known + [("store", "Store", "record_copy·store")] * self.nodes.mut
 
-    def proof(self):
-        yield f"-- `{self.crate}::{self.name}` meets its contract: a walk of its MIR, whose calls are steps of record_copy/proofs/Steps. {MADE}"
-        body = list(self.body())
-        yield from imported(self.imports(), body)
-        yield from body
+    def steps(self):
+        return [*self.entered(), *self.filled(), *self.called(), *self.freed(), *self.ended()]
+
+    def about(self):
+        return f"`{self.crate}::{self.name}` meets its contract: a walk of its MIR, whose calls are steps of record_copy/proofs/Steps."

@@ -1,5 +1,6 @@
 """A proof by hand for a function that is lent a slice of node records: a walk of its MIR, whose calls are single steps."""
 from layers.table import params
+from layers.text import MADE, imported
 
 WIDTH = {"u8": "w8", "u16": "w16", "u32": "w32", "u64": "w64", "usize": "w64"}
 ANSWER = "Answer·.the-row"
@@ -287,6 +288,54 @@ class Walk:
 
     def ends(self, w, r, exits, fits, law):
         yield f"suffices ! _ (ends-at 𝓤 H A this.ended stayed (this.clauses 𝓤 H A mem run) W {self.bound} {w} {r} {nest(exits)} {nest(fits)}) $ says ! ({law}) $"
+
+    def after_call(self, passed):
+        """What there is after the call: of each argument that is written, by its name, its last list; what the result is; the tokens."""
+        c = Context(["lasts", "rest"])
+        for name in passed:
+            c.split("fsplit", "lasts", "one", "lasts")
+            if name:
+                c.split("fsplit", "one", "f-" + name, "eq")
+                c.move("eq")
+                c.say(f"feqL ! (λ m-{name}.")
+                c.items.pop(0)
+            else:
+                c.drop("one")
+        c.drop("lasts")
+        c.split("split", "rest", "toks", "result")
+        c.move("result")
+        c.say(f"facts ! {ANSWER} (Is {ANSWER}) (shows 𝓤 H A {ANSWER}) r (w ∷ []) (λ is.")
+        c.items.pop(0)
+        c.drained("toks", "split", ["t-" + s.name for s in self.tables])
+        return c
+
+    def opened(self):
+        """What is named beside the tables; nothing more."""
+        return []
+
+    def body(self):
+        """The file below its imports. `makes` is the call that the function makes: its short name and its contract's."""
+        known, (core, contract) = self.known(), self.makes
+        yield from self.stayed()
+        yield f"abbrev {contract} : {{M : Type 1}} {GIVEN} {MEMORY} → Contract 𝓤"
+        yield f"{contract} 𝓤 H A mem run = tripleOf 𝓤 H A {core}.signature ({core}.spec 𝓤 H A mem run)\n"
+        yield f"module _ {{M : Type 1}} {GIVEN} (W : Given 𝓤 H A) {MEMORY}{''.join(s.bound for s in self.all)} where"
+        yield from self.opened()
+        for s in self.tables:
+            yield s.named
+        yield from self.stated()
+        yield from self.said()
+        yield from self.post(known)
+        self.numbered()
+        self.c = Context([f"{z}{k}" for k in range(self.locals - 1, -1, -1) for z in "LD"] + ["toks", "owns"])
+        yield from self.walk(self.steps())
+        yield from self.met(known)
+
+    def proof(self):
+        yield f"-- {self.about()} {MADE}"
+        body = list(self.body())
+        yield from imported(self.imports(), body)
+        yield from body
 
 
 USES = """use mathlib.Core.Path.{_≡_, refl, sym, _∙_, ap, subst}
