@@ -55,17 +55,7 @@ class Coded(Walk):
             if s.mut:
                 c.join("fjoin", "f-" + s.name, "all", "all")
             c.join("fjoin", "t-" + s.name, "all", "all")
-        κs, _, args, _ = self.core
-        yield f"  said : (w : Val) → ent 𝓤 (Call 𝓤 H A mem run .post to-call w) (H .⇛ (ex 𝓤 ({told})))"
-        yield "  said w ="
-        lines = [
-            "qed W (raw (Call 𝓤 H A mem run .post to-call w) ∷ []) ∵ updating ! $",
-            f"use1 W (later (some (λ (r : Answer). (({self.tokens(self.tables)}) ⊛ ‵ ({ANSWER} .own r (w ∷ []))) ⊛ raw (ensured 𝓤 H A call.ended (call.clauses 𝓤 H A mem run) {κs} {args} tt r)))) (id⊢ 𝓤 _) $ await ! tt $ pick ! (λ r.",
-            f"split ! $ move ! (1 ∷ []) $ use1 W (some (λ (ws : {ws}). ‵ (lasts call.ended {κs} {args} ws) ⊛ raw (fact 𝓤 ({says})))) (id⊢ 𝓤 _) $ pick ! (λ ws.",
-            f"split ! $ move ! (1 ∷ []) $ heard ! ({says}) (λ e. {c.line()} done !",
-        ]
-        lines[-1] += ")" * sum(t.count("(") - t.count(")") for t in lines)
-        yield "\n".join("      " + t for t in lines) + "\n"
+        yield from self.law_of_call("", "", "to-call", told, self.tokens(self.tables), ws, says, c)
 
     def numbered(self):
         """The locals: the result, the parameters, the answer, two for each `&mut` lent again, and `value` lent again."""

@@ -95,19 +95,9 @@ class OnRecords(Walk):
             if s.mut:
                 c.join("fjoin", "f-" + s.name, "all", "all")
             c.join("fjoin", "t-" + s.name, "all", "all")
-        κs, _, args, _ = self.core
         tokens = self.tokens(self.tables, lambda s: "(ν ∷ []) fullShare" if s.nodes else f"{s.lft} {s.share}")
         ws = product("List ℕ" if x else "Unit {0}" for x in left)
-        yield f"  said : (l : ℕ) (ys : List ℕ) (ν : ℕ) (δ : GName) (w : Val) → ent 𝓤 (Core 𝓤 H A mem run .post (to-core l ys ν δ) w) (H .⇛ (ex 𝓤 ({told})))"
-        yield "  said l ys ν δ w ="
-        lines = [
-            "qed W (raw (Core 𝓤 H A mem run .post (to-core l ys ν δ) w) ∷ []) ∵ updating ! $",
-            f"use1 W (later (some (λ (r : Answer). (({tokens}) ⊛ ‵ ({ANSWER} .own r (w ∷ []))) ⊛ raw (ensured 𝓤 H A core.ended (core.clauses 𝓤 H A mem run) {κs} {args} tt r)))) (id⊢ 𝓤 _) $ await ! tt $ pick ! (λ r.",
-            f"split ! $ move ! (1 ∷ []) $ use1 W (some (λ (ws : {ws}). ‵ (lasts core.ended {κs} {args} ws) ⊛ raw (fact 𝓤 ({ensured})))) (id⊢ 𝓤 _) $ pick ! (λ ws.",
-            f"split ! $ move ! (1 ∷ []) $ heard ! ({ensured}) (λ e. {c.line()} done !",
-        ]
-        lines[-1] += ")" * sum(t.count("(") - t.count(")") for t in lines)
-        yield "\n".join("      " + t for t in lines) + "\n"
+        yield from self.law_of_call("(l : ℕ) (ys : List ℕ) (ν : ℕ) (δ : GName) ", "l ys ν δ ", "(to-core l ys ν δ)", told, tokens, ws, ensured, c)
 
     def numbered(self):
         """The locals: the result, the parameters, the array, how many records, the core's result where nodes are written; and two for each slice that

@@ -309,6 +309,21 @@ class Walk:
         c.drained("toks", "split", ["t-" + s.name for s in self.tables])
         return c
 
+    def law_of_call(self, bound, names, entry, told, tokens, ws, says, c):
+        """The law `said`: what is `told` after the call, which is entered at `entry`; the steps of `c` take it from what the call ensures, `says`."""
+        (core, contract), (κs, _, args, _) = self.makes, self.core
+        post = f"{contract} 𝓤 H A mem run .post {entry} w"
+        yield f"  said : {bound}(w : Val) → ent 𝓤 ({post}) (H .⇛ (ex 𝓤 ({told})))"
+        yield f"  said {names}w ="
+        lines = [
+            f"qed W (raw ({post}) ∷ []) ∵ updating ! $",
+            f"use1 W (later (some (λ (r : Answer). (({tokens}) ⊛ ‵ ({ANSWER} .own r (w ∷ []))) ⊛ raw (ensured 𝓤 H A {core}.ended ({core}.clauses 𝓤 H A mem run) {κs} {args} tt r)))) (id⊢ 𝓤 _) $ await ! tt $ pick ! (λ r.",
+            f"split ! $ move ! (1 ∷ []) $ use1 W (some (λ (ws : {ws}). ‵ (lasts {core}.ended {κs} {args} ws) ⊛ raw (fact 𝓤 ({says})))) (id⊢ 𝓤 _) $ pick ! (λ ws.",
+            f"split ! $ move ! (1 ∷ []) $ heard ! ({says}) (λ e. {c.line()} done !",
+        ]
+        lines[-1] += ")" * sum(t.count("(") - t.count(")") for t in lines)
+        yield "\n".join("      " + t for t in lines) + "\n"
+
     def opened(self):
         """What is named beside the tables; nothing more."""
         return []
