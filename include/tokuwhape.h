@@ -2,8 +2,8 @@
  *
  * A ring is its number of bins n, a table of node records, a book of mark words and the count of groups in the book. The caller owns the
  * tables and lends them to each call, each as a pointer and its count of elements; a node table is counted in 16-bit numbers, 257 to a
- * record. A pointer is never null, and tables do not overlap. Longer tables than the sizes below may be lent: what stands past the stated
- * size is never touched. A thread that makes calls has a stack of 1 MiB or more.
+ * record. A pointer is never null, and a table that is written overlaps no other. Longer tables than the sizes below may be lent: what
+ * stands past the stated size is never touched. A thread that makes calls has a stack of 1 MiB or more.
  *
  * Every call but tokuwhape_name and tokuwhape_group returns TOKUWHAPE_DONE or the number of a refusal, and writes *value: when done, the
  * call's own answer; on 5 and 6 the place in the list from 0; on 11 and 12 the byte from 0; on any other refusal 0. A refusal leaves every
@@ -30,18 +30,19 @@ extern "C" {
 /* What a call returns. */
 enum tokuwhape_answer {
     TOKUWHAPE_DONE = 0,
-    TOKUWHAPE_RING_SIZE = 1,        /* n is 0 or above 256 */
+    TOKUWHAPE_RING_SIZE = 1,        /* n or m is 0 or above 256 */
     TOKUWHAPE_SHORT_TABLE = 2,      /* a lent table is too short */
     TOKUWHAPE_NOT_IN_FORM = 3,      /* node table or book not in form, or the count above 96 */
     TOKUWHAPE_EMPTY_GROUP = 4,      /* the list is empty */
     TOKUWHAPE_OUTSIDE_RING = 5,     /* a bin is 0 or above n */
     TOKUWHAPE_REPEATED = 6,         /* a bin stands earlier in the same list */
     TOKUWHAPE_BOOK_FULL = 7,        /* 96 groups already in the book */
-    TOKUWHAPE_IMPOSSIBLE = 8,       /* no order of the tree has the group consecutive */
+    TOKUWHAPE_IMPOSSIBLE = 8,       /* no order of the tree has the group consecutive, or no order is allowed by both trees */
     TOKUWHAPE_NO_SUCH_GROUP = 9,    /* the group number is 0 or above the count */
     TOKUWHAPE_NOT_CONSECUTIVE = 10, /* the book's group is not consecutive in the standard order */
     TOKUWHAPE_RING_FILE = 11,       /* ring file malformed */
-    TOKUWHAPE_TREE_TEXT = 12        /* tree text malformed */
+    TOKUWHAPE_TREE_TEXT = 12,       /* tree text malformed */
+    TOKUWHAPE_BIN_COUNTS = 13       /* the two bin counts differ */
 };
 
 /* A node record, 257 numbers: docs/NODE-TABLE.md. */
@@ -86,6 +87,11 @@ uint8_t tokuwhape_write(size_t n, const tokuwhape_node *nodes, size_t numbers, u
  * groups, 0. */
 uint8_t tokuwhape_read(size_t n, tokuwhape_node *nodes, size_t numbers, uint64_t *book, size_t words, const uint8_t *text, size_t length,
                        size_t *value);
+
+/* Writes the tree that allows exactly the orders allowed by the tree of n bins and by that of m to the third node table. A node with three
+ * neighbours is a P-node there. *value: 0. */
+uint8_t tokuwhape_intersect(size_t n, const tokuwhape_node *nodes, size_t nodes_numbers, size_t m, const tokuwhape_node *other,
+                            size_t other_numbers, tokuwhape_node *third, size_t third_numbers, size_t *value);
 
 /* Reads a ring file through. *value: how many names, which is n; *head: the bytes of the names line with its line end; *lines: how many
  * lines of values. Where it is refused (11), *value is the byte, and *head and *lines are 0. Call it first: the two below refuse

@@ -9,7 +9,7 @@ enum { RECORDS = TOKUWHAPE_RECORDS, WORDS = TOKUWHAPE_WORDS, GROUPS = TOKUWHAPE_
 enum { NUMBERS = TOKUWHAPE_NUMBERS, MORE = NUMBERS + sizeof(tokuwhape_node) / sizeof(uint16_t) };
 
 /* The tables of a ring of five bins, each with one entry past its stated size. */
-static tokuwhape_node nodes[RECORDS + 1], kept[RECORDS + 1];
+static tokuwhape_node nodes[RECORDS + 1], kept[RECORDS + 1], other[RECORDS], third[RECORDS + 1];
 static uint64_t book[WORDS + 1], kept_book[WORDS + 1];
 static uint16_t order[6], conflicts[GROUPS + 1];
 static uint8_t bytes[TEXT + 1];
@@ -100,6 +100,28 @@ static void filling(void) {
     HOLDS(memcmp(&kept[RECORDS], &nodes[RECORDS], sizeof nodes[0]) == 0 && book[WORDS] == kept_book[WORDS]);
 }
 
+/* The trees of {1, 3} and {3, 5}, made with one book, and what allows the orders of both: circle e's. */
+static void intersecting(void) {
+    EXPECT(tokuwhape_open(5, nodes, NUMBERS, book, WORDS, &value), TOKUWHAPE_DONE, 0);
+    EXPECT(tokuwhape_join(5, nodes, NUMBERS, book, WORDS, 0, LIST(1, 3), &value), TOKUWHAPE_DONE, 1);
+    EXPECT(tokuwhape_open(5, other, NUMBERS, book, WORDS, &value), TOKUWHAPE_DONE, 0);
+    EXPECT(tokuwhape_join(5, other, NUMBERS, book, WORDS, 0, LIST(3, 5), &value), TOKUWHAPE_DONE, 1);
+    memset(third, 171, sizeof third);
+    EXPECT(tokuwhape_intersect(5, nodes, NUMBERS, 5, other, NUMBERS, third, MORE, &value), TOKUWHAPE_DONE, 0);
+    HOLDS(memcmp(kept, third, sizeof third) == 0);
+    EXPECT(tokuwhape_intersect(5, nodes, NUMBERS, 257, other, NUMBERS - 1, third, MORE, &value), TOKUWHAPE_RING_SIZE, 0);
+    EXPECT(tokuwhape_intersect(5, nodes, NUMBERS - 1, 6, other, NUMBERS, third, MORE, &value), TOKUWHAPE_SHORT_TABLE, 0);
+    EXPECT(tokuwhape_intersect(5, nodes, NUMBERS, 6, other, NUMBERS - 1, third, MORE, &value), TOKUWHAPE_SHORT_TABLE, 0);
+    EXPECT(tokuwhape_intersect(5, nodes, NUMBERS, 6, other, NUMBERS, third, NUMBERS - 1, &value), TOKUWHAPE_SHORT_TABLE, 0);
+    EXPECT(tokuwhape_intersect(5, nodes, NUMBERS, 6, other, NUMBERS, third, MORE, &value), TOKUWHAPE_BIN_COUNTS, 0);
+    EXPECT(tokuwhape_intersect(6, nodes, NUMBERS, 6, other, NUMBERS, third, MORE, &value), TOKUWHAPE_NOT_IN_FORM, 0);
+    EXPECT(tokuwhape_open(5, other, NUMBERS, book, WORDS, &value), TOKUWHAPE_DONE, 0);
+    EXPECT(tokuwhape_join(5, other, NUMBERS, book, WORDS, 0, LIST(1, 5), &value), TOKUWHAPE_DONE, 1);
+    memcpy(nodes, third, sizeof nodes);
+    EXPECT(tokuwhape_intersect(5, nodes, NUMBERS, 5, other, NUMBERS, third, MORE, &value), TOKUWHAPE_IMPOSSIBLE, 0);
+    HOLDS(memcmp(kept, third, sizeof third) == 0);
+}
+
 /* Ring files. */
 static void files(void) {
     const char *file = "A Bo C\n1 - 1\n0 0 0\n";
@@ -122,6 +144,7 @@ int main(void) {
     joining();
     reading();
     filling();
+    intersecting();
     files();
     return failed != 0;
 }

@@ -1,9 +1,10 @@
-"""The table of calls: each call of document 01 on a ring or on a ring file, once. tools/outer.py writes the outer layers from it."""
+"""The table of calls: each call on a ring, on two trees or on a ring file, once. tools/outer.py writes the outer layers from it."""
 from typing import NamedTuple
 
 # What a call is lent: a number, by its type; or a table, by the type of its entries.
 NUMBERS = {
     "n": "usize",
+    "m": "usize",
     "count": "usize",
     "group": "usize",
     "value": "usize",
@@ -16,6 +17,8 @@ NUMBERS = {
 }
 TABLES = {
     "nodes": "Node",
+    "other": "Node",
+    "third": "Node",
     "book": "u64",
     "list": "u16",
     "order": "u16",
@@ -26,21 +29,25 @@ TABLES = {
 }
 
 # A promise is over what is lent, in sequence, then each written table as it is left, then what is returned. A node table stands there as one
-# record with these before it, a book with these after it, 0 for one that the call is not lent.
-OF_NODES = ["n"]
+# record with this number of bins before it, a book with these after it, 0 for one that the call is not lent.
+OF_NODES = {"nodes": "n", "other": "m", "third": "n"}
 OF_BOOK = ["count"]
 
-# The crates of the calls on a ring, c_NAME and record_NAME: what their calls do.
+# What the number of a node table's records is called, which is lent beside its rows.
+RECORDS = {"nodes": "have", "other": "had", "third": "room"}
+
+# The crates of the calls on rings, c_NAME and record_NAME: what their calls do.
 CRATES = {
     "update": "The calls that open a ring, join a group and try one",
     "order": "The calls that write the standard order and find the aim of a group",
     "conflict": "The call that lists the groups in conflict",
     "text": "The calls that write and read the tree text",
+    "intersection": "The call that intersects two trees",
 }
 
 
 class Call(NamedTuple):
-    """A call on a ring."""
+    """A call on a ring, or on two trees."""
 
     name: str
     crate: str  # of CRATES
@@ -140,6 +147,17 @@ RING = [
         does="Reads a tree text for n leaves, lent without zeros after it: the node table gets its tree, and the book is emptied.",
         value="the count of groups, 0",
         refuses="1, 2, 12",
+    ),
+    Call(
+        name="intersect",
+        crate="intersection",
+        rows="call_intersection",
+        promise="IntersectPromise",
+        lent="n nodes m other third!",
+        does="Writes the tree that allows exactly the orders allowed by the tree of n leaves and by that of m to the third node table. A node with three "
+        "neighbours is a P-node there.",
+        value="0",
+        refuses="1, 2, 13, 3, 8",
     ),
 ]
 

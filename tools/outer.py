@@ -2,9 +2,9 @@
 """Writes the outer layers of the calls from the table in tools/calls.py.
     tools/outer.py            writes the files that differ, and names them
     tools/outer.py --check    writes nothing; names the files that differ, and exits with 1 where there is one
-These are: the calls for C and Rust (c_update, c_order, c_conflict, c_text), the calls on node records (record_update, record_order, record_text)
-and those on records for tests (test_records), with their proofs; and the declarations in include/tokuwhape.h, rust/src/symbols.rs and
-rust/ring_records/src/symbols.rs. Of c_file, which is written by hand, the heads of its functions are compared."""
+These are: the calls for C and Rust (c_update, c_order, c_conflict, c_text, c_intersection), the calls on node records (record_update, record_order,
+record_text, record_intersection) and those on records for tests (test_records), with their proofs; and the declarations in include/tokuwhape.h,
+rust/src/symbols.rs and rust/ring_records/src/symbols.rs. Of c_file, which is written by hand, the heads of its functions are compared."""
 import sys
 from pathlib import Path
 
@@ -13,7 +13,7 @@ from layers.coded import Coded
 from layers.declarations import exported, header, symbols
 from layers.on_records import OnRecords
 from layers.rattle import c_proof, c_source, file_heads, records_source, tests_source
-from layers.table import of_crate, with_nodes
+from layers.table import functions, of_crate, with_nodes
 
 ROOT = Path(__file__).resolve().parent.parent
 
@@ -28,7 +28,8 @@ def files():
     for call in with_nodes():
         crate = f"record_{call.crate}"
         made[f"crates/{crate}/src/lib.rt"] = records_source(call.crate)
-        made[f"crates/{crate}/proofs/{call.name}/Proof.antt"] = OnRecords(call, crate).proof()
+        for function in functions(call):
+            made[f"crates/{crate}/proofs/{function.name}/Proof.antt"] = OnRecords(function).proof()
         made[f"crates/test_records/proofs/ring_{call.name}/Proof.antt"] = Coded(call, crate).proof()
     made["crates/test_records/src/lib.rt"] = tests_source()
     made["include/tokuwhape.h"] = header((ROOT / "include/tokuwhape.h").read_text())

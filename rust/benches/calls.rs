@@ -13,8 +13,11 @@ const LONGEST: usize = 9;
 /// How often a call that leaves the ring as it is, a conflict call apart, is made in a round.
 const TIMES: usize = 10;
 const GROUPS: usize = 96;
+/// First states of the generator.
+const SEED: u32 = 2_463_534_242;
+const OTHER_SEED: u32 = 362_436_069;
 
-/// A planner with the tables of one ring.
+/// A planner with the tables of one ring, and two node tables more: the other tree of an intersection, and the table that it fills.
 trait Planner {
     fn open(&mut self);
     fn join(&mut self, list: &[u16]);
@@ -24,6 +27,10 @@ trait Planner {
     fn aim(&mut self);
     fn read(&mut self, text: &[u8]);
     fn conflict(&mut self, list: &[u16]) -> usize;
+    /// Whether the ring's tree and the other one have an intersection.
+    fn intersect(&mut self) -> bool;
+    /// Makes the ring's tree the other one, and opens the ring again.
+    fn set_other(&mut self);
     fn scan(&mut self, file: &[u8]) -> usize;
     /// The ring file's last name.
     fn name(&mut self, file: &[u8]);
@@ -40,6 +47,8 @@ macro_rules! planner {
         struct $name {
             n: usize,
             nodes: Vec<$planner::Node>,
+            other: Vec<$planner::Node>,
+            third: Vec<$planner::Node>,
             book: Vec<u64>,
             count: usize,
             order: Vec<u16>,
@@ -51,8 +60,9 @@ macro_rules! planner {
             /// A ring of n leaves, opened, in tables of its own.
             fn fresh(n: usize) -> $name {
                 let nodes = vec![$planner::Node { kind: 0, count: 0, items: [0; 255] }; 256];
+                let (other, third, book) = (nodes.clone(), nodes.clone(), vec![0; 4 * GROUPS]);
                 let (order, conflicts, bytes) = (vec![0; n], vec![0; GROUPS], vec![0; 2048]);
-                let mut ring = $name { n, nodes, book: vec![0; 4 * GROUPS], count: 0, order, conflicts, bytes };
+                let mut ring = $name { n, nodes, other, third, book, count: 0, order, conflicts, bytes };
                 ring.open();
                 ring
             }
@@ -82,6 +92,13 @@ macro_rules! planner {
             }
             fn conflict(&mut self, list: &[u16]) -> usize {
                 $planner::conflict(self.n, &self.book, self.count, list, &mut self.conflicts).expect("in form")
+            }
+            fn intersect(&mut self) -> bool {
+                $planner::intersect(self.n, &self.nodes, self.n, &self.other, &mut self.third).is_ok()
+            }
+            fn set_other(&mut self) {
+                self.other.copy_from_slice(&self.nodes);
+                self.open();
             }
             fn scan(&mut self, file: &[u8]) -> usize {
                 $planner::scan(file).expect("a ring file").head
@@ -130,23 +147,23 @@ fn draw(state: &mut u32, k: usize) -> usize {
     *state as usize % k
 }
 
-/// 97 groups that are runs of one random circular order, of 1 to n - 1 leaves each.
-fn runs(n: usize) -> Vec<Vec<u16>> {
-    let mut state = 2_463_534_242;
+/// So many groups that are runs of one random circular order, of 1 to n - 1 leaves each.
+fn runs(seed: u32, n: usize, many: usize) -> Vec<Vec<u16>> {
+    let mut state = seed;
     let mut order: Vec<u16> = (1..=n as u16).collect();
     for i in (1..n).rev() {
         order.swap(i, draw(&mut state, i + 1));
     }
     let mut groups = Vec::new();
-    for _ in 0..GROUPS + 1 {
+    for _ in 0..many {
         let (start, length) = (draw(&mut state, n), 1 + draw(&mut state, n - 1));
         groups.push((start..start + length).map(|i| order[i % n]).collect());
     }
     groups
 }
 
-/// A book of 96 groups and a group that cannot join it. The leaves from 1 on, one left over, stand in blocks of these sizes in turn, 97 blocks at
-/// the most. The book has whole rings, and then every two neighbouring blocks, of which each is needed; the new group is the first block and the last.
+/// A book of 96 groups and a group that cannot join it. The leaves from 1 on, one left over, stand in blocks of these sizes in turn, 97 blocks at the
+/// most. The book has whole rings, and then every two neighbouring blocks, of which each is needed; the new group is the first block and the last.
 fn chain(n: usize, sizes: &[usize]) -> (Vec<Vec<u16>>, Vec<u16>) {
     let mut blocks: Vec<Vec<u16>> = Vec::new();
     let mut next = 1;
@@ -247,7 +264,7 @@ type Row = (&'static str, [f64; 2]);
 
 /// The calls on a ring of n leaves.
 fn ring_rows(n: usize) -> Vec<Row> {
-    let mut groups = runs(n);
+    let mut groups = runs(SEED, n, GROUPS + 1);
     let last = groups.pop().expect("97 groups");
     let grown = || changed(n, |ring| groups.iter().for_each(|group| ring.join(group)));
     let text = grown()[0].text();
@@ -282,6 +299,47 @@ fn deepest(n: usize) -> Vec<u8> {
     format!("1 {}2{closed}", "C(".repeat(n - 2)).into_bytes()
 }
 
+/// The text of n leaves with one C-node in another, n - 2 deep, each after its leaf.
+fn deepest_after(n: usize) -> Vec<u8> {
+    let opened: String = (2..n).map(|leaf| format!("C({leaf} ")).collect();
+    format!("1 {opened}{n}{}", ")".repeat(n - 2)).into_bytes()
+}
+
+/// Joins the groups to a ring.
+fn joining(groups: &[Vec<u16>]) -> impl Fn(&mut dyn Planner) + '_ {
+    |ring| groups.iter().for_each(|group| ring.join(group))
+}
+
+/// Reads a ring's tree from a text.
+fn reading(text: &[u8]) -> impl Fn(&mut dyn Planner) + '_ {
+    |ring| ring.read(text)
+}
+
+/// An intersection of two trees, each made by a change of an opened ring; whether there is one.
+fn intersection(n: usize, one: impl Fn(&mut dyn Planner), other: impl Fn(&mut dyn Planner), possible: bool) -> [f64; 2] {
+    let two = changed(n, |ring| {
+        other(ring);
+        ring.set_other();
+        one(ring);
+    });
+    repeated(ROUNDS, 1, two, |ring| assert_eq!(black_box(ring.intersect()), possible))
+}
+
+/// The intersections: of trees of 96 groups each, all runs of one circular order; of such trees of two circular orders, which have none; and of the
+/// deepest trees.
+fn intersection_rows(n: usize) -> Vec<Row> {
+    let groups = runs(SEED, n, 2 * GROUPS);
+    let (one, other) = groups.split_at(GROUPS);
+    let foreign = runs(OTHER_SEED, n, GROUPS);
+    let (before, after) = (deepest(n), deepest_after(n));
+    vec![
+        ("intersect", intersection(n, joining(one), joining(other), true)),
+        ("intersect, none", intersection(n, joining(one), joining(&foreign), false)),
+        ("intersect, deepest trees", intersection(n, reading(&before), reading(&after), true)),
+        ("intersect, deepest tree and itself", intersection(n, reading(&before), reading(&before), true)),
+    ]
+}
+
 /// The calls on the deepest tree of n leaves: a trial of the innermost pair, and one of the pair with all nodes between.
 fn deep_rows(n: usize) -> Vec<Row> {
     let text = deepest(n);
@@ -298,7 +356,7 @@ fn deep_rows(n: usize) -> Vec<Row> {
 
 /// The calls on a ring file with n names.
 fn file_rows(n: usize) -> Vec<Row> {
-    let groups = &runs(n)[..GROUPS];
+    let groups = &runs(SEED, n, GROUPS);
     let file = ring_file(&(1..=n).map(|leaf| format!("B{leaf}")).collect::<Vec<_>>(), groups);
     let long = ring_file(&(1..=n).map(|leaf| format!("{leaf:08}")).collect::<Vec<_>>(), groups);
     let head = opened(n)[0].scan(&file);
@@ -311,7 +369,7 @@ fn file_rows(n: usize) -> Vec<Row> {
 }
 
 fn main() {
-    let tables = SIZES.map(|n| [ring_rows(n), conflict_rows(n), deep_rows(n), file_rows(n)].concat());
+    let tables = SIZES.map(|n| [ring_rows(n), conflict_rows(n), intersection_rows(n), deep_rows(n), file_rows(n)].concat());
     println!("| call | n | proved, ns | plain, ns | ratio |\n|---|---|---|---|---|");
     for call in 0..tables[0].len() {
         for (n, table) in SIZES.iter().zip(&tables) {

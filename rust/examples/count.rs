@@ -1,8 +1,8 @@
-//! Calls to be counted by `rust/count`: on a ring of n leaves and a book of 96 runs of one random circular order, and a conflict call on a chain of
-//! pairs, all of which its list names. Prints how often each call was made.
+//! Calls to be counted by `rust/count`: on a ring of n leaves and a book of 96 runs of one random circular order, an intersection with the tree of 96
+//! other runs of that order, and a conflict call on a chain of pairs, all of which its list names. Prints how often each call was made.
 //!
 //!     count n
-use tokuwhape::{aim, conflict, join, open, order, read, trial, write, Node, GROUPS, RECORDS, TEXT, WORDS};
+use tokuwhape::{aim, conflict, intersect, join, open, order, read, trial, write, Node, GROUPS, RECORDS, TEXT, WORDS};
 
 /// Marsaglia's xorshift32.
 struct Draws(u32);
@@ -30,6 +30,16 @@ fn run(circle: &[u16], start: usize, many: usize) -> Vec<u16> {
     circle.iter().cycle().skip(start).take(many).copied().collect()
 }
 
+/// The node table of the tree with these groups, made by the plain planner, so that no call counts for it.
+fn grown(n: usize, groups: &[Vec<u16>]) -> Vec<Node> {
+    let (mut nodes, mut book) = (vec![plain::Node::UNUSED; RECORDS], vec![0; WORDS]);
+    plain::open(n, &mut nodes, &mut book).expect("opened");
+    for (count, group) in groups.iter().enumerate() {
+        plain::join(n, &mut nodes, &mut book, count, group).expect("kept");
+    }
+    nodes.iter().map(|&plain::Node { kind, count, items }| Node { kind, count, items }).collect()
+}
+
 /// A book of these groups, whatever a tree allows.
 fn booked(groups: &[Vec<u16>]) -> Vec<u64> {
     let mut book = vec![0; WORDS];
@@ -45,7 +55,8 @@ fn main() {
     let n = std::env::args().nth(1).and_then(|n| n.parse().ok()).expect("count n");
     let mut draws = Draws(2463534242);
     let circle = circle(n, &mut draws);
-    let groups: Vec<_> = (0..GROUPS).map(|_| run(&circle, draws.below(n), 1 + draws.below(n - 1))).collect();
+    let runs: Vec<_> = (0..2 * GROUPS).map(|_| run(&circle, draws.below(n), 1 + draws.below(n - 1))).collect();
+    let (groups, others) = runs.split_at(GROUPS);
     let (mut nodes, mut book) = (vec![Node::UNUSED; RECORDS], vec![0; WORDS]);
     open(n, &mut nodes, &mut book).expect("opened");
     for (count, group) in groups.iter().enumerate() {
@@ -56,6 +67,7 @@ fn main() {
     for k in 1..=GROUPS {
         aim(n, &nodes, &book, GROUPS, k).expect("consecutive");
     }
+    intersect(n, &nodes, n, &grown(n, others), &mut vec![Node::UNUSED; RECORDS]).expect("of one order");
     let mut text = vec![0; TEXT];
     let length = write(n, &nodes, &mut text).expect("in form");
     read(n, &mut nodes, &mut book, &text[..length]).expect("a tree text");
@@ -63,5 +75,5 @@ fn main() {
     let last = pairs.len() as u16 + 1;
     let named = conflict(n, &booked(&pairs), pairs.len(), &[1, last], &mut vec![0; GROUPS]).expect("a list");
     assert_eq!(named, pairs.len());
-    println!("open 1 join {GROUPS} trial {GROUPS} order 1 aim {GROUPS} write 1 read 1 conflict 1");
+    println!("open 1 join {GROUPS} trial {GROUPS} order 1 aim {GROUPS} intersect 1 write 1 read 1 conflict 1");
 }

@@ -2,7 +2,7 @@
 //!
 //! The functions of this crate pass lent tables on to the archive that `tools/archive tokuwhape` makes; [`Ring`] owns its tables, and [`RingFile`]
 //! is a file that was read through first. What each call answers, refuses and writes is proved in the Rattle crates `c_update`, `c_order`,
-//! `c_conflict`, `c_text` and `c_file`.
+//! `c_conflict`, `c_text`, `c_intersection` and `c_file`.
 //!
 //! A ring is its number of leaves n (document 01's bins), a node table, a book of mark words and the count of groups in the book. Longer
 //! tables than the sizes below may be lent: what stands past the stated size is never touched. A refusal leaves every table as it was.
@@ -133,6 +133,15 @@ pub fn read(n: usize, nodes: &mut [Node], book: &mut [u64], text: &[u8]) -> Resu
     })
 }
 
+/// Writes the tree that allows exactly the orders allowed by the tree of n leaves and by that of m to the third node table. A node with three
+/// neighbours is a P-node there. Returns 0.
+pub fn intersect(n: usize, nodes: &[Node], m: usize, other: &[Node], third: &mut [Node]) -> Result<usize, Refusal> {
+    answer(|value| unsafe {
+        let (one, two, both) = (nodes.as_ptr(), other.as_ptr(), third.as_mut_ptr());
+        symbols::tokuwhape_intersect(n, one, numbers(nodes), m, two, numbers(other), both, numbers(third), value)
+    })
+}
+
 /// Reads a ring file through. Returns what it holds; a malformed file is refused with its byte, from 0. [`RingFile::read`] does this first.
 pub fn scan(file: &[u8]) -> Result<File, Refusal> {
     let (mut head, mut lines) = (0, 0);
@@ -149,8 +158,8 @@ pub fn name_of(file: &[u8], k: usize) -> &[u8] {
 }
 
 /// Writes the leaves, rising, of value line `line`, from 0, of an accepted file that holds `shape`, and returns how many. Of any bytes and numbers
-/// the line is the 2 * names bytes from head + line * 2 * names on, for up to 256 names. Where it does not stand whole in the file, or the list has fewer places than there
-/// are names, nothing is written and 0 is returned. (`shape.lines` is not looked at.)
+/// the line is the 2 * names bytes from head + line * 2 * names on, for up to 256 names. Where it does not stand whole in the file, or the list has
+/// fewer places than there are names, nothing is written and 0 is returned. (`shape.lines` is not looked at.)
 pub fn group_of(file: &[u8], shape: File, line: usize, list: &mut [u16]) -> usize {
     let File { names, head, .. } = shape;
     unsafe { symbols::tokuwhape_group(file.as_ptr(), file.len(), names, head, line, list.as_mut_ptr(), list.len()) }

@@ -1,7 +1,8 @@
 //! Why a call is refused.
 use std::fmt;
 
-/// Document 01's refusals 1 to 12, in the table's sequence. A place counts from 0 in the group's list, a byte from 0 in the file or text.
+/// The refusals 1 to 13 of documents 01 and 02, by their numbers. A place counts from 0 in the group's list, a byte from 0 in the file or
+/// text.
 #[derive(Clone, Copy, PartialEq, Eq, Debug)]
 pub enum Refusal {
     RingSize,
@@ -16,6 +17,7 @@ pub enum Refusal {
     NotConsecutive,
     RingFile(usize),
     TreeText(usize),
+    BinCounts,
 }
 
 impl Refusal {
@@ -35,11 +37,12 @@ impl Refusal {
             10 => Refusal::NotConsecutive,
             11 => Refusal::RingFile(value),
             12 => Refusal::TreeText(value),
-            _ => unreachable!("the archive's calls return 0 to 12"),
+            13 => Refusal::BinCounts,
+            _ => unreachable!("the archive's calls return 0 to 13"),
         })
     }
 
-    /// The refusal's number in the table, 1 to 12.
+    /// The refusal's number in the table, 1 to 13.
     pub fn number(self) -> u8 {
         match self {
             Refusal::RingSize => 1,
@@ -54,6 +57,7 @@ impl Refusal {
             Refusal::NotConsecutive => 10,
             Refusal::RingFile(_) => 11,
             Refusal::TreeText(_) => 12,
+            Refusal::BinCounts => 13,
         }
     }
 
@@ -76,11 +80,12 @@ impl fmt::Display for Refusal {
             Refusal::OutsideRing(place) => write!(f, "place {place} of the list is no bin of the ring"),
             Refusal::Repeated(place) => write!(f, "place {place} of the list repeats a bin"),
             Refusal::BookFull => write!(f, "the book is full"),
-            Refusal::Impossible => write!(f, "the group cannot hang together in any order of the ring"),
+            Refusal::Impossible => write!(f, "no order of the ring has the group together, or none is allowed by both trees"),
             Refusal::NoSuchGroup => write!(f, "the book has no group with this number"),
             Refusal::NotConsecutive => write!(f, "the book's group does not hang together in the standard order"),
             Refusal::RingFile(byte) => write!(f, "the ring file is malformed at byte {byte}"),
             Refusal::TreeText(byte) => write!(f, "the tree text is malformed at byte {byte}"),
+            Refusal::BinCounts => write!(f, "the two trees have different numbers of bins"),
         }
     }
 }

@@ -13,7 +13,7 @@ pub struct Ring {
 }
 
 impl Ring {
-    /// A ring of n leaves whose tables are empty, as neither `new` nor `from_text` hands it out.
+    /// A ring of n leaves whose tables no call has filled yet.
     fn unopened(n: usize) -> Ring {
         Ring { n, nodes: vec![Node::UNUSED; RECORDS].into(), book: vec![0; WORDS].into(), count: 0 }
     }
@@ -30,6 +30,14 @@ impl Ring {
         let mut ring = Ring::unopened(n);
         ring.count = crate::read(n, &mut ring.nodes, &mut ring.book, text.as_bytes())?;
         Ok(ring)
+    }
+
+    /// The ring with the tree that allows exactly the orders allowed by both rings' trees, a node with three neighbours a P-node, and an empty book.
+    /// No book is read, so its conflict lists know no group of either ring.
+    pub fn intersect(&self, other: &Ring) -> Result<Ring, Refusal> {
+        let mut both = Ring::unopened(self.n);
+        crate::intersect(self.n, &self.nodes, other.n, &other.nodes, &mut both.nodes)?;
+        Ok(both)
     }
 
     /// How many leaves the ring has.

@@ -59,6 +59,17 @@ extern "C" {
         length: usize,
         value: *mut usize,
     ) -> u8;
+    pub fn tokuwhape_intersect(
+        n: usize,
+        nodes: *const Node,
+        nodes_numbers: usize,
+        m: usize,
+        other: *const Node,
+        other_numbers: usize,
+        third: *mut Node,
+        third_numbers: usize,
+        value: *mut usize,
+    ) -> u8;
     pub fn tokuwhape_scan(file: *const u8, length: usize, head: *mut usize, lines: *mut usize, value: *mut usize) -> u8;
     pub fn tokuwhape_name(file: *const u8, length: usize, k: usize, start: *mut usize) -> usize;
     pub fn tokuwhape_group(file: *const u8, length: usize, names: usize, head: usize, line: usize, list: *mut u16, places: usize) -> usize;

@@ -1,5 +1,5 @@
-//! Circle e of document 01: its node table in numbers, lent to the archive's functions with any count of them; its conflicts; ring files; and a
-//! ring that owns its tables.
+//! Circle e of document 01: its node table in numbers, lent to the archive's functions with any count of them; its conflicts; ring files; and
+//! rings that own their tables.
 use tokuwhape::symbols::*;
 use tokuwhape::{File, Node, Refusal, Ring, RingFile};
 
@@ -35,7 +35,7 @@ fn circle_e(numbers: usize) -> Rows {
 type OnRows = fn(&mut Rows, *mut usize) -> u8;
 
 /// Each function that is lent a node table.
-const CALLS: [OnRows; 7] = [
+const CALLS: [OnRows; 8] = [
     |t, value| unsafe { tokuwhape_open(5, t.numbers.as_mut_ptr().cast(), t.numbers.len(), t.book.as_mut_ptr(), 384, value) },
     |t, value| unsafe {
         let list = [2, 4];
@@ -48,6 +48,11 @@ const CALLS: [OnRows; 7] = [
     |t, value| unsafe { tokuwhape_order(5, t.numbers.as_ptr().cast(), t.numbers.len(), [0; 5].as_mut_ptr(), 5, value) },
     |t, value| unsafe { tokuwhape_aim(5, t.numbers.as_ptr().cast(), t.numbers.len(), t.book.as_ptr(), 384, 2, 1, value) },
     |t, value| unsafe { tokuwhape_write(5, t.numbers.as_ptr().cast(), t.numbers.len(), [0; 2048].as_mut_ptr(), 2048, value) },
+    |t, value| unsafe {
+        let (nodes, other, third) = (t.numbers.clone(), t.numbers.clone(), &mut t.numbers);
+        let (one, two, both) = (nodes.as_ptr().cast(), other.as_ptr().cast(), third.as_mut_ptr().cast());
+        tokuwhape_intersect(5, one, nodes.len(), 5, two, other.len(), both, third.len(), value)
+    },
     |t, value| unsafe {
         let text = b"1 P(2 3 4 5)";
         tokuwhape_read(5, t.numbers.as_mut_ptr().cast(), t.numbers.len(), t.book.as_mut_ptr(), 384, text.as_ptr(), text.len(), value)
@@ -100,7 +105,7 @@ fn kinds_above_a_byte_are_refused() {
         let mut rows = circle_e(NUMBERS);
         rows.numbers[at] = kind;
         let before = rows.clone();
-        for call in &CALLS[1..6] {
+        for call in &CALLS[1..7] {
             let mut value = 77;
             assert_eq!((call(&mut rows, &mut value), value), (3, 0));
             assert!(rows == before);
@@ -167,4 +172,23 @@ fn a_ring_owns_its_tables() {
     assert_eq!((again.leaves(), again.groups(), again.text()), (5, 0, ring.text()));
     assert_eq!(Ring::new(257), Err(Refusal::RingSize));
     assert_eq!(Ring::from_text(5, "1").unwrap_err().to_string(), "the tree text is malformed at byte 1");
+}
+
+#[test]
+fn two_rings_intersect() {
+    let joined = |groups: &[[u16; 2]]| {
+        let mut ring = Ring::new(5).unwrap();
+        groups.iter().for_each(|group| assert!(ring.join(group).is_ok()));
+        ring
+    };
+    let (one, other) = (joined(&[[1, 3]]), joined(&[[3, 5]]));
+    let both = one.intersect(&other).unwrap();
+    assert_eq!((both.leaves(), both.groups(), both.text().as_str()), (5, 0, "1 C(P(2 4) 5 3)"));
+    assert_eq!(other.intersect(&one), Ok(both.clone()));
+    assert_eq!(both.order(), [1, 2, 4, 5, 3]);
+    assert_eq!(both.intersect(&joined(&[[1, 5]])), Err(Refusal::Impossible));
+    assert_eq!(both.intersect(&Ring::new(6).unwrap()), Err(Refusal::BinCounts));
+    assert_eq!((Refusal::BinCounts.number(), Refusal::BinCounts.place()), (13, None));
+    let narrow = Ring::from_text(3, "1 C(2 3)").unwrap();
+    assert_eq!(narrow.intersect(&narrow).unwrap().text(), "1 P(2 3)");
 }

@@ -15,6 +15,7 @@ fn every_call(text: &str) {
     let mut ring = Ring::from_text(256, text).expect("a tree text");
     assert_eq!(ring.text(), text);
     assert_eq!(ring.order(), (1..=256).collect::<Vec<u16>>());
+    assert_eq!(ring.intersect(&ring).map(|both| both.order()), Ok(ring.order()));
     for group in [vec![255, 256], vec![2, 256], vec![128, 129], (100..=200).collect(), (1..=256).collect()] {
         let tried = ring.trial(&group);
         assert_eq!(ring.join(&group), tried);

@@ -1,5 +1,5 @@
 """The walk of a function of crate test_records, over its proofs/Steps."""
-from layers.table import on_records
+from layers.table import on_records, params
 from layers.walk import ANSWER, LAWFUL, USES, Value, Walk, at, nest, operands, product, values
 
 
@@ -9,7 +9,7 @@ class Coded(Walk):
     makes = ("call", "Call")
 
     def __init__(self, call, home):
-        super().__init__(call, "test_records", "ring_" + call.name, False)
+        super().__init__(call, "test_records", "ring_" + call.name, params(call.lent))
         self.home = home
         self.value = Value(len(self.slots), len(self.tables))
         self.bind(self.slots + [self.value])

@@ -1,18 +1,22 @@
-"""The walk of a call of crate record_NAME, over record_copy/proofs/Steps."""
-from layers.table import lent, of_book, promise
+"""The walk of a function of crate record_NAME, over record_copy/proofs/Steps."""
+from layers.table import lent, lent_table, of_book, promise
 from layers.walk import ANSWER, LAWFUL, USES, Context, Walk, at, load, nest, operands, product, sub, values
 
 
 class OnRecords(Walk):
     """{ let mut flat = [0u16; 65792]; let have = load(nodes, &mut flat); let r = core(.., &mut flat, have, ..); store(&flat, nodes); r } where nodes are
-    written, and where they are not { let mut flat = [0u16; 65792]; let have = load(nodes, &mut flat); core(.., &flat, have, ..) }."""
+    written, and where they are not { let mut flat = [0u16; 65792]; let have = load(nodes, &mut flat); core(.., &flat, have, ..) }. For `nodes` stands
+    the node table whose records the function takes."""
 
     makes = ("core", "Core")
 
-    def __init__(self, call, crate):
-        super().__init__(call, crate, call.name, True)
+    def __init__(self, function):
+        call = function.call
+        super().__init__(call, f"record_{call.crate}", function.name, function.params(), function.table)
+        self.function, self.table = function, function.table
         self.bind(self.slots)
-        self.nodes = next(s for s in self.slots if s.nodes)
+        self.nodes = next(s for s in self.slots if s.name == self.table)
+        self.head = [f"o-{self.table}", f"t-{self.table}"]
         self.others = [s for s in self.tables if s is not self.nodes]
         self.exits = [s for s in self.others if s.mut]
         self.R = "Answer × " + product("List ℕ" for _ in self.exits)
@@ -20,11 +24,12 @@ class OnRecords(Walk):
         # what the core is passed: for the node table the array, and how many records there are
         self.passed, args, vals = [], [], []
         for s in self.slots:
-            self.passed += ["flat", "have"] if s.nodes else [s]
-            args += ["nums l δ ys", "length nodes"] if s.nodes else [s.arg]
-            vals += ["numsVal l", "vint w64 (length nodes)"] if s.nodes else [s.value]
-        κs = nest("ν ∷ []" if s.nodes else s.lft for s in self.tables)
-        qs = nest("fullShare" if s.nodes else s.share for s in self.tables)
+            taken = s is self.nodes
+            self.passed += ["flat", "have"] if taken else [s]
+            args += ["nums l δ ys", f"length {self.table}"] if taken else [s.arg]
+            vals += ["numsVal l", f"vint w64 (length {self.table})"] if taken else [s.value]
+        κs = nest("ν ∷ []" if s is self.nodes else s.lft for s in self.tables)
+        qs = nest("fullShare" if s is self.nodes else s.share for s in self.tables)
         self.core = (κs, qs, nest(args), values(vals))
 
     def last(self, r, s):
@@ -33,6 +38,12 @@ class OnRecords(Walk):
     def after(self, of):
         """Each list that the core leaves: the array's where nodes are written, `fs`, and those of the other slices, by `of`."""
         return [f"({of(s)})" if s is not self.nodes else "fs" for s in self.tables if s.mut]
+
+    def lent_to_core(self, of, p):
+        """A node table as the core is lent it, of so many bins."""
+        if p.name == self.table:
+            return f"(lent-nodes {of} (length {p.name}) ys)"
+        return lent_table(of, p, lambda p: p.name, self.function.in_rows)
 
     def stated(self):
         others = rest = "ftrue"
@@ -47,7 +58,7 @@ class OnRecords(Walk):
         yield "  -- the core's call: what it is passed, what it asks, and what it says"
         yield "  abbrev to-core : ℕ → List ℕ → ℕ → GName → Core 𝓤 H A mem run .Ghost"
         yield "  to-core l ys ν δ = (({}, {}, tt, {}, {}), tt)\n".format(*self.core)
-        c = Context(["t-nodes", "flat", "X"])
+        c = Context([f"t-{self.table}", "flat", "X"])
         c.drained("X", "fsplit", [z + s.name for s in self.others for z in ("t-", "o-")])
         c.gathered("toks", "join", ["t-" + s.name for s in self.tables])
         c.frame("toks")
@@ -56,7 +67,7 @@ class OnRecords(Walk):
             if s == "flat":
                 c.join("fjoin", "flat", "all", "all")
             elif s == "have":
-                c.say("owned ! usize (Is usize) (uint-makes 𝓤 H A W w64) (length nodes) _ (refl, nodes-room .0) $ fjoin ! $")
+                c.say(f"owned ! usize (Is usize) (uint-makes 𝓤 H A W w64) (length {self.table}) _ (refl, {self.nodes.room} .0) $ fjoin ! $")
             elif s.lent:
                 c.join("fjoin", "o-" + s.name, "all", "all")
             else:
@@ -64,9 +75,9 @@ class OnRecords(Walk):
         yield f"  goes-core : (l : ℕ) (ys : List ℕ) → length ys ≡ 65792 → (ν : ℕ) (δ : GName) → ent 𝓤 (sep 𝓤 (A .lft (ν ∷ []) fullShare) (sep 𝓤 (sem 𝓤 H A ({self.flat_owned})) (sem 𝓤 H A Others))) (Core 𝓤 H A mem run .pre (to-core l ys ν δ))"
         yield f"  goes-core l ys e ν δ =\n      qed W (‵ (flft (ν ∷ []) fullShare) ∷ ‵ ({self.flat_owned}) ∷ ‵ Others ∷ []) ∵ suffices ! _ (asks-nothing 𝓤 _) $ {c.line()} done !\n"
         after = [s for s in self.tables if s.mut]
-        named = lambda p: "fs" if p.nodes else p.name + "′"
+        named = lambda p: "fs" if p.name == self.table else p.name + "′"
         names = "".join(" " + named(s) for s in after)
-        promised = promise(self.call, lambda p: p.name, named, lambda of, p: f"(lent-nodes {of} (length nodes) ys)", "(report r)")
+        promised = promise(self.call, lambda p: p.name, named, self.lent_to_core, "(report r)")
         yield f"  abbrev Ensured : List ℕ → Answer{' → List ℕ' * len(after)} → Type 0"
         yield f"  Ensured ys r{names} = {promised}\n"
         yield "  -- of its result, of the length of each last list, and what it ensures"
@@ -82,20 +93,21 @@ class OnRecords(Walk):
             told = f"λ (r : {self.R}). sep 𝓤 (sep 𝓤 (A .lft (ν ∷ []) fullShare) (sem 𝓤 H A (Rest r))) (fact 𝓤 (Said ys r w))"
         left = [s == "flat" and self.nodes.mut or s not in ("flat", "have") and s.mut for s in self.passed]
         last = {("flat" if s == "flat" else s.name): at("ws", i) for i, s in enumerate(self.passed) if left[i]}
-        ensured = "Ensured ys r" + "".join(f" ({last['flat' if s.nodes else s.name]})" for s in self.tables if s.mut)
+        ensured = "Ensured ys r" + "".join(f" ({last['flat' if s is self.nodes else s.name]})" for s in self.tables if s.mut)
         c = self.after_call([left[i] and ("fs" if s == "flat" else s.name) for i, s in enumerate(self.passed)])
         shown = "(r, " + nest(last[s.name] for s in self.exits) + ")"
+        token = f"t-{self.table}"
         facts = nest(["is"] + ["m-fs"] * self.nodes.mut + [f"m-{s.name}" for s in self.exits], "e")
         c.say(f"at-once ! $ show ! ({told}) {f'({shown}, ' + last['flat'] + ')' if self.nodes.mut else shown} $ says ! {facts} $")
         if self.nodes.mut:
-            c.join("join", "t-nodes", "f-fs", "t-nodes")
-        c.frame("t-nodes")
+            c.join("join", token, "f-fs", token)
+        c.frame(token)
         c.nothing("all")
         for s in reversed(self.others):
             if s.mut:
                 c.join("fjoin", "f-" + s.name, "all", "all")
             c.join("fjoin", "t-" + s.name, "all", "all")
-        tokens = self.tokens(self.tables, lambda s: "(ν ∷ []) fullShare" if s.nodes else f"{s.lft} {s.share}")
+        tokens = self.tokens(self.tables, lambda s: "(ν ∷ []) fullShare" if s is self.nodes else f"{s.lft} {s.share}")
         ws = product("List ℕ" if x else "Unit {0}" for x in left)
         yield from self.law_of_call("(l : ℕ) (ys : List ℕ) (ν : ℕ) (δ : GName) ", "l ys ν δ ", "(to-core l ys ν δ)", told, tokens, ws, ensured, c)
 
@@ -128,7 +140,7 @@ class OnRecords(Walk):
 
     def filled(self):
         """The array is made, the other slices put together (X), and the records loaded."""
-        c, l = self.c, f"l{sub(self.array)}"
+        c, l, t = self.c, f"l{sub(self.array)}", self.table
         c.say(f"assigns ! (rep ! 65792 (lit ! tt)) (from ! (stop !)) (init ! {self.place(self.array)} refl (rep-typed 𝓤 H A W 65792 {l})) $")
         c.move(f"L{self.array}")
         c.items[0] = "array"
@@ -141,21 +153,21 @@ class OnRecords(Walk):
                 c.drop("o-" + s.name)
         c.drop("owns")
         c.gathered("X", "fjoin", [z + s.name for s in self.others for z in ("t-", "o-")])
-        c.move("o-nodes", "t-nodes", "array", "X")
+        c.move(*self.head, "array", "X")
         yield c.line()
-        yield "-- [nodes; its token; the array; the others; the locals from the last to _0]"
+        yield f"-- [{t}; its token; the array; the others; the locals from the last to _0]"
         if self.nodes.mut:
             yield from self.again(self.nodes, self.lends["nodes-in"])
         yield from self.lend_array("array-in")
         reads = [self.second("nodes-in") if self.nodes.mut else self.place(1 + self.nodes.i), self.second("array-in")]
-        records = "b o γ nodes nodes-room" if self.nodes.mut else "s-nodes"
-        yield f"{'loads' if self.nodes.mut else 'loads-shr'} mem run (named {self.nodes.j}) ! fm known-load κ-nodes q-nodes {records} {l} ys long zeros (λ i j k. {operands(reads)}) (λ w₁ sound m₁ is₁."
+        records = f"b o γ {t} {t}-room" if self.nodes.mut else f"s-{t}"
+        yield f"{'loads' if self.nodes.mut else 'loads-shr'} mem run (named {self.nodes.j}) ! fm known-load κ-{t} q-{t} {records} {l} ys long zeros (λ i j k. {operands(reads)}) (λ w₁ sound m₁ is₁."
         have = self.place(self.have)
-        yield f"land ! (from ! (stop !)) (init ! {have} refl (uint-lawful 𝓤 H A W w64 .typed (length nodes) _ is₁ .0)) $ rewrite ! {have} (λ (w : Val). ‵ (fat fullShare (tyInt w64) l{sub(self.have)} 0 w)) (ap only (is₁ .0)) refl $"
+        yield f"land ! (from ! (stop !)) (init ! {have} refl (uint-lawful 𝓤 H A W w64 .typed (length {t}) _ is₁ .0)) $ rewrite ! {have} (λ (w : Val). ‵ (fat fullShare (tyInt w64) l{sub(self.have)} 0 w)) (ap only (is₁ .0)) refl $"
 
     def called(self):
         """The core is called; where nodes are written, they are written back."""
-        c, l = self.c, f"l{sub(self.array)}"
+        c, l, t = self.c, f"l{sub(self.array)}", self.table
         reads = []
         for s in self.passed:
             if s == "flat":
@@ -168,17 +180,17 @@ class OnRecords(Walk):
                 reads.append(self.lends[s.name] + 1)
             else:
                 reads.append(1 + s.i)
-        c.move("array", "X", "o-nodes", "t-nodes")
-        yield c.line() + f" {'works' if self.nodes.mut else 'asks'} ! fm (named {self.nodes.j}) (Core 𝓤 H A mem run) known-core (Said (node-rows nodes)) Others Rest {l} (node-rows nodes) (to-core {l} (node-rows nodes)) (goes-core {l} (node-rows nodes) m₁) (said {l} (node-rows nodes)) (λ ν δ i j. {operands([self.place(k) for k in reads])}) (λ r′ w₂{' fs' * self.nodes.mut} h′."
+        c.move("array", "X", *self.head)
+        yield c.line() + f" {'works' if self.nodes.mut else 'asks'} ! fm (named {self.nodes.j}) (Core 𝓤 H A mem run) known-core (Said (node-rows {t})) Others Rest {l} (node-rows {t}) (to-core {l} (node-rows {t})) (goes-core {l} (node-rows {t}) m₁) (said {l} (node-rows {t})) (λ ν δ i j. {operands([self.place(k) for k in reads])}) (λ r′ w₂{' fs' * self.nodes.mut} h′."
         yield f"land ! (from ! (stop !)) (init ! {self.place(self.result)} refl ({LAWFUL} .typed (r′ .0) _ (h′ .0) .0)) $"
         if self.nodes.mut:
             yield from self.lend_array("array-out")
             yield from self.again(self.nodes, self.lends["nodes-out"])
-            c.move("o-nodes", "t-nodes", "array", "X")
-            yield c.line() + f" stores mem run (named {self.nodes.j}) ! fm known-store κ-nodes q-nodes s-nodes {l} fs (h′ .1 .0 ∙ m₁) (λ i j k. {operands([self.second('array-out'), self.second('nodes-out')])}) (λ w₃ m₃ is₃. land ! (from ! (stop !)) (init ! {self.place(self.unit)} refl (nothing-lawful 𝓤 H A W .typed tt _ is₃ .0)) $"
+            c.move(*self.head, "array", "X")
+            yield c.line() + f" stores mem run (named {self.nodes.j}) ! fm known-store κ-{t} q-{t} s-{t} {l} fs (h′ .1 .0 ∙ m₁) (λ i j k. {operands([self.second('array-out'), self.second('nodes-out')])}) (λ w₃ m₃ is₃. land ! (from ! (stop !)) (init ! {self.place(self.unit)} refl (nothing-lawful 𝓤 H A W .typed tt _ is₃ .0)) $"
             yield f"assigns ! (of-opd ! {load(self.place(self.result))}) (from ! (stop !)) (init ! {self.place(0)} refl ({LAWFUL} .typed (r′ .0) _ (h′ .0) .0)) $"
         c.move("array")
-        c.say(f"use1 W (‵ (froom (tyArray (tyInt w16) 65792) {l} 0)) (flat-out 𝓤 H A W 65792 {l} {'fs' if self.nodes.mut else '(node-rows nodes)'}) $")
+        c.say(f"use1 W (‵ (froom (tyArray (tyInt w16) 65792) {l} 0)) (flat-out 𝓤 H A W 65792 {l} {'fs' if self.nodes.mut else f'(node-rows {t})'}) $")
         c.items[0] = f"L{self.array}"
         c.say(f"returns ! (look ! {self.place(0)} refl) $")
         for k in range(self.locals - 1, -1, -1):
@@ -188,15 +200,15 @@ class OnRecords(Walk):
 
     def ended(self):
         c = self.c
-        told = "h′ .1" + " .1" * self.nodes.mut
-        exits = ["with-rows fs nodes" if s is self.nodes and s.mut else self.last("r′", s) if s.mut else "tt" for s in self.slots]
+        told, t = "h′ .1" + " .1" * self.nodes.mut, self.table
+        exits = [f"with-rows fs {t}" if s is self.nodes and s.mut else self.last("r′", s) if s.mut else "tt" for s in self.slots]
         fits = ["m₃" if s is self.nodes and s.mut else at(told, self.exits.index(s)) if s.mut else "tt" for s in self.slots]
-        ensured = " ".join(["Ensured (node-rows nodes) (r′ .0)", *self.after(lambda s: self.last("r′", s))])
+        ensured = " ".join([f"Ensured (node-rows {t}) (r′ .0)", *self.after(lambda s: self.last("r′", s))])
         law = f"let h : {ensured} = {told}{' .1' * len(self.exits)} in {self.law()}"
         yield from self.ends("w₂", "(r′ .0)", exits, fits, law)
         c.drained("X", "fsplit", [z + s.name for s in self.others for z in (("t-", "o-") if s.mut else ("t-",))])
         if not self.nodes.mut:
-            c.drop("o-nodes")
+            c.drop(f"o-{t}")
         c.gathered("toks", "join", ["t-" + s.name for s in self.tables])
         c.frame("toks")
         yield from self.has(f"{ANSWER} (Is {ANSWER}) (EL.makes Answer·.the-type Answer′.the-plain 𝓤 H A) (r′ .0) _ (h′ .0)")
@@ -206,7 +218,8 @@ class OnRecords(Walk):
         if not self.nodes.mut:
             return "h"
         name = lambda p: p.name
-        given = [*lent(self.call, name, lambda of, p: f"{of} {p.name}"), "(report (r′ .0))"]
+        table = lambda of, p: f"{of} {p.name}" if p.name == self.table else lent_table(of, p, name, self.function.in_rows)
+        given = [*lent(self.call, name, table), "(report (r′ .0))"]
         for s, last in zip((s for s in self.tables if s.mut), self.after(lambda s: self.last("r′", s))):
             given.append(of_book(self.call, last, name) if s.name == "book" else last)
         return f"{self.name}-left {' '.join(given)} sound m₁ h"
@@ -223,12 +236,14 @@ class OnRecords(Walk):
         yield copy + ".Steps.{Load, Store, recs, nums, numsVal, loads, loads-shr, works, asks, stores}"
         for x in ("load", "store"):
             yield f"{copy}.{x}.Symbol as {x}-def\n{copy}.{x}.Met as {x}-thm"
-        core = f"use Rattle.{call.rows}.proofs.{call.name}"
+        yield "use Rattle.record_left.specs.Records.{lent-records}"
+        crate, name = self.function.core
+        core = f"use Rattle.{crate}.proofs.{name}" if crate == self.crate else f"use Rattle.{crate}.proofs.{name}"
         yield f"{core} as core\n{core}.Symbol as core-def\n{core}.Met as core-thm"
         yield self.of_code()
 
     def known(self):
-        known = [("load", "Load", "record_copy·load"), ("core", "Core", f"{self.call.rows}·{self.call.name}")]
+        known = [("load", "Load", "record_copy·load"), ("core", "Core", "·".join(self.function.core))]
         return known + [("store", "Store", "record_copy·store")] * self.nodes.mut
 
     def steps(self):

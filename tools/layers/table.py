@@ -1,14 +1,16 @@
 """The table of calls, read."""
+from typing import NamedTuple
+
 import calls
 
 
 class Param:
-    """What a call is lent."""
+    """What a call is lent; `type` where it is not that of the table."""
 
-    def __init__(self, word):
+    def __init__(self, word, type=None):
         self.name, self.written = word.rstrip("!"), word.endswith("!")
-        self.number = self.name in calls.NUMBERS
-        self.type = (calls.NUMBERS if self.number else calls.TABLES)[self.name]
+        self.number = self.name not in calls.TABLES
+        self.type = type or (calls.NUMBERS if self.number else calls.TABLES)[self.name]
         self.nodes = self.type == "Node"
 
 
@@ -33,6 +35,42 @@ def of_crate(crate):
     return [call for call in calls.RING if call.crate == crate]
 
 
+def node_tables(call):
+    """The names of the node tables that the call is lent."""
+    return [p.name for p in params(call.lent) if p.nodes]
+
+
+def counted(call):
+    """The names of what the call on rows is lent: behind each node table the number of its records."""
+    return [x for name in names(call) for x in ([name, calls.RECORDS[name]] if name in node_tables(call) else [name])]
+
+
+class Function(NamedTuple):
+    """A function on node records. It takes the records of one node table to rows, and calls a core that is lent these."""
+
+    call: calls.Call
+    name: str
+    table: str  # the node table whose records it takes
+    in_rows: list  # the node tables that it is itself lent as rows, each with the number of its records
+    core: tuple  # its crate and name
+
+    def params(self):
+        for p in params(self.call.lent):
+            if p.name in self.in_rows:
+                yield Param(p.name + "!" * p.written, "u16")
+                yield Param(calls.RECORDS[p.name], "usize")
+            else:
+                yield p
+
+
+def functions(call):
+    """The functions on records of a call, itself first: each takes one node table, the last one first, and the next one is its core."""
+    tables = node_tables(call)
+    made = [*(f"{x}_in_rows" for x in tables[1:]), call.name]
+    cores = [(call.rows, call.name), *((f"record_{call.crate}", name) for name in made)]
+    return [Function(call, made[k], tables[k], tables[k + 1 :], cores[k]) for k in reversed(range(len(tables)))]
+
+
 def of_book(call, words, entry):
     """A book with these words, and what else of it the call is lent."""
     by_name = {p.name: p for p in params(call.lent)}
@@ -40,15 +78,15 @@ def of_book(call, words, entry):
 
 
 def lent(call, entry, nodes):
-    """What is lent as a promise takes it: `entry` gives a parameter, `nodes` a node table, from the numbers that stand before it and the table."""
+    """What is lent as a promise takes it: `entry` gives a parameter, `nodes` a node table, from the number of bins before it and the table."""
     by_name = {p.name: p for p in params(call.lent)}
-    first = calls.OF_NODES if any(p.nodes for p in by_name.values()) else []
+    bins = [calls.OF_NODES[name] for name in node_tables(call)]
     for p in by_name.values():
         if p.nodes:
-            yield nodes(" ".join(entry(by_name[x]) for x in first), p)
+            yield nodes(entry(by_name[calls.OF_NODES[p.name]]), p)
         elif p.name == "book":
             yield of_book(call, entry(p), entry)
-        elif p.name not in first and p.name not in calls.OF_BOOK:
+        elif p.name not in bins and p.name not in calls.OF_BOOK:
             yield entry(p)
 
 
@@ -58,11 +96,17 @@ def promise(call, entry, exit, nodes, said):
     return " ".join([call.promise, *lent(call, entry, nodes), *left, said])
 
 
-def on_records(call, entry, exit, said):
-    """The promise on node records: where they are written, with what is left of them."""
-    rows = lambda p: f"(node-rows {exit(p)})" if p.nodes else exit(p)
-    text = promise(call, entry, rows, lambda of, p: f"(lent-records {of} {entry(p)})", said)
-    return text + "".join(f" × Left {entry(p)} {exit(p)} {said}" for p in written(call) if p.nodes)
+def lent_table(of, p, entry, in_rows):
+    """A node table of so many bins: of records, or of rows with their number where it is among `in_rows`."""
+    return f"(lent-nodes {of} {calls.RECORDS[p.name]} {entry(p)})" if p.name in in_rows else f"(lent-records {of} {entry(p)})"
+
+
+def on_records(call, entry, exit, said, in_rows=()):
+    """The promise on node records: where they are written, with what is left of them. The tables `in_rows` are lent as rows."""
+    stored = [p.name for p in written(call) if p.nodes and p.name not in in_rows]
+    rows = lambda p: f"(node-rows {exit(p)})" if p.name in stored else exit(p)
+    text = promise(call, entry, rows, lambda of, p: lent_table(of, p, entry, in_rows), said)
+    return text + "".join(f" × Left {entry(p)} {exit(p)} {said}" for p in written(call) if p.name in stored)
 
 
 def lent_uses(made):

@@ -1,5 +1,4 @@
 """A proof by hand for a function that is lent a slice of node records: a walk of its MIR, whose calls are single steps."""
-from layers.table import params
 from layers.text import MADE, imported
 
 WIDTH = {"u8": "w8", "u16": "w16", "u32": "w32", "u64": "w64", "usize": "w64"}
@@ -182,12 +181,13 @@ class Value:
 class Walk:
     """A function that is walked: its slots, and what is the same of every walk."""
 
-    def __init__(self, call, crate, name, apart):
+    def __init__(self, call, crate, name, lent, apart=None):
+        """`lent`: its parameters; `apart`: the node table that is taken apart where it is written."""
         self.call, self.crate, self.name, self.dashed = call, crate, name, dashed(name)
         self.slots = []
-        for p in params(call.lent):
+        for p in lent:
             i, j = len(self.slots), sum(s.lent for s in self.slots)
-            self.slots.append(Number(p, i) if p.number else Slice(p, i, j, apart and p.nodes and p.written))
+            self.slots.append(Number(p, i) if p.number else Slice(p, i, j, p.name == apart and p.written))
         self.tables = [s for s in self.slots if s.lent]
         self.written = [s for s in self.slots if s.mut]
 

@@ -23,7 +23,7 @@ use Rattle.spec_calls.proofs.Demands.{lent-held}
 use Rattle.table_book.proofs.Laws.{few-groups}
 use Rattle.table_book.proofs.Lists.{group-held}
 use Rattle.call_checks.specs.Lent.{RingLent}
-use Rattle.call_checks.proofs.Laws.{first-refusal-some, first-refusal-none, first-refusal-left}
+use Rattle.spec_calls.proofs.Checks.{first-refusal-some, first-refusal-none, first-refusal-left}
 use Rattle.call_attempt.specs.declared.Tried.{Tried}
 use Rattle.call_attempt.specs.declared.Tried.the-variants.{Joined, Refused}
 use Rattle.call_attempt.specs.Attempts.{group-refusal, JoinedTree, AttemptsOn, Attempts}

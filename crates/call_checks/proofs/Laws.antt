@@ -6,7 +6,7 @@ use mathlib.Core.List.{List, [], _∷_, _++_}
 use Prim.Native.Nat.{ℕ, _≤_, _<_}
 use native.Mathlib.Nat.{pos-of-ne-zero}
 use native.Mathlib.Omega.{arith}
-use borrow.Author.Tests.{eq-eqb, ne-eqb, lt-ltb, le-ltb, ltb-false, eqb-false}
+use borrow.Author.Tests.{eq-eqb, ne-eqb, lt-ltb, ltb-false, eqb-false}
 use lib.Dec.{eqb, ltb}
 use lib.ListN.{length}
 use Rattle.spec_orders.specs.Tree.{Forest}
@@ -19,28 +19,13 @@ use Rattle.spec_calls.specs.Refusals.{refuse, first-refusal, bad-size, short, s
 use Rattle.spec_calls.specs.Calls.{is-none, table-checks, tree-checks, ring-checks}
 use Rattle.spec_calls.specs.Demands.{LentTree, LentBook}
 use Rattle.spec_calls.proofs.NodeTables.{tree-in-holds}
-use Rattle.spec_calls.proofs.Demands.{size-fine, nodes-fine, tables-whole}
+use Rattle.spec_calls.proofs.Checks.{first-refusal-some, first-refusal-none}
+use Rattle.spec_calls.proofs.Demands.{size-fine, tables-whole}
 use Rattle.table_walk.specs.declared.Walked.the-variants.{Found}
 use Rattle.table_walk.specs.Walks.{Loads}
 use Rattle.call_checks.specs.declared.Lent.{Lent}
 use Rattle.call_checks.specs.declared.Lent.the-variants.{Refused}
 use Rattle.call_checks.specs.Lent.{TreeLent, LendsTree, RingLent, LendsRing, book-checks}
-
--- Checks after others.
-pub first-refusal-some : (xs ys : List (Option Refusal)) (r : Refusal) → first-refusal xs ≡ some r → first-refusal (xs ++ ys) ≡ some r
-first-refusal-some [] ys r e = absurd (let z : _≡_ {A = ℕ} 0 1 = cc in omega arith)
-first-refusal-some (none ∷ xs) ys r e = first-refusal-some xs ys r e
-first-refusal-some (some x ∷ xs) ys r e = e
-
-pub first-refusal-none : (xs ys : List (Option Refusal)) → first-refusal xs ≡ none → first-refusal (xs ++ ys) ≡ first-refusal ys
-first-refusal-none [] ys e = refl
-first-refusal-none (none ∷ xs) ys e = first-refusal-none xs ys e
-first-refusal-none (some x ∷ xs) ys e = absurd (let z : _≡_ {A = ℕ} 0 1 = cc in omega arith)
-
-pub first-refusal-left : (xs ys : List (Option Refusal)) → first-refusal (xs ++ ys) ≡ none → first-refusal xs ≡ none
-first-refusal-left [] ys e = refl
-first-refusal-left (none ∷ xs) ys e = first-refusal-left xs ys e
-first-refusal-left (some x ∷ xs) ys e = e
 
 -- 1 and 2.
 module _ (nodes : Nodes) (other : Bool) where
@@ -51,17 +36,14 @@ module _ (nodes : Nodes) (other : Bool) where
   many-leaves h = rw (ne-eqb (nodes .bins) 0 (λ e. omega arith), lt-ltb 256 (nodes .bins) h)
 
   module _ (l : 1 ≤ nodes .bins) (m : nodes .bins ≤ 256) where
-    pub few-records : nodes .records < 256 → some ShortTable ≡ first-refusal (table-checks nodes other)
-    few-records h = rw (size-fine (nodes .bins) l m, lt-ltb (nodes .records) 256 h)
+    pub own-short : short-nodes nodes ≡ true → some ShortTable ≡ first-refusal (table-checks nodes other)
+    own-short q = rw (size-fine (nodes .bins) l m, q)
 
-    pub few-rows : 256 ≤ nodes .records → length (nodes .rows) < 65792 → some ShortTable ≡ first-refusal (table-checks nodes other)
-    few-rows r h = rw (size-fine (nodes .bins) l m, le-ltb (nodes .records) 256 r, lt-ltb (length (nodes .rows)) 65792 h)
+    pub other-short : short-nodes nodes ≡ false → other ≡ true → some ShortTable ≡ first-refusal (table-checks nodes other)
+    other-short q e = rw (size-fine (nodes .bins) l m, q, e)
 
-    pub other-short : 256 ≤ nodes .records → 65792 ≤ length (nodes .rows) → other ≡ true → some ShortTable ≡ first-refusal (table-checks nodes other)
-    other-short r q e = rw (size-fine (nodes .bins) l m, nodes-fine nodes r q, e)
-
-    pub tables-pass : 256 ≤ nodes .records → 65792 ≤ length (nodes .rows) → other ≡ false → none ≡ first-refusal (table-checks nodes other)
-    tables-pass r q e = rw (size-fine (nodes .bins) l m, nodes-fine nodes r q, e)
+    pub tables-pass : short-nodes nodes ≡ false → other ≡ false → none ≡ first-refusal (table-checks nodes other)
+    tables-pass q e = rw (size-fine (nodes .bins) l m, q, e)
 
   -- Where none of them refuses.
   pub holds-lent : first-refusal (table-checks nodes other) ≡ none → (t : Forest) → Holds (leaves nodes) (nodes .rows) t → LentTree nodes t

@@ -3,7 +3,7 @@ ghost use mathlib.Core.Path.{_≡_};
 ghost use Prim.Native.Nat.{_≤_};
 ghost use lib.ListN.{length};
 ghost use Rattle.spec_calls.specs.Tables.{lent-nodes, lent-book};
-ghost use Rattle.spec_calls.specs.Refusals.{first-refusal};
+ghost use Rattle.spec_calls.specs.Refusals.{first-refusal, short-nodes};
 ghost use Rattle.spec_calls.specs.Calls.{table-checks};
 ghost use Rattle.table_book.specs.Lists.{refusal-in};
 ghost use Rattle.call_checks.specs.Lent.{book-checks, LendsTree, LendsRing};
@@ -17,6 +17,16 @@ pub enum Lent {
     Refused(Refusal),
 }
 
+// Whether a node table of `have` records is too short.
+pub fn short(nodes: &[u16], have: usize) -> bool
+    ensures { λ r. ⌜ r ≡ short-nodes (lent-nodes 0 have (now (nodes .entry))) ⌝ }
+{
+    if have < 256 {
+        return true;
+    }
+    nodes.len() < 65792
+}
+
 // Checks 1 and 2 on a node table of `have` records; `other` says that another lent table is too short.
 pub fn check_tables(n: usize, nodes: &[u16], have: usize, other: bool) -> Checked
     ensures { λ r. ⌜ refusal-in r ≡ first-refusal (table-checks (lent-nodes n have (now (nodes .entry))) other) ⌝ }
@@ -27,10 +37,7 @@ pub fn check_tables(n: usize, nodes: &[u16], have: usize, other: bool) -> Checke
     if n > 256 {
         return Checked::Bad(Refusal::RingSize);
     }
-    if have < 256 {
-        return Checked::Bad(Refusal::ShortTable);
-    }
-    if nodes.len() < 65792 {
+    if short(nodes, have) {
         return Checked::Bad(Refusal::ShortTable);
     }
     if other {

@@ -21,7 +21,7 @@ use Rattle.tree_tokens.specs.Tokens.{Wrote}
 use Rattle.spec_calls.specs.Demands.{LentBook, Named}
 use Rattle.spec_calls.specs.Promises.{ConflictPromise}
 use Rattle.call_checks.specs.Lent.{book-checks}
-use Rattle.call_checks.proofs.Laws.{first-refusal-some, first-refusal-none}
+use Rattle.spec_calls.proofs.Checks.{first-refusal-some, first-refusal-none}
 
 module _ (n : ℕ) (book : Book) (list table : List ℕ) where
   -- The checks of the lent book, and then those of the list.

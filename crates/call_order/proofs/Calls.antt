@@ -25,7 +25,7 @@ use Rattle.tree_tokens.specs.Tokens.{tree, plain}
 use Rattle.tree_tokens.proofs.Sequences.{tree-plain}
 use Rattle.tree_tokens.proofs.Writes.{read-part}
 use Rattle.call_checks.specs.Lent.{RingLent}
-use Rattle.call_checks.proofs.Laws.{first-refusal-some, first-refusal-none}
+use Rattle.spec_calls.proofs.Checks.{first-refusal-some, first-refusal-none}
 use Rattle.call_order.specs.Starts.{aim-in}
 use Rattle.call_order.specs.Rings.{Lends, aim-of-group}
 

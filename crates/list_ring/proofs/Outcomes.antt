@@ -24,7 +24,7 @@ use Rattle.spec_calls.proofs.Demands.{well-formed-passes, passes-iff}
 use Rattle.table_book.proofs.Lists.{group-held}
 use Rattle.tree_tokens.specs.Tokens.{Wrote, flat, TreeTokens}
 use Rattle.tree_tokens.proofs.Writes.{read-part, wrote-most}
-use Rattle.call_checks.proofs.Laws.{first-refusal-none}
+use Rattle.spec_calls.proofs.Checks.{first-refusal-none}
 use Rattle.call_attempt.specs.Attempts.{group-refusal, JoinedTree}
 use Rattle.call_attempt.proofs.Laws.{after-list, list-passed}
 use Rattle.spec_listing.specs.Listing.{Outcome, kept, refused, empty, full, RingState, opened, joined, outcome, next}

@@ -1,7 +1,7 @@
 -- What the functions do to a word; four words.
 use mathlib.Core.Path.{_≡_, refl, sym, ap, ap₂, _∙_}
 use mathlib.Core.Logic.{_≢_}
-use mathlib.Core.Bool.{Bool, true, false, _||_}
+use mathlib.Core.Bool.{Bool, _||_}
 use mathlib.Core.List.{List, [], _∷_}
 use Prim.Native.Nat.{ℕ, suc, _+_, _*_, _/_, _%_, _^_, _≤_, _<_}
 use native.Mathlib.Nat.{mod-lt}
@@ -14,6 +14,7 @@ use lib.Pow.{pow-lt}
 use lib.Bits.{bitOr, or-lt}
 use borrow.Author.Tests.{eq-eqb, ne-eqb}
 use Rattle.spec_orders.specs.CircularOrder.{Restriction}
+use Rattle.spec_orders.proofs.Tests.{or-swap}
 use Rattle.mark_words.specs.Marks.{bit, marked, word-of, words-of, with-leaf}
 use Rattle.mark_words.proofs.Word.{word-is, bit-or, bit-pow}
 use Rattle.mark_words.proofs.Words.{Words, words-are, marked-at, leaf-at, words-agree, words-of-marked}
@@ -34,12 +35,6 @@ module _ (ws : List ℕ) (G : Restriction) (w x : ℕ) (v : Words ws) (l : w < l
       at : (i : ℕ) → Dec (i ≡ w) → getD (set ws w x) i 0 ≡ word-of G (64 * i) 64
       at i (yes e) = rw e (getD-set-same ws w x 0 l ∙ word-is G (64 * w) x 64 hx new)
       at i (no n) = getD-set-other ws w i x 0 n ∙ word-is G (64 * i) (getD ws i 0) 64 (v i) (λ j m. others i j n m)
-
-or-swap : (a b : Bool) → (a || b) ≡ (b || a)
-or-swap true true = refl
-or-swap true false = refl
-or-swap false true = refl
-or-swap false false = refl
 
 eqb-iff : (a b c d : ℕ) → (a ≡ b → c ≡ d) → (c ≡ d → a ≡ b) → eqb a b ≡ eqb c d
 eqb-iff a b c d f g = go (ℕ-discrete a b)

@@ -1,4 +1,4 @@
-// The calls of document 01 on a ring as it is lent, a node table of records and a book; and the ring file, read. Each is handed on as it stands in
+// The calls on a ring as it is lent, a node table of records and a book, and on two trees; and the ring file, read. Each is handed on as it stands in
 // the crate that is named, with its contract.
 pub use call_conflict::conflict;
 pub use file_read::group_of;
@@ -6,6 +6,7 @@ pub use file_read::name_at;
 pub use file_read::name_of;
 pub use file_read::scan;
 pub use file_read::value_of;
+pub use record_intersection::intersect;
 pub use record_order::aim;
 pub use record_order::order;
 pub use record_text::read;

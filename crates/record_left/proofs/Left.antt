@@ -20,11 +20,11 @@ use Rattle.spec_calls.specs.declared.Refusal.the-variants.{NotInForm, BookFull,
 use Rattle.spec_calls.specs.Tables.{Nodes, leaves, Book, over}
 use Rattle.spec_calls.specs.NodeTable.{table-of, held-tree}
 use Rattle.spec_calls.specs.Book.{book-in-form?}
-use Rattle.spec_calls.specs.Refusals.{Reply, refuse, first-refusal, short, list-checks}
-use Rattle.spec_calls.specs.Calls.{Ring, ring, is-none, table-checks, ring-checks, open-refusal, opened, open-call, joined-tree, join-refusal, joined, join-call, read-outcome, ReadCall, unread, read}
-use Rattle.spec_calls.specs.Promises.{OpenPromise, JoinPromise, ReadPromise}
+use Rattle.spec_calls.specs.Refusals.{Reply, refuse, short, list-checks}
+use Rattle.spec_calls.specs.Calls.{Ring, ring, Filled, filled-as, filled, of-tree as written, is-none, table-checks, ring-checks, open-refusal, opened, open-call, joined-tree, join-refusal, joined, join-call, read-outcome, ReadCall, unread, read, common-tree, intersect-refusal, intersect-call, pair-checks, common-checks}
+use Rattle.spec_calls.specs.Promises.{OpenPromise, JoinPromise, ReadPromise, IntersectPromise}
 use Rattle.spec_calls.proofs.NodeTables.{tree-in-holds}
-use Rattle.spec_calls.proofs.Refused.{open-keeps, join-keeps, read-call-keeps}
+use Rattle.spec_calls.proofs.Refused.{open-keeps, join-keeps, read-call-keeps, filled-keeps}
 use Rattle.call_text.proofs.Reading.{reads-form}
 use Rattle.spec_calls.proofs.Demands.{tables-whole}
 use Rattle.record_copy.specs.declared.Node.{Node}
@@ -33,6 +33,8 @@ use Rattle.record_copy.proofs.Kept.{kept}
 use Rattle.record_copy.proofs.Back.{past}
 use Rattle.record_left.specs.Records.{lent-records, Left}
 use Rattle.record_left.proofs.Trees.{table-back}
+use Rattle.spec_calls.proofs.Checks.{first-refusal-left}
+use Rattle.spec_calls.proofs.Intersect.{Whole, pair-whole, common-form}
 
 -- The rows as they were, or the table over them of a tree with so many leaves.
 data Rows (n : ℕ) (ns : List Node) (fs : List ℕ) : Type 0 where
@@ -85,18 +87,13 @@ open-left n ns book said fs book′ sound long e =
 
 -- ---- joining
 
-first-refusal-before : (xs ys : List (Option Refusal)) → first-refusal (xs ++ ys) ≡ none → first-refusal xs ≡ none
-first-refusal-before [] ys e = refl
-first-refusal-before (none ∷ xs) ys e = first-refusal-before xs ys e
-first-refusal-before (some x ∷ xs) ys e = e
-
 module _ (nodes : Nodes) (book : Book) (list : List ℕ) where
   join-whole : join-refusal nodes book list ≡ none → (leaves nodes ≤ 256) × (256 ≤ nodes .records)
   unfolding join-refusal
   join-whole e =
       let of-form = refuse (is-none (held-tree nodes) || not (book-in-form? (nodes .bins) book)) NotInForm ∷ [] in
       let of-group = list-checks (nodes .bins) list ++ (refuse (eqb (book .count) 96) BookFull ∷ refuse (is-none (joined-tree nodes list)) Impossible ∷ []) in
-      let w = tables-whole nodes (short 384 (book .words)) (first-refusal-before (table-checks nodes (short 384 (book .words))) of-form (first-refusal-before (ring-checks nodes book) of-group e)) in
+      let w = tables-whole nodes (short 384 (book .words)) (first-refusal-left (table-checks nodes (short 384 (book .words))) of-form (first-refusal-left (ring-checks nodes book) of-group e)) in
       (w .1, w .2)
 
   joined-form : (u : Forest) → leaves nodes ≤ 256 → joined-tree nodes list ≡ some u → InForm (leaves nodes) u
@@ -146,3 +143,36 @@ read-left n ns book text said fs book′ sound long h =
     left ns sound long (leaves (lent-records n ns)) fs (read-rows n ns book text (ring said fs book′) h) said
     (λ q. read-call-keeps (lent-records n ns) book text (ring said fs book′) h q .0)
     (λ (rows : List ℕ). ReadPromise (lent-records n ns) book text rows book′ said) h
+
+-- ---- intersecting two trees
+
+whole : (nodes other third : Nodes) → intersect-refusal nodes other third ≡ none → Whole nodes other third
+unfolding intersect-refusal
+whole nodes other third e = pair-whole nodes other third (first-refusal-left (pair-checks nodes other third) (common-checks nodes other) e)
+
+module _ (nodes other : Nodes) (n : ℕ) (ns : List Node) (said : Reply) (fs : List ℕ) (e : filled-as said fs ≡ intersect-call nodes other (lent-records n ns)) where
+  intersect-rows : Rows (leaves nodes) ns fs
+  unfolding intersect-call
+  intersect-rows = go (intersect-refusal nodes other (lent-records n ns)) refl (common-tree nodes other) refl e
+    where
+      go : (o : Option Refusal) → intersect-refusal nodes other (lent-records n ns) ≡ o → (c : Option Forest) → common-tree nodes other ≡ c
+          → filled-as said fs ≡ filled o 0 (written c table-of) (node-rows ns) → Rows (leaves nodes) ns fs
+      go (some x) p c q d = as-before (ap (λ (y : Filled). y .table) d)
+      go none p none q d = as-before (ap (λ (y : Filled). y .table) d)
+      go none p (some v) q d =
+          let w = whole nodes other (lent-records n ns) p in
+          of-tree v (common-form nodes other (w .same-bins) (w .few-leaves) v q) (w .few-leaves) (w .third-records) (ap (λ (y : Filled). y .table) d)
+
+  intersect-keeps : said .number ≢ 0 → fs ≡ node-rows ns
+  unfolding intersect-call
+  intersect-keeps q =
+      ap (λ (y : Filled). y .table) e
+      ∙ filled-keeps (intersect-refusal nodes other (lent-records n ns)) 0 (written (common-tree nodes other) table-of) (node-rows ns)
+      (λ z. q (ap (λ (y : Filled). y .answer .number) e ∙ z))
+
+pub intersect-left : (nodes other : Nodes) (n : ℕ) (ns : List Node) (said : Reply) (fs : List ℕ) → Sound (take 256 ns) → length (node-rows ns) ≡ 65792
+    → IntersectPromise nodes other (lent-records n ns) fs said
+    → IntersectPromise nodes other (lent-records n ns) (node-rows (with-rows fs ns)) said × Left ns (with-rows fs ns) said
+intersect-left nodes other n ns said fs sound long (e, demand) =
+    left ns sound long (leaves nodes) fs (intersect-rows nodes other n ns said fs e) said (intersect-keeps nodes other n ns said fs e)
+    (λ (rows : List ℕ). IntersectPromise nodes other (lent-records n ns) rows said) (e, demand)

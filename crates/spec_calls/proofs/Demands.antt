@@ -14,7 +14,7 @@ use lib.Seq.{take-append-seam}
 use Rattle.spec_orders.specs.Lists.{All, Distinct, elem}
 use Rattle.spec_orders.specs.CircularOrder.{Restriction, WellFormed, group-of}
 use Rattle.spec_orders.specs.Tree.{Forest}
-use Rattle.spec_orders.specs.Form.{InForm, standard, StandardOrder}
+use Rattle.spec_orders.specs.Form.{InForm, FirstOf, StandardOrder, standard}
 use Rattle.spec_orders.specs.Join.{join}
 use Rattle.spec_orders.proofs.StandardOrders.{standard-is}
 use Rattle.spec_orders.proofs.TextTree.{form-length}
@@ -122,6 +122,10 @@ tables-whole nodes other e = go (eqb (nodes .bins) 0) refl (ltb 256 (nodes .bins
 pub lent-held : (nodes : Nodes) (t : Forest) → LentTree nodes t → held-tree nodes ≡ some t
 lent-held nodes t h = tree-in-holds (leaves nodes) (nodes .rows) t (h .few-leaves) .1 (h .tree)
 
+-- The first of some orders is the first of the same orders, however they are described.
+pub first-among : {Ok Same : List ℕ → Type 0} {ord : List ℕ} → FirstOf Ok ord → ((other : List ℕ) → Ok other ↔ Same other) → FirstOf Same ord
+first-among {ord = ord} s same = record { allowed = same ord .0 (s .allowed); least = λ other o. s .least other (same other .1 o) }
+
 module _ (nodes : Nodes) (book : Book) (list : List ℕ) (t : Forest) (h : LentTree nodes t) (b : LentBook (nodes .bins) book) (place-left : book .count < 96) (w : WellFormed (nodes .bins) list) where
   the-joined : joined-tree nodes list ≡ join (group-of (nodes .bins) list) t
   unfolding joined-tree
@@ -184,7 +188,7 @@ module _ (nodes : Nodes) (book : Book) (list : List ℕ) (t : Forest) (h : LentT
               new = u;
               held = over-holds n u (nodes .rows) (j .form) (h .few-leaves);
               orders = j .orders;
-              first = j .standard-first;
+              first = first-among (j .standard-first) (j .orders);
             };
           }
 

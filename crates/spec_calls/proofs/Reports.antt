@@ -5,7 +5,7 @@ use Prim.Native.Nat.{ℕ}
 use native.Mathlib.Omega.{arith}
 use lib.Dec.{eqb}
 use Rattle.spec_calls.specs.declared.Refusal.{Refusal}
-use Rattle.spec_calls.specs.declared.Refusal.the-variants.{RingSize, ShortTable, NotInForm, EmptyGroup, OutsideRing, Repeated, BookFull, Impossible, NoSuchGroup, NotConsecutive, RingFile, TreeText}
+use Rattle.spec_calls.specs.declared.Refusal.the-variants.{RingSize, ShortTable, NotInForm, EmptyGroup, OutsideRing, Repeated, BookFull, Impossible, NoSuchGroup, NotConsecutive, RingFile, TreeText, BinCounts}
 use Rattle.spec_calls.specs.declared.Answer.{Answer}
 use Rattle.spec_calls.specs.declared.Answer.the-variants.{Done, Refused}
 use Rattle.spec_calls.specs.Refusals.{Reply, reply, reported, report}
@@ -15,7 +15,7 @@ abbrev refusal-of : ℕ → ℕ → Refusal
 refusal-of r v =
     cond (eqb r 2) ShortTable (cond (eqb r 3) NotInForm (cond (eqb r 4) EmptyGroup (cond (eqb r 5) (OutsideRing v) (cond (eqb r 6) (Repeated v)
     (cond (eqb r 7) BookFull (cond (eqb r 8) Impossible (cond (eqb r 9) NoSuchGroup (cond (eqb r 10) NotConsecutive
-    (cond (eqb r 11) (RingFile v) (cond (eqb r 12) (TreeText v) RingSize))))))))))
+    (cond (eqb r 11) (RingFile v) (cond (eqb r 12) (TreeText v) (cond (eqb r 13) BinCounts RingSize)))))))))))
 
 abbrev answer-of : Reply → Answer
 answer-of s = cond (eqb (s .number) 0) (Done (s .value)) (Refused (refusal-of (s .number) (s .value)))
@@ -33,6 +33,7 @@ refused-back NoSuchGroup = refl
 refused-back NotConsecutive = refl
 refused-back (RingFile p) = refl
 refused-back (TreeText p) = refl
+refused-back BinCounts = refl
 
 answer-back : (a : Answer) → answer-of (report a) ≡ a
 answer-back (Done v) = refl
@@ -55,6 +56,7 @@ refused-number NoSuchGroup e = omega arith
 refused-number NotConsecutive e = omega arith
 refused-number (RingFile p) e = omega arith
 refused-number (TreeText p) e = omega arith
+refused-number BinCounts e = omega arith
 
 -- What `code` returns and writes.
 pub done-reply : (v : ℕ) (a : Answer) → a ≡ Done v → reply 0 v ≡ report a

@@ -1,4 +1,4 @@
--- What each call of document 01 answers, and what every lent table holds afterwards, refusals down the table included.
+-- What each call answers, and what every lent table holds afterwards, refusals down the table included.
 -- "Each call makes the checks that concern what it is lent, down the table." A refusal leaves every table as it was.
 use mathlib.Core.Path.{_≡_}
 use mathlib.Core.Bool.{Bool, true, false, not, _||_}
@@ -14,9 +14,10 @@ use Rattle.spec_orders.specs.TreeText.{tree-text, Found, tree, refused, Reads}
 use Rattle.spec_orders.specs.Join.{fresh, join, then}
 use Rattle.spec_orders.specs.Conflict.{consecutive?, ring-conflicts}
 use Rattle.spec_orders.specs.Aim.{aim-of}
+use Rattle.spec_intersection.specs.Intersection.{intersection}
 use Rattle.mark_words.specs.Marks.{marked}
 use Rattle.spec_calls.specs.declared.Refusal.{Refusal}
-use Rattle.spec_calls.specs.declared.Refusal.the-variants.{RingSize, ShortTable, NotInForm, BookFull, Impossible, NoSuchGroup, NotConsecutive, TreeText}
+use Rattle.spec_calls.specs.declared.Refusal.the-variants.{RingSize, ShortTable, NotInForm, BookFull, Impossible, NoSuchGroup, NotConsecutive, TreeText, BinCounts}
 use Rattle.spec_calls.specs.Tables.{Nodes, leaves, Book, over, padded}
 use Rattle.spec_calls.specs.Book.{group-words, book-in-form?, with-group, without-groups}
 use Rattle.spec_calls.specs.NodeTable.{table-of, held-tree}
@@ -166,3 +167,26 @@ conflicts-of n book new = ring-conflicts n (group-numbered (book .words)) (book 
 unfoldable pub conflict-call : ℕ → Book → List ℕ → List ℕ → Filled
 conflict-call n book list conflicts =
     filled (conflict-refusal n book list conflicts) (length (conflicts-of n book (group-of n list))) (padded 96 (conflicts-of n book (group-of n list))) conflicts
+
+-- Document 02, No. 1: the tree that allows the orders allowed by both lent trees.
+unfoldable pub common-tree : Nodes → Nodes → Option Forest
+common-tree nodes other = then (held-tree nodes) (λ t. then (held-tree other) (intersection t))
+
+-- Checks 1 (both bin counts), 2 (all three tables) and 13 ("when the two bin counts differ, checked right after 2"); then 3 (both trees) and 8.
+abbrev pub pair-checks : Nodes → Nodes → Nodes → List (Option Refusal)
+pair-checks nodes other third =
+    refuse (bad-size (nodes .bins) || bad-size (other .bins)) RingSize
+    ∷ refuse ((short-nodes nodes || short-nodes other) || short-nodes third) ShortTable
+    ∷ refuse (not (eqb (nodes .bins) (other .bins))) BinCounts
+    ∷ []
+
+abbrev pub common-checks : Nodes → Nodes → List (Option Refusal)
+common-checks nodes other =
+    refuse (is-none (held-tree nodes) || is-none (held-tree other)) NotInForm ∷ refuse (is-none (common-tree nodes other)) Impossible ∷ []
+
+unfoldable pub intersect-refusal : Nodes → Nodes → Nodes → Option Refusal
+intersect-refusal nodes other third = first-refusal (pair-checks nodes other third ++ common-checks nodes other)
+
+-- "The result goes into a third node table and no book is read or written." Answers 0.
+unfoldable pub intersect-call : Nodes → Nodes → Nodes → Filled
+intersect-call nodes other third = filled (intersect-refusal nodes other third) 0 (of-tree (common-tree nodes other) table-of) (third .rows)

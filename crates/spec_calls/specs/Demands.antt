@@ -1,5 +1,5 @@
--- The second and the third demand, over the calls and in circular orders. The second: "for every tree in the published form and every well-formed
--- group, with a place left in the book".
+-- The second and the third demand, over the calls and in circular orders; and the one of document 02's No. 1. The second: "for every tree in the
+-- published form and every well-formed group, with a place left in the book".
 use mathlib.Core.Path.{_≡_}
 use mathlib.Core.Logic.{_↔_, _≢_}
 use mathlib.Core.Bool.{true}
@@ -8,8 +8,9 @@ use Prim.Native.Nat.{ℕ, _≤_, _<_}
 use lib.ListN.{length, take}
 use Rattle.spec_orders.specs.CircularOrder.{Restriction, WellFormed, group-of, Consecutive, Possible}
 use Rattle.spec_orders.specs.Tree.{Forest, Allowed}
-use Rattle.spec_orders.specs.Form.{standard, StandardOrder}
+use Rattle.spec_orders.specs.Form.{FirstOf, StandardOrder, standard}
 use Rattle.spec_orders.specs.Conflict.{Demand-3, Numbers}
+use Rattle.spec_intersection.specs.ThreeNeighbours.{Wide}
 use Rattle.spec_calls.specs.Tables.{Nodes, leaves, Book, padded}
 use Rattle.spec_calls.specs.Book.{book-in-form?}
 use Rattle.spec_orders.specs.Lists.{numbers-from}
@@ -39,7 +40,7 @@ pub record NewTree (n : ℕ) (G : Restriction) (t : Forest) (rows : List ℕ) : 
   pub new : Forest
   pub held : Holds n rows new
   pub orders : (ord : List ℕ) → Allowed new ord ↔ (Allowed t ord × Consecutive G ord)
-  pub first : StandardOrder new (standard new)
+  pub first : FirstOf (λ ord. Allowed t ord × Consecutive G ord) (standard new)
 
 pub record Joins (n : ℕ) (G : Restriction) (t : Forest) (said : Reply) (rows : List ℕ) : Type 0 where
   pub impossible : ImpossibleIff G t said
@@ -72,3 +73,22 @@ pub record Named (n : ℕ) (book : Book) (list : List ℕ) (said : Reply) (confl
 abbrev pub ConflictDemand : ℕ → Book → List ℕ → List ℕ → Reply → List ℕ → Type 0
 ConflictDemand n book list conflicts said new =
     1 ≤ n → n ≤ 256 → LentBook n book → 96 ≤ length conflicts → WellFormed n list → Named n book list said new
+
+-- Document 02, No. 1: "the tree that allows exactly the orders allowed by both", its standard order the first of them. "A node with three neighbours
+-- in the result is a P-node."
+pub record BothTrees (n : ℕ) (t u : Forest) (rows : List ℕ) : Type 0 where
+  pub new : Forest
+  pub held : Holds n rows new
+  pub wide : Wide new
+  pub orders : (ord : List ℕ) → Allowed new ord ↔ (Allowed t ord × Allowed u ord)
+  pub first : FirstOf (λ ord. Allowed t ord × Allowed u ord) (standard new)
+
+-- "If there is none, the call is refused with 8."
+pub record Intersects (n : ℕ) (t u : Forest) (said : Reply) (rows : List ℕ) : Type 0 where
+  pub impossible : (said ≡ reply 8 0) ↔ ((ord : List ℕ) → Allowed t ord → Allowed u ord → ⊥)
+  pub otherwise : said ≢ reply 8 0 → BothTrees n t u rows
+
+abbrev pub IntersectDemand : Nodes → Nodes → Nodes → Reply → List ℕ → Type 0
+IntersectDemand nodes other third said new =
+    (t u : Forest) → LentTree nodes t → LentTree other u → nodes .bins ≡ other .bins → 256 ≤ third .records → 65792 ≤ length (third .rows)
+    → Intersects (leaves nodes) t u said new

@@ -1,12 +1,12 @@
--- What each call of document 01 promises: what it returns, in the paper's numbers, and every lent table follow from the call's definition; and the
+-- What each call promises: what it returns, in the paper's numbers, and every lent table follow from the call's definition; and the
 -- demand on it. First comes what is lent, then the tables as they are left, last what is returned.
 use mathlib.Core.Path.{_≡_}
 use mathlib.Core.List.{List}
 use Prim.Native.Nat.{ℕ}
 use Rattle.spec_calls.specs.Tables.{Nodes, Book}
 use Rattle.spec_calls.specs.Refusals.{Reply}
-use Rattle.spec_calls.specs.Calls.{ring, filled-as, open-call, join-call, trial-call, order-call, aim-call, write-call, ReadCall, conflict-call}
-use Rattle.spec_calls.specs.Demands.{JoinDemand, TrialDemand, OrderDemand, ConflictDemand}
+use Rattle.spec_calls.specs.Calls.{ring, filled-as, open-call, join-call, trial-call, order-call, aim-call, write-call, ReadCall, conflict-call, intersect-call}
+use Rattle.spec_calls.specs.Demands.{JoinDemand, TrialDemand, OrderDemand, ConflictDemand, IntersectDemand}
 
 abbrev pub OpenPromise : Nodes → Book → List ℕ → Book → Reply → Type 0
 OpenPromise nodes book rows′ book′ said = ring said rows′ book′ ≡ open-call nodes book
@@ -32,3 +32,6 @@ ReadPromise nodes book text rows′ book′ said = ReadCall nodes book text (rin
 abbrev pub ConflictPromise : ℕ → Book → List ℕ → List ℕ → List ℕ → Reply → Type 0
 ConflictPromise n book list conflicts conflicts′ said =
     (filled-as said conflicts′ ≡ conflict-call n book list conflicts) × ConflictDemand n book list conflicts said conflicts′
+
+abbrev pub IntersectPromise : Nodes → Nodes → Nodes → List ℕ → Reply → Type 0
+IntersectPromise nodes other third third′ said = (filled-as said third′ ≡ intersect-call nodes other third) × IntersectDemand nodes other third said third′

@@ -1,4 +1,5 @@
--- Document 01, "What a call refuses": the numbers of the table, what is returned with them, and the checks, each by itself.
+-- Document 01, "What a call refuses": the numbers of the table, what is returned with them, and the checks, each by itself. 13 is document 02's: "a
+-- new number joins the table", there right after 2.
 use mathlib.Core.Bool.{Bool, true, false, cond, _||_}
 use mathlib.Core.Option.{Option, none, some}
 use mathlib.Core.List.{List, [], _∷_}
@@ -7,7 +8,7 @@ use lib.Dec.{eqb, ltb}
 use lib.ListN.{length}
 use Rattle.spec_orders.specs.Lists.{elem, same}
 use Rattle.spec_calls.specs.declared.Refusal.{Refusal}
-use Rattle.spec_calls.specs.declared.Refusal.the-variants.{RingSize, ShortTable, NotInForm, EmptyGroup, OutsideRing, Repeated, BookFull, Impossible, NoSuchGroup, NotConsecutive, RingFile, TreeText}
+use Rattle.spec_calls.specs.declared.Refusal.the-variants.{RingSize, ShortTable, NotInForm, EmptyGroup, OutsideRing, Repeated, BookFull, Impossible, NoSuchGroup, NotConsecutive, RingFile, TreeText, BinCounts}
 use Rattle.spec_calls.specs.declared.Answer.{Answer}
 use Rattle.spec_calls.specs.declared.Answer.the-variants.{Done, Refused}
 use Rattle.spec_calls.specs.Tables.{Nodes}
@@ -34,6 +35,7 @@ reported NoSuchGroup = reply 9 0
 reported NotConsecutive = reply 10 0
 reported (RingFile byte) = reply 11 byte
 reported (TreeText byte) = reply 12 byte
+reported BinCounts = reply 13 0
 
 abbrev pub report : Answer → Reply
 report (Done value) = reply 0 value

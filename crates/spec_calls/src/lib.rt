@@ -1,8 +1,8 @@
-// What the calls of document 01 answer. specs/ says, for each call, what it answers and what every lent table holds afterwards.
+// What the calls answer. specs/ says, for each call, what it answers and what every lent table holds afterwards.
 ghost use mathlib.Core.Path.{_≡_};
 ghost use Rattle.spec_calls.specs.Refusals.{reply, reported, report};
 
-// Why a call is refused, in the sequence of the table "What a call refuses". A place counts from 0 in the group's list, a byte from 0 in the
+// Why a call is refused, by the numbers of the table "What a call refuses". A place counts from 0 in the group's list, a byte from 0 in the
 // text or file.
 pub enum Refusal {
     RingSize,
@@ -17,6 +17,7 @@ pub enum Refusal {
     NotConsecutive,
     RingFile(usize),
     TreeText(usize),
+    BinCounts,
 }
 
 // A call's answer: done, with the number that the call returns, or refused.
@@ -25,7 +26,7 @@ pub enum Answer {
     Refused(Refusal),
 }
 
-// The refusal's number in the table, 1 to 12.
+// The refusal's number in the table, 1 to 13.
 pub fn number(refusal: Refusal) -> u8
     ensures { λ r. ⌜ r ≡ reported refusal .number ⌝ }
 {
@@ -42,6 +43,7 @@ pub fn number(refusal: Refusal) -> u8
         Refusal::NotConsecutive => 10,
         Refusal::RingFile(_) => 11,
         Refusal::TreeText(_) => 12,
+        Refusal::BinCounts => 13,
     }
 }
 
@@ -62,6 +64,7 @@ pub fn place(refusal: Refusal) -> usize
         Refusal::Impossible => 0,
         Refusal::NoSuchGroup => 0,
         Refusal::NotConsecutive => 0,
+        Refusal::BinCounts => 0,
     }
 }
 

@@ -1,5 +1,5 @@
--- The three demands, proved by citing: the refusals and what they keep, the promises' own demands on joining, trial, order and conflict, and the round
--- trip of a text.
+-- The three demands and document 02's No. 1, proved by citing: the refusals and what they keep, the promises' own demands on joining, trial, order,
+-- conflict and intersection, and the round trip of a text.
 use mathlib.Core.Path.{_≡_, sym, _∙_, ap}
 use mathlib.Core.Logic.{_≢_}
 use mathlib.Core.List.{List}
@@ -8,20 +8,21 @@ use lib.ListN.{length, take, drop}
 use Rattle.spec_orders.specs.Tree.{Forest}
 use Rattle.spec_orders.specs.Form.{StandardOrder}
 use Rattle.spec_orders.specs.CircularOrder.{group-of}
-use Rattle.spec_calls.specs.Tables.{same-ring, Nodes, Book, padded}
+use Rattle.spec_calls.specs.Tables.{lent-nodes, same-ring, Nodes, Book, padded}
 use Rattle.spec_calls.specs.Refusals.{Reply, reply}
-use Rattle.spec_calls.specs.Calls.{Ring, Filled, ring, filled-as, open-refusal, open-call, joined-tree, join-refusal, join-call, trial-call, order-call, aim-call, write-call, conflicts-of, conflict-refusal, conflict-call}
+use Rattle.spec_calls.specs.Calls.{Ring, Filled, ring, filled-as, open-refusal, open-call, joined-tree, join-refusal, join-call, trial-call, order-call, aim-call, write-call, conflicts-of, conflict-refusal, conflict-call, intersect-refusal, intersect-call}
 use Rattle.spec_calls.specs.Demands.{LentTree}
-use Rattle.spec_calls.specs.Promises.{JoinPromise, OrderPromise}
-use Rattle.spec_calls.proofs.Demands.{join-done, order-done}
+use Rattle.spec_calls.specs.Promises.{JoinPromise, OrderPromise, IntersectPromise}
+use Rattle.spec_calls.proofs.Demands.{join-done, order-done, first-among}
+use Rattle.spec_calls.proofs.Intersect.{intersect-done, intersect-either, intersect-past}
 use Rattle.spec_calls.proofs.Refused.{open-keeps, join-keeps, read-call-keeps}
-use Rattle.spec_demands.specs.Demands.{FirstDemand, Asked, NewRing, SecondDemand, ThirdDemand}
+use Rattle.spec_demands.specs.Demands.{FirstDemand, Asked, NewRing, SecondDemand, ThirdDemand, AskedBoth, OneRing, TwoTrees}
 use Rattle.spec_demands.proofs.Refusals.{by-the-table, ring-by-the-table, filled-by-the-table, open-answer, join-answer, read-answer, some-refusal}
 use Rattle.spec_demands.proofs.Places.{same-numbers, filled-done}
 use Rattle.spec_demands.proofs.RoundTrip.{lent-again, written-read, read-written}
 
 pub first-demand : FirstDemand
-unfolding open-call join-call trial-call order-call aim-call write-call conflict-call
+unfolding open-call join-call trial-call order-call aim-call write-call conflict-call intersect-call
 first-demand = record {
   opening = λ nodes book rows′ book′ said e.
       ring-by-the-table nodes book (open-refusal nodes book) 0 (ring said rows′ book′) (open-call nodes book) e (open-answer (open-refusal nodes book) nodes book) (open-keeps nodes book);
@@ -37,6 +38,7 @@ first-demand = record {
       by-the-table must 0 said (read-answer nodes book text must m (ring said rows′ book′) c) (read-call-keeps nodes book text (ring said rows′ book′) c);
   any-text = some-refusal;
   conflict = λ n book list conflicts conflicts′ said e. filled-by-the-table _ _ _ conflicts conflicts′ said (e .0);
+  intersecting = λ nodes other third third′ said e. filled-by-the-table _ _ _ (third .rows) third′ said (e .0);
 }
 
 -- The standard order, written.
@@ -57,7 +59,8 @@ module _ (nodes : Nodes) (book : Book) (list : List ℕ) (t : Forest) (a : Asked
         orders = j .orders;
         standard = λ records order order′ answer r l p.
             let h = lent-again (nodes .bins) records rows′ (j .new) (a .tree .some-leaf) (a .tree .few-leaves) r (j .held) in
-            order-written (same-ring nodes records rows′) (j .new) h order order′ answer l p;
+            let w = order-written (same-ring nodes records rows′) (j .new) h order order′ answer l p in
+            (w .0, first-among (w .1) (j .orders));
       }
 
 pub second-demand : SecondDemand
@@ -89,3 +92,31 @@ third-demand n book list conflicts l m b w places conflicts′ said e =
       places = d .places;
       count = d .answered;
     }
+
+module _ (nodes other third : Nodes) (t u : Forest) (a : AskedBoth nodes other third t u) (third′ : List ℕ) (said : Reply) (e : IntersectPromise nodes other third third′ said) where
+  one-ring : said ≢ reply 8 0 → OneRing nodes t u third′ said
+  one-ring q =
+      let answer = ap (λ (x : Filled). x .answer) (e .0) in
+      let c = e .1 t u (a .first) (a .second) (a .same-bins) (a .all-records) (a .all-rows) .otherwise q in
+      record {
+        done = answer ∙ intersect-done nodes other third t u (a .first) (a .second) (a .same-bins) (a .all-records) (a .all-rows) (λ z. q (answer ∙ z));
+        new = c .new;
+        held = c .held;
+        wide = c .wide;
+        orders = c .orders;
+        standard = λ records order order′ answer r l p.
+            let h = lent-again (nodes .bins) records third′ (c .new) (a .first .some-leaf) (a .first .few-leaves) r (c .held) in
+            let w = order-written (same-ring nodes records third′) (c .new) h order order′ answer l p in
+            (w .0, first-among (w .1) (c .orders));
+      }
+
+pub two-trees : TwoTrees
+unfolding intersect-call intersect-refusal
+two-trees = record {
+  intersecting = λ nodes other third t u a third′ said e.
+      (e .1 t u (a .first) (a .second) (a .same-bins) (a .all-records) (a .all-rows) .impossible, one-ring nodes other third t u a third′ said e);
+  either-way = λ nodes other records rows one′ two′ one two e f.
+      let same = e .0 ∙ intersect-either nodes other (lent-nodes (nodes .bins) records rows) ∙ sym (f .0) in
+      (ap (λ (x : Filled). x .answer) same, ap (λ (x : Filled). x .table) same);
+  past = λ nodes other third third′ said e. ap (λ (x : Filled). drop 65792 (x .table)) (e .0) ∙ intersect-past nodes other third;
+}

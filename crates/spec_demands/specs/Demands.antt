@@ -1,36 +1,36 @@
--- The customer's three demands, each as one statement over the calls of document 01; proofs/Main proves them. They speak of whatever keeps the promise
--- of a call (spec_calls/specs/Promises): first comes what is lent, then the tables as they are left, last what is returned. The contracts of the
--- calls on rows and for C are these promises; so are those on node records, of the rows that the records are, with `Left` (record_left/specs/Records): a
--- refusal leaves the records themselves as they were.
+-- The customer's three demands, each as one statement over the calls, and what document 02 asks besides; proofs/Main proves them. They speak of
+-- whatever keeps the promise of a call (spec_calls/specs/Promises): first comes what is lent, then the tables as they are left, last what is
+-- returned. The contracts of the calls on rows and for C are these promises; so are those on node records, of the rows that the records are, with
+-- `Left` (record_left/specs/Records): a refusal leaves the records themselves as they were.
 use mathlib.Core.Path.{_≡_}
 use mathlib.Core.Logic.{_↔_, _≢_}
 use mathlib.Core.Option.{Option, none, some}
 use mathlib.Core.List.{List, [], _∷_, _++_, map}
 use Prim.Native.Nat.{ℕ, _+_, _≤_, _<_}
-use lib.ListN.{length, take}
+use lib.ListN.{length, take, drop}
 use Rattle.spec_orders.specs.Lists.{numbers-from}
 use Rattle.spec_orders.specs.CircularOrder.{Restriction, WellFormed, group-of, Consecutive, Possible}
 use Rattle.spec_orders.specs.Tree.{Forest, Allowed}
-use Rattle.spec_orders.specs.Form.{StandardOrder}
+use Rattle.spec_orders.specs.Form.{FirstOf, StandardOrder}
 use Rattle.spec_orders.specs.TreeText.{tree, refused, Reads}
 use Rattle.spec_orders.specs.Conflict.{Numbers}
+use Rattle.spec_intersection.specs.ThreeNeighbours.{Wide}
 use Rattle.spec_calls.specs.declared.Refusal.{Refusal}
 use Rattle.spec_calls.specs.declared.Refusal.the-variants.{TreeText}
-use Rattle.spec_calls.specs.Tables.{Nodes, leaves, same-ring, Book, padded}
+use Rattle.spec_calls.specs.Tables.{Nodes, lent-nodes, leaves, same-ring, Book, padded}
 use Rattle.spec_calls.specs.Book.{with-group}
 use Rattle.spec_calls.specs.NodeTable.{Holds}
 use Rattle.spec_calls.specs.Refusals.{Reply, reply, reported}
-use Rattle.spec_calls.specs.Calls.{open-refusal, join-refusal, order-refusal, aim-refusal, write-refusal, conflict-refusal, conflicts-of, group-numbered}
+use Rattle.spec_calls.specs.Calls.{open-refusal, join-refusal, order-refusal, aim-refusal, write-refusal, conflict-refusal, conflicts-of, group-numbered, intersect-refusal}
 use Rattle.spec_calls.specs.Demands.{LentTree, LentBook, ImpossibleIff}
-use Rattle.spec_calls.specs.Promises.{OpenPromise, JoinPromise, TrialPromise, OrderPromise, AimPromise, WritePromise, ReadPromise, ConflictPromise}
+use Rattle.spec_calls.specs.Promises.{OpenPromise, JoinPromise, TrialPromise, OrderPromise, AimPromise, WritePromise, ReadPromise, ConflictPromise, IntersectPromise}
 
 -- ==== The first demand
 
 -- "Any call, given any numbers, tables or text, ends and does nothing undefined": so does every proved function where its `requires` holds, and no
--- call has a `requires`.
--- "One that must be refused gives the number in the table of document 01 and leaves every table as that table says", which is as it was. `must` is the
--- first refusal down that table, if there is one; `Kept` says that the tables which the call may write are as they were. (Others are lent to be
--- read only.) A call that need not be refused is done and returns 0.
+-- call has a `requires`. "One that must be refused gives the number in the table of document 01 and leaves every table as that table says", which is
+-- as it was. `must` is the first refusal down that table (document 02's 13 stands right after 2 there), if there is one; `Kept` says that the tables
+-- which the call may write are as they were. (Others are lent to be read only.) A call that need not be refused is done and returns 0.
 pub record ByTheTable (must : Option Refusal) (said : Reply) (Kept : Type 0) : Type 0 where
   pub refused : (r : Refusal) → must ≡ some r → (said ≡ reported r) × Kept
   pub done : (said .number ≡ 0) ↔ (must ≡ none)
@@ -61,6 +61,8 @@ pub record FirstDemand : Type 0 where
   pub any-text : (nodes : Nodes) (book : Book) (text : List ℕ) → (must : Option Refusal) × ReadRefusal nodes book text must
   pub conflict : (n : ℕ) (book : Book) (list conflicts conflicts′ : List ℕ) (said : Reply) → ConflictPromise n book list conflicts conflicts′ said
       → ByTheTable (conflict-refusal n book list conflicts) said (conflicts′ ≡ conflicts)
+  pub intersecting : (nodes other third : Nodes) (third′ : List ℕ) (said : Reply) → IntersectPromise nodes other third third′ said
+      → ByTheTable (intersect-refusal nodes other third) said (third′ ≡ third .rows)
 
 -- ==== The second demand
 
@@ -81,7 +83,8 @@ pub record NewRing (nodes : Nodes) (book : Book) (G : Restriction) (t : Forest) 
   pub held : Holds (leaves nodes) rows′ new
   pub orders : (ord : List ℕ) → Allowed new ord ↔ (Allowed t ord × Consecutive G ord)
   pub standard : (records : ℕ) (order order′ : List ℕ) (answer : Reply) → 256 ≤ records → nodes .bins ≤ length order
-      → OrderPromise (same-ring nodes records rows′) order order′ answer → (answer ≡ reply 0 (nodes .bins)) × StandardOrder new (take (nodes .bins) order′)
+      → OrderPromise (same-ring nodes records rows′) order order′ answer
+      → (answer ≡ reply 0 (nodes .bins)) × FirstOf (λ ord. Allowed t ord × Consecutive G ord) (take (nodes .bins) order′)
 
 -- A tree t of n leaves was written: the call is done, and the bytes up to the answered length, read into any ring of as many leaves that is lent
 -- whole, leave rows that hold t.
@@ -141,3 +144,37 @@ abbrev pub ThirdDemand : Type 0
 ThirdDemand =
     (n : ℕ) (book : Book) (list conflicts : List ℕ) → 1 ≤ n → n ≤ 256 → LentBook n book → WellFormed n list → 96 ≤ length conflicts
     → (conflicts′ : List ℕ) (said : Reply) → ConflictPromise n book list conflicts conflicts′ said → ConflictList n book (group-of n list) conflicts′ said
+
+-- ==== Document 02, No. 1: two trees, one ring
+
+-- "Given two trees on the same bins": each in a node table lent whole, and a third one lent whole.
+pub record AskedBoth (nodes other third : Nodes) (t u : Forest) : Type 0 where
+  pub first : LentTree nodes t
+  pub second : LentTree other u
+  pub same-bins : nodes .bins ≡ other .bins
+  pub all-records : 256 ≤ third .records
+  pub all-rows : 65792 ≤ length (third .rows)
+
+-- "The tree that allows exactly the orders allowed by both." "A node with three neighbours in the result is a P-node." Who then calls for its
+-- standard order, with these rows in 256 records or more, has the first of those orders in the n places.
+pub record OneRing (nodes : Nodes) (t u : Forest) (third′ : List ℕ) (said : Reply) : Type 0 where
+  pub done : said ≡ reply 0 0
+  pub new : Forest
+  pub held : Holds (leaves nodes) third′ new
+  pub wide : Wide new
+  pub orders : (ord : List ℕ) → Allowed new ord ↔ (Allowed t ord × Allowed u ord)
+  pub standard : (records : ℕ) (order order′ : List ℕ) (answer : Reply) → 256 ≤ records → nodes .bins ≤ length order
+      → OrderPromise (same-ring nodes records third′) order order′ answer
+      → (answer ≡ reply 0 (nodes .bins)) × FirstOf (λ ord. Allowed t ord × Allowed u ord) (take (nodes .bins) order′)
+
+pub record TwoTrees : Type 0 where
+  -- "If there is none, the call is refused with 8": if and only if. (`FirstDemand`: "and the third table is untouched".)
+  pub intersecting : (nodes other third : Nodes) (t u : Forest) → AskedBoth nodes other third t u
+      → (third′ : List ℕ) (said : Reply) → IntersectPromise nodes other third third′ said
+      → ((said ≡ reply 8 0) ↔ ((ord : List ℕ) → Allowed t ord → Allowed u ord → ⊥)) × (said ≢ reply 8 0 → OneRing nodes t u third′ said)
+  -- Either tree may be lent as the first one: whatever is lent, the answer and the third table are the same.
+  pub either-way : (nodes other : Nodes) (records : ℕ) (rows one′ two′ : List ℕ) (one two : Reply)
+      → IntersectPromise nodes other (lent-nodes (nodes .bins) records rows) one′ one → IntersectPromise other nodes (lent-nodes (other .bins) records rows) two′ two
+      → (one ≡ two) × (one′ ≡ two′)
+  -- What stands past the third table's 256 records stays, whatever is lent.
+  pub past : (nodes other third : Nodes) (third′ : List ℕ) (said : Reply) → IntersectPromise nodes other third third′ said → drop 65792 third′ ≡ drop 65792 (third .rows)

@@ -34,6 +34,11 @@ items-append nil g = refl
 items-append (leaf b f) g = ap (λ l. leaf-item b ∷ l) (items-append f g)
 items-append (node k i f) g = ap (λ l. node-item k i ∷ l) (items-append f g)
 
+pub frontier-append : (f g : Forest) → frontier (append f g) ≡ frontier f ++ frontier g
+frontier-append nil g = refl
+frontier-append (leaf b f) g = ap (λ l. b ∷ l) (frontier-append f g)
+frontier-append (node k i f) g = ap (λ l. frontier i ++ l) (frontier-append f g) ∙ sym (append-assoc (frontier i) (frontier f) (frontier g))
+
 pub append-swap : (f g : Forest) → Rearranged (items (append f g)) (items (append g f))
 append-swap f g = rw (items-append f g, items-append g f) (perm-swap (items f) (items g))
 

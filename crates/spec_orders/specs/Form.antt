@@ -59,10 +59,14 @@ pub record InForm (n : ℕ) (t : Forest) : Type 0 where
   pub canonical : Canonical t
   pub all-leaves : Rearranged (others n) (frontier t)
 
+-- The first, in dictionary order, of the orders that are Ok.
+pub record FirstOf (Ok : List ℕ → Type 0) (ord : List ℕ) : Type 0 where
+  pub allowed : Ok ord
+  pub least : (other : List ℕ) → Ok other → NotAfter ord other
+
 -- "The standard order is the first, in dictionary order of bin numbers, of all allowed orders."
-pub record StandardOrder (t : Forest) (ord : List ℕ) : Type 0 where
-  pub allowed : Allowed t ord
-  pub least : (other : List ℕ) → Allowed t other → NotAfter ord other
+abbrev pub StandardOrder : Forest → List ℕ → Type 0
+StandardOrder t ord = FirstOf (Allowed t) ord
 
 -- How many inner nodes.
 abbrev pub nodes : Forest → ℕ

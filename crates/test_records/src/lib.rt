@@ -2,7 +2,7 @@
 // through `value`: its own answer; or the place or byte of the refusal, 0 where the table names none. Written by tools/outer.py.
 ghost use Rattle.spec_calls.specs.Tables.{lent-book};
 ghost use Rattle.spec_calls.specs.Refusals.{reply};
-ghost use Rattle.spec_calls.specs.Promises.{OpenPromise, JoinPromise, TrialPromise, OrderPromise, AimPromise, WritePromise, ReadPromise};
+ghost use Rattle.spec_calls.specs.Promises.{OpenPromise, JoinPromise, TrialPromise, OrderPromise, AimPromise, WritePromise, ReadPromise, IntersectPromise};
 ghost use Rattle.record_copy.specs.Rows.{node-rows};
 ghost use Rattle.record_left.specs.Records.{lent-records, Left};
 use record_copy::Node;
@@ -95,5 +95,22 @@ pub extern "C" fn ring_read(
     ensures { λ r. ⌜ ReadPromise (lent-records n (now (nodes .entry))) (lent-book (now (book .entry)) 0) (now (text .entry)) (node-rows (now (nodes .exit))) (lent-book (now (book .exit)) 0) (reply r (now (value .exit))) × Left (now (nodes .entry)) (now (nodes .exit)) (reply r (now (value .exit))) ⌝ }
 {
     let answer = record_calls::read(n, nodes, book, text);
+    spec_calls::code(answer, value)
+}
+
+// Writes the tree that allows exactly the orders allowed by the tree of n leaves and by that of m to the third node table. A node with three
+// neighbours is a P-node there. The value is 0.
+#[no_mangle]
+pub extern "C" fn ring_intersect(
+    n: usize,
+    nodes: &[Node],
+    m: usize,
+    other: &[Node],
+    third: &mut [Node],
+    value: &mut usize,
+) -> u8
+    ensures { λ r. ⌜ IntersectPromise (lent-records n (now (nodes .entry))) (lent-records m (now (other .entry))) (lent-records n (now (third .entry))) (node-rows (now (third .exit))) (reply r (now (value .exit))) × Left (now (third .entry)) (now (third .exit)) (reply r (now (value .exit))) ⌝ }
+{
+    let answer = record_calls::intersect(n, nodes, m, other, third);
     spec_calls::code(answer, value)
 }

@@ -1,6 +1,5 @@
 // One line of joins.txt: n, a tree text, a group and the tree text after joining, or 8, with tabs between them.
 ghost use Prim.Native.Nat.{_≤_};
-use crate::tables;
 use spec_calls::Answer;
 
 // 1 where the answer is the tree of the file, 2 where it is impossible and the file has 8, 3 where it is another or there is no tab behind the
@@ -41,7 +40,7 @@ fn compared(n: usize, joined: Answer, nodes: &[u16], want: &[u8]) -> usize
 {
     match joined {
         Answer::Done(_) => {
-            if tables::is_text(n, nodes, want) {
+            if test_tables::is_text(n, nodes, want) {
                 return 1;
             }
             3

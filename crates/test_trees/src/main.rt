@@ -3,7 +3,6 @@
 ghost use Prim.Native.Nat.{_≤_};
 
 mod joins;
-mod tables;
 mod texts;
 
 fn main() {

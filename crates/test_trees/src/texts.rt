@@ -1,6 +1,5 @@
 // One line of texts.txt: n, a text in hexadecimal and `ok`, or 12 and the byte, with tabs between them.
 ghost use Prim.Native.Nat.{_≤_};
-use crate::tables;
 use spec_calls::Answer;
 
 // 1 where the text is accepted, as in the file, and written again is the same; 2 where it is refused at the file's byte; 3 where the answer is
@@ -41,7 +40,7 @@ fn compared(n: usize, got: Answer, nodes: &[u16], text: &[u8], answer: &[u8]) ->
             if answer.len() != 2 {
                 return 3;
             }
-            if tables::is_text(n, nodes, text) {
+            if test_tables::is_text(n, nodes, text) {
                 return 1;
             }
             3

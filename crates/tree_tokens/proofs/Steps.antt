@@ -1,13 +1,14 @@
 -- Going along tokens: from the sequence at one index to what follows its first item, or its first token.
 use mathlib.Core.Path.{_≡_, refl, sym, ap, subst, _∙_}
-use mathlib.Core.List.{List, _∷_, _++_, append-assoc}
+use mathlib.Core.List.{List, _∷_}
 use Prim.Native.Nat.{ℕ, suc, _+_, _-_, _/_, _%_, _≤_, _<_}
 use native.Mathlib.Omega.{arith}
 use lib.ListN.{length, take, drop, getD, drop-of-length-le}
 use lib.Seq.{drop-drop, drop-cons, drop-append-seam}
-use Rattle.spec_orders.specs.Tree.{Forest, nil, leaf, node, append, frontier}
+use Rattle.spec_orders.specs.Tree.{frontier}
 use Rattle.spec_orders.specs.Form.{first}
 use Rattle.spec_orders.proofs.ListLaws.{part-to-end}
+use Rattle.spec_orders.proofs.Laws.{frontier-append}
 use Rattle.tree_tokens.specs.Tokens.{Judged, j-nil, j-leaf, j-node, tree, j-append, encode, Tokens}
 use Rattle.tree_tokens.specs.Views.{first-of, items-of, rest-of}
 use Rattle.tree_tokens.proofs.Laws.{at-end, leaf-even, leaf-number, node-odd, node-size, encode-split, size-leaf}
@@ -113,11 +114,6 @@ pub first-inside-at : {l : List ℕ} {i : ℕ} {k : Judged} → Here l i k → (
 first-inside-at {k = k} p h z = inside-is k (p .some) (rw (← p .head) at h) (rw (← p .head) at z)
 
 -- The leaves, by the first token.
-frontier-append : (f g : Forest) → frontier (append f g) ≡ frontier f ++ frontier g
-frontier-append nil g = refl
-frontier-append (leaf b f) g = ap (λ (l : List ℕ). b ∷ l) (frontier-append f g)
-frontier-append (node k i f) g = ap (λ (l : List ℕ). frontier i ++ l) (frontier-append f g) ∙ sym (append-assoc (frontier i) (frontier f) (frontier g))
-
 leaves-leaf : (k : Judged) → 0 < length (encode k) → getD (encode k) 0 0 / 8 % 2 ≡ 0 → frontier (tree k) ≡ getD (encode k) 0 0 / 16 ∷ frontier (tree (opened k))
 unfolding encode items-of rest-of
 leaves-leaf j-nil ne h = absurd (omega arith)

@@ -1,6 +1,6 @@
 -- The update depends only on the marks of the tree's leaves.
 use mathlib.Core.Path.{_≡_, refl, sym, ap, _∙_}
-use mathlib.Core.Bool.{true, false}
+use mathlib.Core.Bool.{Bool, true, false, cond, not}
 use mathlib.Core.List.{List, [], _∷_}
 use Prim.Native.Nat.{ℕ, _*_, _≤_}
 use native.Mathlib.Omega.{arith}
@@ -43,9 +43,18 @@ module _ (S T : Restriction) where
       ∙ ap (λ (ps : List Part). node-part (class T (frontier i)) k i ps ∷ parts S f) (parts-same i l)
       ∙ ap (λ (ps : List Part). node-part (class T (frontier i)) k i (parts T i) ∷ ps) (parts-same f r)
 
-  pub reduce-same : (t : Forest) → Agree (frontier t) → reduce S t ≡ reduce T t
+  reduce-same : (t : Forest) → Agree (frontier t) → reduce S t ≡ reduce T t
   unfolding reduce
   reduce-same t h = ap reduced-first (parts-same t h)
+
+-- Joining asks for the mark of leaf 1 too.
+side-same : (S T : Restriction) (c : Bool) (b : ℕ) → S b ≡ T b → cond c (complement S) S b ≡ cond c (complement T) T b
+side-same S T true b e = ap not e
+side-same S T false b e = e
+
+pub join-same : (S T : Restriction) (t : Forest) → S 1 ≡ T 1 → Agree S T (frontier t) → join S t ≡ join T t
+unfolding join side
+join-same S T t e h = reduce-same (side 1 S) (side 1 T) t (all-map (λ b. S b ≡ T b) (λ b. side 1 S b ≡ side 1 T b) (λ b q. rw e (side-same S T (T 1) b q)) (frontier t) h)
 
 -- A group that leaf 1 is in joins by the other leaves up to n, marked in k words; any other by its own.
 outside-is : (k n : ℕ) (G : Restriction) (b : ℕ) → n ≤ 64 * k → (1 ≤ b) × (b ≤ n) → marked (words-of k (outside n G)) b ≡ complement G b

@@ -2,3 +2,4 @@
 pub mod Laws
 pub mod Agree
 pub mod Updates
+pub mod Joined

@@ -1,5 +1,5 @@
-//! The calls on lent tables. Each makes its checks in the sequence of the refusals' numbers, and a refusal leaves
-//! every table as it was. Entries past a table's stated size are never touched.
+//! The calls on lent tables. Each makes its checks in the sequence of the table of refusals, and a refusal leaves every
+//! lent table as it was. Entries past a table's stated size are never touched.
 
 use crate::book::{self, Book, GROUPS, WORDS};
 use crate::marks::{self, Marks};
@@ -150,5 +150,19 @@ pub fn read(n: usize, nodes: &mut [Node], book: &mut [u64], text: &[u8]) -> Answ
     nodes[..RECORDS].fill(Node::UNUSED);
     tree.store(nodes);
     book[..WORDS].fill(0);
+    Ok(0)
+}
+
+/// Fills the third node table with the tree that allows exactly the orders allowed by both of the others, of n and of m
+/// bins. Returns 0.
+pub fn intersect(n: usize, nodes: &[Node], m: usize, other: &[Node], third: &mut [Node]) -> Answer {
+    check(1, (1..=256).contains(&m))?;
+    check_sizes(n, &[nodes.len(), other.len(), third.len()].map(|length| (length, RECORDS)))?;
+    check(13, n == m)?;
+    let mut tree = check_tree(n, nodes)?;
+    let other = check_tree(m, other)?;
+    check(8, tree.intersect(&other))?;
+    third[..RECORDS].fill(Node::UNUSED);
+    tree.store(third);
     Ok(0)
 }

@@ -11,7 +11,7 @@ mod table;
 mod text;
 mod tree;
 
-pub use calls::{aim, conflict, join, open, order, read, trial, write, Answer, Refused};
+pub use calls::{aim, conflict, intersect, join, open, order, read, trial, write, Answer, Refused};
 pub use lister::list_file;
 pub use ringfile::{group_of, name_of, scan, File};
 pub use table::Node;

@@ -1,5 +1,6 @@
 //! A PC-tree over the leaves 1 to n, rooted at leaf 1, with its children always in the sequence of the tree text.
 
+mod intersect;
 mod join;
 
 use crate::marks::{self, Marks};

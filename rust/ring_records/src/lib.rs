@@ -72,3 +72,11 @@ pub fn read(n: usize, nodes: &mut [Node], book: &mut [u64], text: &[u8]) -> Answ
         symbols::ring_read(n, tree, nodes.len(), marks, book.len(), text.as_ptr(), text.len(), value)
     })
 }
+
+/// Writes the tree that allows exactly the orders allowed by both trees, of n leaves and of m, to the third node table. Returns 0.
+pub fn intersect(n: usize, nodes: &[Node], m: usize, other: &[Node], third: &mut [Node]) -> Answer {
+    answer(|value| unsafe {
+        let (one, two, both) = (nodes.as_ptr(), other.as_ptr(), third.as_mut_ptr());
+        symbols::ring_intersect(n, one, nodes.len(), m, two, other.len(), both, third.len(), value)
+    })
+}

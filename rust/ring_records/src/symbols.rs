@@ -47,4 +47,15 @@ extern "C" {
         length: usize,
         value: *mut usize,
     ) -> u8;
+    pub fn ring_intersect(
+        n: usize,
+        nodes: *const Node,
+        nodes_records: usize,
+        m: usize,
+        other: *const Node,
+        other_records: usize,
+        third: *mut Node,
+        third_records: usize,
+        value: *mut usize,
+    ) -> u8;
 }

@@ -1,5 +1,5 @@
 //! The calls on node records: circle e of document 01, every refusal, and tables of 255, 256 and 257 records.
-use ring_records::{aim, join, open, order, read, trial, write, Answer, Node};
+use ring_records::{aim, intersect, join, open, order, read, trial, write, Answer, Node};
 
 /// A record with numbers in it that no call is to look at or touch.
 const SENTINEL: Node = Node { kind: 171, count: 43_981, items: [52_719; 255] };
@@ -114,12 +114,60 @@ fn refusals_of_texts() {
     }
 }
 
+/// The node table of the fresh tree of n leaves with this group joined, and a sentinel past it.
+fn with_group(n: usize, group: &[u16]) -> Vec<Node> {
+    let (mut nodes, mut book) = (vec![SENTINEL; 257], vec![0; 384]);
+    open(n, &mut nodes, &mut book).unwrap();
+    join(n, &mut nodes, &mut book, 0, group).unwrap();
+    nodes
+}
+
+#[test]
+fn intersections_on_records() {
+    let (one, other) = (with_group(5, &[1, 3]), with_group(5, &[3, 5]));
+    for (nodes, other) in [(&one, &other), (&other, &one)] {
+        let mut third = vec![SENTINEL; 257];
+        assert_eq!(intersect(5, nodes, 5, other, &mut third), Ok(0));
+        assert!(third == circle_e(257).nodes);
+    }
+    let mut third = circle_e(257).nodes;
+    let mut refuses = |n, nodes: &[Node], m, other: &[Node], records: usize, refusal: u8| {
+        assert_eq!(intersect(n, nodes, m, other, &mut third[..records]), Err((refusal, 0)));
+        assert!(third == circle_e(257).nodes);
+    };
+    let (six, near) = (with_group(6, &[1, 3]), with_group(5, &[1, 5]));
+    let mut broken = one.clone();
+    broken[0].kind = 3;
+    refuses(0, &one, 5, &other, 257, 1);
+    refuses(5, &one[..255], 257, &other, 257, 1);
+    refuses(5, &one[..255], 6, &six, 257, 2);
+    refuses(5, &one, 6, &six[..255], 257, 2);
+    refuses(5, &one, 6, &six, 255, 2);
+    refuses(5, &broken, 6, &six, 256, 13);
+    refuses(5, &broken, 5, &other, 256, 3);
+    refuses(5, &other, 5, &six, 256, 3);
+    refuses(5, &circle_e(256).nodes, 5, &near, 256, 8);
+}
+
+/// The call that has three tables of rows on the stack at once, on 254 P-nodes one in another, in a thread with 1 MiB of stack.
+#[test]
+fn a_mebibyte_of_stack_is_enough() {
+    let call = || {
+        let opened: String = (2..256).map(|leaf| format!("P({leaf} ")).collect();
+        let (mut nodes, mut third, mut book) = (vec![SENTINEL; 257], vec![SENTINEL; 257], vec![0; 384]);
+        assert_eq!(read(256, &mut nodes, &mut book, format!("1 {opened}256{}", ")".repeat(254)).as_bytes()), Ok(0));
+        assert_eq!(intersect(256, &nodes, 256, &nodes, &mut third), Ok(0));
+        assert!(third == nodes);
+    };
+    std::thread::Builder::new().stack_size(1 << 20).spawn(call).expect("a thread").join().expect("the call");
+}
+
 /// A call on a ring's tables.
 type OnTables = fn(&mut Tables) -> Answer;
 
 /// Each call that is lent a node table, on circle e with so many records: its answer, and the tables afterwards.
 fn each_call(records: usize) -> Vec<(Answer, Tables)> {
-    let calls: [OnTables; 7] = [
+    let calls: [OnTables; 8] = [
         |t| open(5, &mut t.nodes, &mut t.book),
         |t| join(5, &mut t.nodes, &mut t.book, 2, &[2, 4]),
         |t| trial(5, &t.nodes, &t.book, 2, &[2, 4]),
@@ -127,6 +175,7 @@ fn each_call(records: usize) -> Vec<(Answer, Tables)> {
         |t| aim(5, &t.nodes, &t.book, 2, 1),
         |t| write(5, &t.nodes, &mut [0; 2048]),
         |t| read(5, &mut t.nodes, &mut t.book, b"1 P(2 3 4 5)"),
+        |t| intersect(5, &t.nodes.clone(), 5, &t.nodes.clone(), &mut t.nodes),
     ];
     let made = calls.map(|call| {
         let mut tables = circle_e(records);

@@ -1,4 +1,5 @@
-//! Small rings against all circular orders: what can join, which orders are left, which groups are in conflict, where a group is aimed.
+//! Small rings against all circular orders: what can join, which orders are left, which groups are in conflict, where a group is aimed, and
+//! what two trees both allow.
 use crate::draw::Draw;
 use crate::texts::shaped;
 use tokuwhape::{Node, Refusal};
@@ -212,4 +213,29 @@ fn every_two_groups_of_five_leaves() {
             ring.join(second);
         }
     }
+}
+
+/// Intersects random trees of 1 to 6 leaves that were read from texts, and compares the orders left with those of both.
+#[test]
+fn small_trees_intersect_as_their_orders_do() {
+    let mut draw = Draw::new(0x1357_9bdf_0246_8ace);
+    let (mut done, mut refused) = (0, 0);
+    for _ in 0..6_000 {
+        let n = 1 + draw.below(6);
+        let texts = [shaped(&mut draw, n), shaped(&mut draw, n)];
+        let [Some(one), Some(other)] = texts.map(|text| Watched::of_text(n, &text)) else { continue };
+        let both: Vec<_> = one.left.iter().filter(|order| other.left.contains(order)).cloned().collect();
+        let mut third = vec![Node { kind: 7, count: 7, items: [7; 255] }; 256];
+        let answer = tokuwhape::intersect(n, &one.nodes, n, &other.nodes, &mut third);
+        if both.is_empty() {
+            assert_eq!(answer, Err(Refusal::Impossible));
+            refused += 1;
+            continue;
+        }
+        assert_eq!(answer, Ok(0));
+        assert_eq!(allowed(&third, n), both);
+        assert!(third.iter().all(|node| (node.kind, node.count) != (2, 2)), "three neighbours are a P-node's");
+        done += 1;
+    }
+    assert!(done > 500 && refused > 50, "only {done} intersections and {refused} refused");
 }

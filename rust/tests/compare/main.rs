@@ -1,8 +1,9 @@
-//! The proved planner and the independent one of crate `plain`, side by side on random rings, lists, tables, texts and files. A case is one
-//! call whose answer and every lent table, whole, is compared.
+//! The proved planner and the independent one of crate `plain`, side by side on random rings, lists, tables, texts, pairs of trees and files. A case
+//! is one call whose answer and every lent table, whole, is compared.
 mod brute;
 mod draw;
 mod files;
+mod pairs;
 mod rings;
 mod tables;
 mod texts;
@@ -12,7 +13,7 @@ use rings::Grown;
 use tables::{Call, Sides, Tally};
 
 /// The answers that each call can give: 0 for done, else the refusal's number.
-const ANSWERS: [(&str, &[u8]); 9] = [
+const ANSWERS: [(&str, &[u8]); 10] = [
     ("open", &[0, 1, 2]),
     ("join", &[0, 1, 2, 3, 4, 5, 6, 7, 8]),
     ("trial", &[0, 1, 2, 3, 4, 5, 6, 7, 8]),
@@ -21,6 +22,7 @@ const ANSWERS: [(&str, &[u8]); 9] = [
     ("conflict", &[0, 1, 2, 3, 4, 5, 6]),
     ("write", &[0, 1, 2, 3]),
     ("read", &[0, 1, 2, 12]),
+    ("intersect", &[0, 1, 2, 3, 8, 13]),
     ("scan", &[0, 11]),
 ];
 
@@ -100,6 +102,13 @@ fn long(tally: &mut Tally, draw: &mut Draw, kept: &mut [Grown]) {
     }
 }
 
+/// Intersections of pairs of trees.
+fn intersections(tally: &mut Tally, draw: &mut Draw) {
+    for _ in 0..15_000 {
+        pairs::any(tally, draw);
+    }
+}
+
 /// Ring files.
 fn files(tally: &mut Tally, draw: &mut Draw) {
     for _ in 0..20_000 {
@@ -121,6 +130,7 @@ fn both_planners_answer_alike() {
     conflicts(&mut tally, &mut draw);
     texts(&mut tally, &mut draw, &mut kept);
     long(&mut tally, &mut draw, &mut kept);
+    intersections(&mut tally, &mut draw);
     files(&mut tally, &mut draw);
     let mut cases = 0;
     for (call, answers) in ANSWERS {

@@ -13,7 +13,7 @@ pub struct Grown {
 }
 
 /// A record with numbers in it that no call is to look at or touch.
-fn odd_record(draw: &mut Draw) -> Node {
+pub fn odd_record(draw: &mut Draw) -> Node {
     let mut items = [0; 255];
     items.fill_with(|| draw.number() as u16);
     Node { kind: draw.number() as u16, count: draw.number() as u16, items }
@@ -90,7 +90,7 @@ fn written_and_read(tally: &mut Tally, ring: &mut Grown) {
 }
 
 /// Changes one field of the node table.
-fn damage_nodes(draw: &mut Draw, n: usize, nodes: &mut [Node]) {
+pub fn damage_nodes(draw: &mut Draw, n: usize, nodes: &mut [Node]) {
     let used = nodes.iter().take_while(|node| node.kind != 0).count();
     let (at, other) = (draw.below(used + 1).min(255), draw.below(used + 1).min(255));
     let count = (nodes[at].count as usize).min(254);
@@ -145,7 +145,7 @@ fn other_lengths(draw: &mut Draw, n: usize, nodes: &mut Vec<Node>, book: &mut Ve
 }
 
 /// The node table of the fresh ring.
-fn lent_fresh(n: usize) -> Vec<Node> {
+pub fn lent_fresh(n: usize) -> Vec<Node> {
     let mut nodes = vec![Node::UNUSED; 256];
     assert_eq!(tokuwhape::open(n, &mut nodes, &mut vec![0; 384]), Ok(0));
     nodes

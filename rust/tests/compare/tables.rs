@@ -17,6 +17,8 @@ pub enum Call<'a> {
     Conflict(usize, &'a [u16]),
     Write,
     Read(&'a [u8]),
+    /// With a tree of so many leaves.
+    Intersect(usize),
 }
 
 impl Call<'_> {
@@ -30,6 +32,7 @@ impl Call<'_> {
             Call::Conflict(..) => "conflict",
             Call::Write => "write",
             Call::Read(..) => "read",
+            Call::Intersect(..) => "intersect",
         }
     }
 }
@@ -42,6 +45,7 @@ impl Debug for Call<'_> {
             }
             Call::Aim(count, group) => write!(f, "aim of {group}, {count} groups"),
             Call::Read(text) => write!(f, "read of {:?}", String::from_utf8_lossy(text)),
+            Call::Intersect(m) => write!(f, "intersect with m {m}"),
             _ => write!(f, "{}", self.name()),
         }
     }
@@ -68,10 +72,12 @@ impl Tally {
     }
 }
 
-/// The tables that one side's calls are lent.
+/// The tables that one side's calls are lent. An intersection is of `nodes` and `other`, and fills `third`.
 #[derive(Clone, PartialEq)]
 pub struct Tables<N> {
     pub nodes: Vec<N>,
+    pub other: Vec<N>,
+    pub third: Vec<N>,
     pub book: Vec<u64>,
     pub order: Vec<u16>,
     pub conflicts: Vec<u16>,
@@ -85,12 +91,13 @@ pub struct Sides {
     pub theirs: Tables<plain::Node>,
 }
 
-fn plain_node(node: &Node) -> plain::Node {
-    plain::Node { kind: node.kind, count: node.count, items: node.items }
+fn plain_nodes(nodes: &[Node]) -> Vec<plain::Node> {
+    nodes.iter().map(|node| plain::Node { kind: node.kind, count: node.count, items: node.items }).collect()
 }
 
-fn same_node((a, b): (&Node, &plain::Node)) -> bool {
-    a.kind == b.kind && a.count == b.count && a.items == b.items
+fn same_nodes(ours: &[Node], theirs: &[plain::Node]) -> bool {
+    let same = |(a, b): (&Node, &plain::Node)| a.kind == b.kind && a.count == b.count && a.items == b.items;
+    ours.len() == theirs.len() && ours.iter().zip(theirs).all(same)
 }
 
 fn ours(n: usize, call: Call, t: &mut Tables<Node>) -> Answer {
@@ -103,6 +110,7 @@ fn ours(n: usize, call: Call, t: &mut Tables<Node>) -> Answer {
         Call::Conflict(count, list) => tokuwhape::conflict(n, &t.book, count, list, &mut t.conflicts),
         Call::Write => tokuwhape::write(n, &t.nodes, &mut t.bytes),
         Call::Read(text) => tokuwhape::read(n, &mut t.nodes, &mut t.book, text),
+        Call::Intersect(m) => tokuwhape::intersect(n, &t.nodes, m, &t.other, &mut t.third),
     };
     answer.map_err(|refusal| (refusal.number(), refusal.place().unwrap_or(0)))
 }
@@ -117,22 +125,34 @@ fn theirs(n: usize, call: Call, t: &mut Tables<plain::Node>) -> Answer {
         Call::Conflict(count, list) => plain::conflict(n, &t.book, count, list, &mut t.conflicts),
         Call::Write => plain::write(n, &t.nodes, &mut t.bytes),
         Call::Read(text) => plain::read(n, &mut t.nodes, &mut t.book, text),
+        Call::Intersect(m) => plain::intersect(n, &t.nodes, m, &t.other, &mut t.third),
     };
     answer.map_err(|refused| (refused.number, refused.place))
 }
 
 impl Sides {
-    /// Both sides' tables: these nodes and this book, and the others of their stated size.
+    /// Both sides' tables: these nodes and this book, and the others of their stated size, but no tables of an intersection.
     pub fn new(nodes: Vec<Node>, book: Vec<u64>) -> Sides {
         let (order, conflicts, bytes) = (vec![0; 256], vec![0; 96], vec![0; 2048]);
         let theirs = Tables {
-            nodes: nodes.iter().map(plain_node).collect(),
+            nodes: plain_nodes(&nodes),
+            other: Vec::new(),
+            third: Vec::new(),
             book: book.clone(),
             order: order.clone(),
             conflicts: conflicts.clone(),
             bytes: bytes.clone(),
         };
-        Sides { ours: Tables { nodes, book, order, conflicts, bytes }, theirs }
+        Sides { ours: Tables { nodes, other: Vec::new(), third: Vec::new(), book, order, conflicts, bytes }, theirs }
+    }
+
+    /// Both sides' node tables for an intersection, and no other tables.
+    pub fn of_two(nodes: &[Node], other: &[Node], third: &[Node]) -> Sides {
+        let mut sides = Sides::new(nodes.to_vec(), Vec::new());
+        (sides.theirs.other, sides.theirs.third) = (plain_nodes(other), plain_nodes(third));
+        (sides.ours.other, sides.ours.third) = (other.to_vec(), third.to_vec());
+        sides.refill(0, 0, 0, 0);
+        sides
     }
 
     /// Lends both sides other tables to fill: so many places, each with an old number in it.
@@ -151,8 +171,9 @@ impl Sides {
     /// Whether every table is the same on both sides, whole.
     fn same(&self) -> bool {
         let (a, b) = (&self.ours, &self.theirs);
-        a.nodes.len() == b.nodes.len()
-            && a.nodes.iter().zip(&b.nodes).all(same_node)
+        same_nodes(&a.nodes, &b.nodes)
+            && same_nodes(&a.other, &b.other)
+            && same_nodes(&a.third, &b.third)
             && a.book == b.book
             && a.order == b.order
             && a.conflicts == b.conflicts
@@ -177,12 +198,17 @@ impl Sides {
     }
 }
 
-/// The tables without the records and words that are zero.
+/// The lent trees and book without the records and words that are zero.
 fn shown(tables: &Tables<Node>) -> String {
-    let used: Vec<_> = tables.nodes.iter().enumerate().filter(|(_, node)| **node != Node::UNUSED).collect();
-    let records: Vec<String> =
-        used.iter().map(|(at, node)| format!("{at}: {} {} {:?}", node.kind, node.count, brief(&node.items))).collect();
-    format!("{} records {records:?}, {} words {:?}", tables.nodes.len(), tables.book.len(), brief(&tables.book))
+    let (nodes, other, book) = (records(&tables.nodes), records(&tables.other), &tables.book);
+    format!("{nodes}, other {other}, {} words {:?}", book.len(), brief(book))
+}
+
+/// The records that are not zero.
+fn records(nodes: &[Node]) -> String {
+    let used = nodes.iter().enumerate().filter(|(_, node)| **node != Node::UNUSED);
+    let used: Vec<String> = used.map(|(at, node)| format!("{at}: {} {} {:?}", node.kind, node.count, brief(&node.items))).collect();
+    format!("{} records {used:?}", nodes.len())
 }
 
 /// The entries up to the last that is not zero.

@@ -13,7 +13,7 @@ use Rattle.tree_tokens.proofs.Writes.{read-part, wrote-most}
 use Rattle.mark_words.proofs.Steps.{four-words}
 use Rattle.conflict_leaves.specs.StandIn.{Chosen, start}
 use Rattle.conflict_rule.specs.LeavingOut.{InBook}
-use Rattle.conflict_rule.proofs.Joined.{Next, next-tree, no-tree}
+use Rattle.tree_update.proofs.Joined.{Next, next-tree, no-tree}
 use Rattle.conflict_rule.proofs.Places.{numbers-in-book}
 use Rattle.call_conflict.proofs.Start.{start-form, one-represented, one-joins}
 use borrow.Author.Needs.{needs}

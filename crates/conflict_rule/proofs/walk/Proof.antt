@@ -13,7 +13,7 @@ use Rattle.spec_calls.specs.Calls.{group-numbered}
 use Rattle.conflict_rule.specs.LeavingOut.{Represents, Walked}
 use Rattle.conflict_rule.proofs.Places.{part-group, part-start, book-at}
 use Rattle.conflict_rule.proofs.Trees.{stands-within, walk-begins, walk-joins, walk-stops, walk-ends}
-use Rattle.conflict_rule.proofs.Joined.{Next, next-tree, no-tree, next-within}
+use Rattle.tree_update.proofs.Joined.{Next, next-tree, no-tree, next-within}
 use Rattle.conflict_rule.proofs.walk.Statement.{statement}
 use Rattle.conflict_rule.proofs.walk.Tie as tie
 

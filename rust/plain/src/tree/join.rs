@@ -12,7 +12,7 @@ enum Sort {
 }
 
 /// The sorts of all items for one group without leaf 1.
-struct Labels {
+pub(super) struct Labels {
     sort: [Sort; ITEMS],
     /// How many children of each node are full.
     full: [u16; SLOTS],
@@ -21,7 +21,7 @@ struct Labels {
 }
 
 impl Labels {
-    fn new() -> Labels {
+    pub(super) fn new() -> Labels {
         Labels { sort: [Sort::Empty; ITEMS], full: [0; SLOTS], partial: [[NONE; 2]; SLOTS] }
     }
 
@@ -29,7 +29,11 @@ impl Labels {
         self.sort[usize::from(item)]
     }
 
-    fn full(&self, node: Item) -> u16 {
+    pub(super) fn is_full(&self, item: Item) -> bool {
+        self.sort(item) == Sort::Full
+    }
+
+    pub(super) fn full(&self, node: Item) -> u16 {
         self.full[slot(node)]
     }
 
@@ -45,19 +49,33 @@ impl Labels {
 }
 
 /// A list of nodes, each of which enters at most one time.
-struct Nodes {
+pub(super) struct Nodes {
     items: [Item; SLOTS],
     len: usize,
 }
 
 impl Nodes {
-    fn new() -> Nodes {
+    pub(super) fn new() -> Nodes {
         Nodes { items: [NONE; SLOTS], len: 0 }
     }
 
-    fn push(&mut self, node: Item) {
+    pub(super) fn push(&mut self, node: Item) {
         self.items[self.len] = node;
         self.len += 1;
+    }
+
+    pub(super) fn as_slice(&self) -> &[Item] {
+        &self.items[..self.len]
+    }
+
+    /// Leaves the nodes that `keep` holds for.
+    fn retain(&mut self, keep: impl Fn(Item) -> bool) {
+        let mut kept = 0;
+        for at in 0..self.len {
+            self.items[kept] = self.items[at];
+            kept += usize::from(keep(self.items[at]));
+        }
+        self.len = kept;
     }
 }
 
@@ -68,19 +86,34 @@ impl Tree {
     pub fn join(&mut self, group: &Marks) -> bool {
         let Some(group) = self.restricting(group) else { return true };
         let mut labels = Labels::new();
-        let apex = self.apex(&group, &mut labels);
+        let touched = self.label_group(&group, &mut labels);
+        self.restrict(touched, &mut labels)
+    }
+
+    /// Does the same for the group of all leaves in these items. No item is in another, leaf 1 is in none, and some
+    /// other leaf is in none either.
+    pub(super) fn join_items(&mut self, items: impl Iterator<Item = Item>) -> bool {
+        let mut labels = Labels::new();
+        let touched = self.label_items(items, &mut labels);
+        self.restrict(touched, &mut labels)
+    }
+
+    /// Restricts the tree to the group whose full items are labelled, given the nodes with a full child; returns
+    /// false and leaves the tree as it was if the group is impossible.
+    fn restrict(&mut self, touched: Nodes, labels: &mut Labels) -> bool {
+        let apex = self.apex(touched, labels);
         if let Some(apex) = apex {
-            self.update(&labels, apex);
+            self.update(labels, apex);
         }
         apex.is_some()
     }
 
     /// Returns whether the tree allows an order in which the group is consecutive.
     pub fn fits(&self, group: &Marks) -> bool {
-        match self.restricting(group) {
-            Some(group) => self.apex(&group, &mut Labels::new()).is_some(),
-            None => true,
-        }
+        let Some(group) = self.restricting(group) else { return true };
+        let mut labels = Labels::new();
+        let touched = self.label_group(&group, &mut labels);
+        self.apex(touched, &mut labels).is_some()
     }
 
     /// Returns the side of the group without leaf 1, none if it has less than two leaves or all but leaf 1.
@@ -90,14 +123,10 @@ impl Tree {
         (size >= 2 && size + 2 <= self.n).then_some(side)
     }
 
-    /// Labels the tree and returns the lowest partial node above all leaves of the group, none if the group is
-    /// impossible.
-    fn apex(&self, group: &Marks, labels: &mut Labels) -> Option<Item> {
-        let touched = self.label_full(group, labels);
-        if !self.label_partial(touched, labels) {
-            return None;
-        }
-        let mut apex = ROOT;
+    /// Labels the partial nodes, given those with a full child, and returns the lowest one above all leaves of the
+    /// group, none if the group is impossible.
+    fn apex(&self, touched: Nodes, labels: &mut Labels) -> Option<Item> {
+        let mut apex = self.label_partial(touched, labels)?;
         while let (0, [child, NONE]) = (labels.full(apex), labels.partial(apex)) {
             apex = child;
         }
@@ -106,38 +135,49 @@ impl Tree {
         fits.then_some(apex)
     }
 
-    /// Labels the full items, and returns the nodes with a full child.
-    fn label_full(&self, group: &Marks, labels: &mut Labels) -> Nodes {
+    /// Labels the full items of a group, and returns the nodes with a full child.
+    fn label_group(&self, group: &Marks, labels: &mut Labels) -> Nodes {
         let mut touched = Nodes::new();
-        marks::each(group, |k| {
-            let mut item = k as Item;
-            loop {
-                labels.sort[usize::from(item)] = Sort::Full;
-                item = self.parent(item);
-                let full = &mut labels.full[slot(item)];
-                *full += 1;
-                if *full == 1 {
-                    touched.push(item);
-                }
-                if *full < self.degree(item) {
-                    break;
-                }
-            }
-        });
+        marks::each(group, |k| self.label_full(k as Item, labels, &mut touched));
         touched
     }
 
-    /// Labels the partial nodes, given those with a full child; returns false if one has three partial children.
-    fn label_partial(&self, mut touched: Nodes, labels: &mut Labels) -> bool {
-        let mut at = 0;
+    /// Labels these items and those that they make full, and returns the nodes with a full child.
+    pub(super) fn label_items(&self, items: impl Iterator<Item = Item>, labels: &mut Labels) -> Nodes {
+        let mut touched = Nodes::new();
+        items.for_each(|item| self.label_full(item, labels, &mut touched));
+        touched
+    }
+
+    /// Labels a full item and the nodes above it that have no other children than full ones by now, and adds the
+    /// nodes that have their first full child.
+    fn label_full(&self, item: Item, labels: &mut Labels, touched: &mut Nodes) {
+        let mut item = item;
+        loop {
+            labels.sort[usize::from(item)] = Sort::Full;
+            item = self.parent(item);
+            let full = &mut labels.full[slot(item)];
+            *full += 1;
+            if *full == 1 {
+                touched.push(item);
+            }
+            if *full < self.degree(item) {
+                break;
+            }
+        }
+    }
+
+    /// Labels the partial nodes, given those with a full child, and goes up from each in turn until a single one is left,
+    /// which is above all others; returns it, none if a node has three partial children.
+    fn label_partial(&self, mut touched: Nodes, labels: &mut Labels) -> Option<Item> {
+        touched.retain(|node| !labels.is_full(node));
+        let (mut at, mut top) = (0, NONE);
         while at < touched.len {
             let node = touched.items[at];
             at += 1;
-            if labels.sort(node) == Sort::Full {
-                continue;
-            }
             labels.sort[usize::from(node)] = Sort::Partial;
-            if node == ROOT {
+            if node == ROOT || top == NONE && at == touched.len {
+                top = node;
                 continue;
             }
             let parent = self.parent(node);
@@ -145,10 +185,10 @@ impl Tree {
                 touched.push(parent);
             }
             if !labels.add_partial(parent, node) {
-                return false;
+                return None;
             }
         }
-        true
+        Some(top)
     }
 
     /// Returns whether a C-node's children at the apex are empty ones round one run of full ones, which a partial

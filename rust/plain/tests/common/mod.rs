@@ -2,6 +2,8 @@
 
 #![allow(dead_code)]
 
+pub mod shapes;
+
 use plain::{Answer, Node, Refused};
 
 pub const UNUSED: Node = Node { kind: 0, count: 0, items: [0; 255] };
@@ -21,6 +23,13 @@ impl Ring {
         let mut ring = Ring { n, nodes: vec![PAST; 257], book: vec![7; 385], count: 0 };
         assert_eq!(plain::open(n, &mut ring.nodes, &mut ring.book), Ok(0));
         ring
+    }
+
+    /// Returns the ring with the tree of this text, none if it is refused.
+    pub fn of_text(n: usize, text: &str) -> Option<Ring> {
+        let mut ring = Ring::new(n);
+        plain::read(n, &mut ring.nodes, &mut ring.book, text.as_bytes()).ok()?;
+        Some(ring)
     }
 
     /// Tries and joins a group, checks that both answer alike and that a refusal changes nothing.
@@ -55,6 +64,15 @@ impl Ring {
         assert_eq!(plain::read(self.n, &mut other.nodes, &mut other.book, &bytes[..length]), Ok(0));
         assert!(other.nodes == self.nodes && other.book[..384].iter().all(|&word| word == 0));
         String::from_utf8(bytes[..length].to_vec()).unwrap()
+    }
+
+    /// Returns the ring of the intersection with another, after checking that a refusal changes nothing.
+    pub fn intersect(&self, other: &Ring) -> Result<Ring, Refused> {
+        let mut ring = Ring { nodes: vec![PAST; 257], ..Ring::new(self.n) };
+        let answer = plain::intersect(self.n, &self.nodes, other.n, &other.nodes, &mut ring.nodes);
+        let kept = if answer == Ok(0) { 256 } else { 0 };
+        assert!(ring.nodes[kept..].iter().all(|record| *record == PAST));
+        answer.map(|_| ring)
     }
 
     /// Returns the standard order.

@@ -21,7 +21,7 @@ pub record Next (G : Restriction) (t : Forest) (new : List ℕ) (m : ℕ) : Type
   pub text : take (m - 0) (drop 0 new) ≡ flat tree
   pub room : m ≤ length new
 
-pub answers-tree : {o : Option Forest} {old new : List ℕ} {r : Updated} {m : ℕ} → r ≡ Tokens m → Answers o old new r
+answers-tree : {o : Option Forest} {old new : List ℕ} {r : Updated} {m : ℕ} → r ≡ Tokens m → Answers o old new r
     → (u : Forest) × (o ≡ some u) × Wrote (flat u) old new m
 answers-tree e (impossible q) = let z : _≡_ {A = ℕ} 0 1 = cc in absurd (omega (arith, z))
 answers-tree {old = old} {new} {r} {m} e (written {t = t} {k = k} w) = let n : k ≡ m = cc in (t, refl, subst (Wrote (flat t) old new) n w)

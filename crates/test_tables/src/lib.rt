@@ -1,4 +1,4 @@
-// A node table, by the text of its tree.
+// What the programs of the outside vectors say of a node table.
 use spec_calls::Answer;
 
 // Whether the table holds a tree of n leaves whose text is this one.
@@ -11,4 +11,16 @@ pub fn is_text(n: usize, nodes: &[u16], want: &[u8]) -> bool {
         return false;
     }
     test_fields::equal(&bytes[0..k], want)
+}
+
+// Whether every number is x.
+pub fn all_are(table: &[u16], x: u16) -> bool {
+    let mut i = 0;
+    while i < table.len() {
+        if table[i] != x {
+            return false;
+        }
+        i += 1;
+    }
+    true
 }

@@ -1,0 +1,199 @@
+-- The intersection's definition meets the demand on it, and either tree may be lent as the first one.
+use mathlib.Core.Path.{_≡_, refl, sym, _∙_, ap, ap₂, subst}
+use mathlib.Core.Bool.{Bool, true, false, not, _||_}
+use mathlib.Core.Logic.{_≢_}
+use mathlib.Core.Option.{Option, none, some}
+use mathlib.Core.List.{[], _∷_, _++_}
+use Prim.Native.Nat.{ℕ, _≤_}
+use native.Mathlib.Omega.{arith}
+use borrow.Author.Tests.{eq-eqb, ne-eqb, eqb-true, eqb-false, ltb-false}
+use lib.Dec.{eqb, ltb}
+use lib.ListN.{length, drop}
+use lib.Seq.{drop-append-seam}
+use Rattle.spec_orders.specs.Tree.{Forest}
+use Rattle.spec_orders.specs.Form.{InForm, standard}
+use Rattle.spec_orders.specs.Join.{then}
+use Rattle.spec_orders.proofs.Tests.{or-neither, or-swap}
+use Rattle.spec_orders.proofs.StandardOrders.{standard-is}
+use Rattle.spec_intersection.specs.Intersection.{intersection}
+use Rattle.spec_intersection.proofs.Intersections.{intersection-none, intersection-some, intersection-either}
+use Rattle.spec_calls.specs.declared.Refusal.{Refusal}
+use Rattle.spec_calls.specs.declared.Refusal.the-variants.{RingSize, ShortTable, NotInForm, Impossible, BinCounts}
+use Rattle.spec_calls.specs.Tables.{Nodes, leaves}
+use Rattle.spec_calls.specs.NodeTable.{table-of, held-tree}
+use Rattle.spec_calls.specs.Refusals.{Reply, reply, refuse, first-refusal, bad-size, short, short-nodes}
+use Rattle.spec_calls.specs.Calls.{Filled, is-none, of-tree, filled, common-tree, pair-checks, common-checks, intersect-refusal, intersect-call}
+use Rattle.spec_calls.specs.Demands.{LentTree, Intersects}
+use Rattle.spec_calls.proofs.NodeTables.{table-length, tree-in-holds, over-holds}
+use Rattle.spec_calls.proofs.Checks.{first-refusal-some, first-refusal-left}
+use Rattle.spec_calls.proofs.Demands.{size-fine, nodes-fine, lent-held, first-among}
+
+-- Checks 1, 2 and 13. Where none of them refuses: the tables are whole, and the counts are the same.
+pub record Whole (nodes other third : Nodes) : Type 0 where
+  pub few-leaves : nodes .bins ≤ 256
+  pub same-bins : nodes .bins ≡ other .bins
+  pub first-rows : 65792 ≤ length (nodes .rows)
+  pub second-rows : 65792 ≤ length (other .rows)
+  pub third-records : 256 ≤ third .records
+  pub third-rows : 65792 ≤ length (third .rows)
+
+table-whole : (nodes : Nodes) → short-nodes nodes ≡ false → (256 ≤ nodes .records) × (65792 ≤ length (nodes .rows))
+table-whole nodes e =
+    let r = or-neither (ltb (nodes .records) 256) (short 65792 (nodes .rows)) e in
+    (ltb-false (nodes .records) 256 (r .0), ltb-false (length (nodes .rows)) 65792 (r .1))
+
+pub pair-whole : (nodes other third : Nodes) → first-refusal (pair-checks nodes other third) ≡ none → Whole nodes other third
+pair-whole nodes other third e =
+    let r = all-pass (bad-size (nodes .bins) || bad-size (other .bins)) ((short-nodes nodes || short-nodes other) || short-nodes third) (eqb (nodes .bins) (other .bins)) e in
+    let size = or-neither (eqb (nodes .bins) 0) (ltb 256 (nodes .bins)) (or-neither (bad-size (nodes .bins)) (bad-size (other .bins)) (r .0) .0) in
+    let rows = or-neither (short-nodes nodes || short-nodes other) (short-nodes third) (r .1) in
+    let both = or-neither (short-nodes nodes) (short-nodes other) (rows .0) in
+    record {
+      few-leaves = ltb-false 256 (nodes .bins) (size .1);
+      same-bins = eqb-true (nodes .bins) (other .bins) (r .2);
+      first-rows = table-whole nodes (both .0) .1;
+      second-rows = table-whole other (both .1) .1;
+      third-records = table-whole third (rows .1) .0;
+      third-rows = table-whole third (rows .1) .1;
+    }
+  where
+    all-pass : (a b c : Bool) → first-refusal (refuse a RingSize ∷ refuse b ShortTable ∷ refuse (not c) BinCounts ∷ []) ≡ none → (a ≡ false) × (b ≡ false) × (c ≡ true)
+    all-pass true b c e = absurd (let z : _≡_ {A = ℕ} 0 1 = cc in omega arith)
+    all-pass false true c e = absurd (let z : _≡_ {A = ℕ} 0 1 = cc in omega arith)
+    all-pass false false true e = (refl, refl, refl)
+    all-pass false false false e = absurd (let z : _≡_ {A = ℕ} 0 1 = cc in omega arith)
+
+-- The tree of the orders allowed by both, of the trees that are held; it is in form.
+pub common-of : (nodes other : Nodes) {t u : Forest} → held-tree nodes ≡ some t → held-tree other ≡ some u → common-tree nodes other ≡ intersection t u
+unfolding common-tree
+common-of nodes other h g = ap₂ (λ a b. then a (λ t. then b (intersection t))) h g
+
+held-form : {n : ℕ} (lent : Nodes) (t : Forest) → lent .bins ≡ n → n ≤ 256 → held-tree lent ≡ some t → InForm n t
+held-form lent t e few h = subst (λ n. InForm n t) e (tree-in-holds (leaves lent) (lent .rows) t (omega arith) .0 h .in-form)
+
+pub common-form : (nodes other : Nodes) → nodes .bins ≡ other .bins → nodes .bins ≤ 256 → (v : Forest) → common-tree nodes other ≡ some v → InForm (leaves nodes) v
+unfolding common-tree
+common-form nodes other same few v = go (held-tree nodes) refl (held-tree other) refl
+  where
+    go : (a : Option Forest) → held-tree nodes ≡ a → (b : Option Forest) → held-tree other ≡ b → then a (λ t. then b (intersection t)) ≡ some v → InForm (leaves nodes) v
+    go none p b q e = absurd (let z : _≡_ {A = ℕ} 0 1 = cc in omega arith)
+    go (some t) p none q e = absurd (let z : _≡_ {A = ℕ} 0 1 = cc in omega arith)
+    go (some t) p (some u) q e = intersection-some (leaves nodes) t u v (held-form nodes t refl few p) (held-form other u (sym same) few q) e .form
+
+module _ (nodes other third : Nodes) (t u : Forest) (h : LentTree nodes t) (g : LentTree other u) (same : nodes .bins ≡ other .bins) (records : 256 ≤ third .records) (rows : 65792 ≤ length (third .rows)) where
+  the-common : common-tree nodes other ≡ intersection t u
+  the-common = common-of nodes other (lent-held nodes t h) (lent-held other u g)
+
+  the-refusal : intersect-refusal nodes other third ≡ first-refusal (refuse (is-none (intersection t u)) Impossible ∷ [])
+  unfolding intersect-refusal
+  the-refusal =
+      rw (
+        size-fine (nodes .bins) (h .some-leaf) (h .few-leaves),
+        size-fine (other .bins) (g .some-leaf) (g .few-leaves),
+        nodes-fine nodes (h .all-records) (h .all-rows),
+        nodes-fine other (g .all-records) (g .all-rows),
+        nodes-fine third records rows,
+        eq-eqb (nodes .bins) (other .bins) same,
+        lent-held nodes t h,
+        lent-held other u g,
+        the-common,
+      )
+
+  -- Trees with an order in common: the call is done.
+  pub intersect-done : intersect-call nodes other third .answer ≢ reply 8 0 → intersect-call nodes other third .answer ≡ reply 0 0
+  unfolding intersect-call
+  intersect-done = rw (the-refusal, the-common) (by-answer (intersection t u))
+    where
+      by-answer : (o : Option Forest) → filled (first-refusal (refuse (is-none o) Impossible ∷ [])) 0 (of-tree o table-of) (third .rows) .answer ≢ reply 8 0
+          → filled (first-refusal (refuse (is-none o) Impossible ∷ [])) 0 (of-tree o table-of) (third .rows) .answer ≡ reply 0 0
+      by-answer none q = absurd (q refl)
+      by-answer (some v) q = refl
+
+  pub intersect-meets : Intersects (leaves nodes) t u (intersect-call nodes other third .answer) (intersect-call nodes other third .table)
+  unfolding intersect-call
+  intersect-meets = rw (the-refusal, the-common) (by-answer (intersection t u) refl)
+    where
+      n : ℕ
+      n = leaves nodes
+
+      t-form : InForm n t
+      t-form = h .tree .in-form
+
+      u-form : InForm n u
+      u-form = subst (λ m. InForm m u) (sym same) (g .tree .in-form)
+
+      by-answer : (o : Option Forest) → intersection t u ≡ o
+          → Intersects n t u (filled (first-refusal (refuse (is-none o) Impossible ∷ [])) 0 (of-tree o table-of) (third .rows) .answer) (filled (first-refusal (refuse (is-none o) Impossible ∷ [])) 0 (of-tree o table-of) (third .rows) .table)
+      by-answer none e = record { impossible = (λ q. intersection-none n t u t-form u-form .0 e, λ q. refl); otherwise = λ q. absurd (q refl) }
+      by-answer (some v) e =
+          let i = intersection-some n t u v t-form u-form e in
+          let first = first-among (standard-is n v (i .form)) (i .orders) in
+          record {
+            impossible = (λ q. absurd (omega (arith, ap (λ (s : Reply). s .number) q)), λ q. absurd (q (standard v) (first .allowed .0) (first .allowed .1)));
+            otherwise = λ q. record {
+              new = v;
+              held = over-holds n v (third .rows) (i .form) (h .few-leaves);
+              wide = i .wide;
+              orders = i .orders;
+              first = first;
+            };
+          }
+
+-- Either tree may be lent as the first one: the answer and the table are the same.
+eqb-either : (a b : ℕ) → eqb a b ≡ eqb b a
+eqb-either a b = go (eqb a b) refl
+  where
+    go : (x : Bool) → eqb a b ≡ x → x ≡ eqb b a
+    go true e = sym (eq-eqb b a (sym (eqb-true a b e)))
+    go false e = sym (ne-eqb b a (λ q. eqb-false a b e (sym q)))
+
+module _ (nodes other third : Nodes) where
+  pair-either : pair-checks nodes other third ≡ pair-checks other nodes third
+  pair-either =
+      rw (
+        or-swap (bad-size (nodes .bins)) (bad-size (other .bins)),
+        or-swap (short-nodes nodes) (short-nodes other),
+        eqb-either (nodes .bins) (other .bins),
+      )
+
+  common-either : nodes .bins ≡ other .bins → nodes .bins ≤ 256 → common-tree nodes other ≡ common-tree other nodes
+  unfolding common-tree
+  common-either same few = go (held-tree nodes) refl (held-tree other) refl
+    where
+      go : (a : Option Forest) → held-tree nodes ≡ a → (b : Option Forest) → held-tree other ≡ b → then a (λ t. then b (intersection t)) ≡ then b (λ u. then a (intersection u))
+      go none p none q = refl
+      go none p (some u) q = refl
+      go (some t) p none q = refl
+      go (some t) p (some u) q = intersection-either (nodes .bins) t u (held-form nodes t refl few p) (held-form other u (sym same) few q)
+
+  pub intersect-either : intersect-call nodes other third ≡ intersect-call other nodes third
+  unfolding intersect-call intersect-refusal
+  intersect-either = go (first-refusal (pair-checks nodes other third)) refl
+    where
+      the-call : Option Refusal → Option Forest → Filled
+      the-call must tree = filled must 0 (of-tree tree table-of) (third .rows)
+
+      go : (o : Option Refusal) → first-refusal (pair-checks nodes other third) ≡ o
+          → the-call (first-refusal (pair-checks nodes other third ++ common-checks nodes other)) (common-tree nodes other) ≡ the-call (first-refusal (pair-checks other nodes third ++ common-checks other nodes)) (common-tree other nodes)
+      go (some r) e =
+          ap (λ o. the-call o (common-tree nodes other)) (first-refusal-some (pair-checks nodes other third) (common-checks nodes other) r e)
+          ∙ ap (λ o. the-call o (common-tree other nodes)) (sym (first-refusal-some (pair-checks other nodes third) (common-checks other nodes) r (ap first-refusal (sym pair-either) ∙ e)))
+      go none e =
+          let w = pair-whole nodes other third e in
+          let c = common-either (w .same-bins) (w .few-leaves) in
+          ap₂ (λ cs b. the-call (first-refusal (cs ++ (refuse b NotInForm ∷ refuse (is-none (common-tree nodes other)) Impossible ∷ []))) (common-tree nodes other)) pair-either (or-swap (is-none (held-tree nodes)) (is-none (held-tree other)))
+          ∙ ap (λ t. the-call (first-refusal (pair-checks other nodes third ++ (refuse (is-none (held-tree other) || is-none (held-tree nodes)) NotInForm ∷ refuse (is-none t) Impossible ∷ []))) t) c
+
+-- What stands past the third table's 256 records stays, whatever is lent.
+pub intersect-past : (nodes other third : Nodes) → drop 65792 (intersect-call nodes other third .table) ≡ drop 65792 (third .rows)
+unfolding intersect-call intersect-refusal
+intersect-past nodes other third = go (first-refusal (pair-checks nodes other third ++ common-checks nodes other)) refl (common-tree nodes other) refl
+  where
+    go : (o : Option Refusal) → first-refusal (pair-checks nodes other third ++ common-checks nodes other) ≡ o → (c : Option Forest) → common-tree nodes other ≡ c
+        → drop 65792 (filled o 0 (of-tree c table-of) (third .rows) .table) ≡ drop 65792 (third .rows)
+    go (some r) p c q = refl
+    go none p none q = refl
+    go none p (some v) q =
+        let w = pair-whole nodes other third (first-refusal-left (pair-checks nodes other third) (common-checks nodes other) p) in
+        let long = table-length (leaves nodes) v (common-form nodes other (w .same-bins) (w .few-leaves) v q) (w .few-leaves) in
+        subst (λ k. drop k (table-of v ++ drop (length (table-of v)) (third .rows)) ≡ drop k (third .rows)) long (drop-append-seam (table-of v) (drop (length (table-of v)) (third .rows)))

@@ -1,0 +1,2 @@
+pub mod ThreeNeighbours
+pub mod Intersection
