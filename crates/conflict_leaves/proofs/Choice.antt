@@ -10,13 +10,13 @@ use lib.Bits.{bitOr, or-lt}
 use lib.Dec.{eqb}
 use lib.ListN.{length, getD, take, drop}
 use Rattle.spec_orders.specs.CircularOrder.{Restriction}
-use Rattle.mark_words.specs.Marks.{marked, word-of, words-of, with-leaf}
+use Rattle.mark_words.specs.Marks.{marked, word-of, words-of, with-leaf, either}
 use Rattle.mark_words.proofs.Word.{word-is, bit-or}
 use Rattle.mark_words.proofs.Words.{marked-at, marked-words}
 use Rattle.mark_words.proofs.Leaves.{marked-range}
 use Rattle.spec_calls.specs.Calls.{group-numbered}
 use Rattle.table_book.proofs.Laws.{group-part}
-use Rattle.conflict_leaves.specs.StandIn.{either, Below, FirstUnmarked, Unused, Chosen}
+use Rattle.conflict_leaves.specs.StandIn.{Below, FirstUnmarked, Unused, Chosen}
 use Rattle.spec_orders.proofs.Tests.{false-if}
 
 -- One word of two united.

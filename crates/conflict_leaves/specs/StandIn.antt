@@ -1,6 +1,6 @@
 -- Leaves that stand for all n: those in a group, and one of the others; and the tree of them to start from.
 use mathlib.Core.Path.{_≡_}
-use mathlib.Core.Bool.{true, false, _||_}
+use mathlib.Core.Bool.{true, false}
 use mathlib.Core.List.{List, _∷_}
 use Prim.Native.Nat.{ℕ, _+_, _<_, _≤_}
 use Rattle.spec_orders.specs.Lists.{those-of, Rearranged}
@@ -8,10 +8,6 @@ use Rattle.spec_orders.specs.CircularOrder.{others, CircularOrder, Restriction,
 use Rattle.spec_orders.specs.Tree.{Forest}
 use Rattle.spec_orders.specs.Reduce.{pack}
 use Rattle.spec_orders.specs.Join.{leaf-items}
-
--- The leaves of one restriction or the other.
-abbrev pub either : Restriction → Restriction → Restriction
-either G H b = G b || H b
 
 -- The first leaf from 1 on outside the restriction: n + 1 where all n are in it.
 pub record FirstUnmarked (G : Restriction) (n b : ℕ) : Type 0 where

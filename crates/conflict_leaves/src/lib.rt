@@ -5,10 +5,10 @@ ghost use lib.ListN.{length};
 ghost use Rattle.spec_orders.specs.Lists.{those-of};
 ghost use Rattle.spec_orders.specs.CircularOrder.{others};
 ghost use Rattle.spec_orders.specs.Join.{leaf-items};
-ghost use Rattle.mark_words.specs.Marks.{marked, words-of};
+ghost use Rattle.mark_words.specs.Marks.{marked, words-of, either};
 ghost use Rattle.spec_calls.specs.Calls.{group-numbered};
 ghost use Rattle.tree_tokens.specs.Tokens.{Wrote, flat};
-ghost use Rattle.conflict_leaves.specs.StandIn.{either, Below, FirstUnmarked, Chosen, start};
+ghost use Rattle.conflict_leaves.specs.StandIn.{Below, FirstUnmarked, Chosen, start};
 
 // Marks in words, beside its own leaves, those of more, which has as many words.
 fn add(words: &mut [u64], more: &[u64])

@@ -36,7 +36,7 @@ module _ (ws : List ℕ) (G : Restriction) (w x : ℕ) (v : Words ws) (l : w < l
       at i (yes e) = rw e (getD-set-same ws w x 0 l ∙ word-is G (64 * w) x 64 hx new)
       at i (no n) = getD-set-other ws w i x 0 n ∙ word-is G (64 * i) (getD ws i 0) 64 (v i) (λ j m. others i j n m)
 
-eqb-iff : (a b c d : ℕ) → (a ≡ b → c ≡ d) → (c ≡ d → a ≡ b) → eqb a b ≡ eqb c d
+pub eqb-iff : (a b c d : ℕ) → (a ≡ b → c ≡ d) → (c ≡ d → a ≡ b) → eqb a b ≡ eqb c d
 eqb-iff a b c d f g = go (ℕ-discrete a b)
   where
     go : Dec (a ≡ b) → eqb a b ≡ eqb c d

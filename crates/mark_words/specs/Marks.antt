@@ -31,12 +31,15 @@ words-of (suc k) G = words-of k G ++ (word-of G (64 * k) 64 ∷ [])
 unfoldable pub leaves-of : List ℕ → List ℕ
 leaves-of ws = those-of (marked ws) (numbers-from 1 (64 * length ws))
 
--- No leaf; the leaf and those of the group; the leaves from 1 to n that are outside the group.
+-- No leaf; the leaf and those of the group; the leaves of either group; the leaves from 1 to n that are outside the group.
 abbrev pub no-leaf : Restriction
 no-leaf x = false
 
 abbrev pub with-leaf : ℕ → Restriction → Restriction
 with-leaf b G x = eqb x b || G x
+
+abbrev pub either : Restriction → Restriction → Restriction
+either G H x = G x || H x
 
 abbrev pub outside : ℕ → Restriction → Restriction
 outside n G x = leb x n && not (G x)

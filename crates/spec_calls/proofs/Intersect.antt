@@ -6,7 +6,7 @@ use mathlib.Core.Option.{Option, none, some}
 use mathlib.Core.List.{[], _∷_, _++_}
 use Prim.Native.Nat.{ℕ, _≤_}
 use native.Mathlib.Omega.{arith}
-use borrow.Author.Tests.{eq-eqb, ne-eqb, eqb-true, eqb-false, ltb-false}
+use borrow.Author.Tests.{eq-eqb, eqb-true, ltb-false}
 use lib.Dec.{eqb, ltb}
 use lib.ListN.{length, drop}
 use lib.Seq.{drop-append-seam}
@@ -17,6 +17,7 @@ use Rattle.spec_orders.proofs.Tests.{or-neither, or-swap}
 use Rattle.spec_orders.proofs.StandardOrders.{standard-is}
 use Rattle.spec_intersection.specs.Intersection.{intersection}
 use Rattle.spec_intersection.proofs.Intersections.{intersection-none, intersection-some, intersection-either}
+use Rattle.mark_words.proofs.Steps.{eqb-iff}
 use Rattle.spec_calls.specs.declared.Refusal.{Refusal}
 use Rattle.spec_calls.specs.declared.Refusal.the-variants.{RingSize, ShortTable, NotInForm, Impossible, BinCounts}
 use Rattle.spec_calls.specs.Tables.{Nodes, leaves}
@@ -140,20 +141,13 @@ module _ (nodes other third : Nodes) (t u : Forest) (h : LentTree nodes t) (g : 
           }
 
 -- Either tree may be lent as the first one: the answer and the table are the same.
-eqb-either : (a b : ℕ) → eqb a b ≡ eqb b a
-eqb-either a b = go (eqb a b) refl
-  where
-    go : (x : Bool) → eqb a b ≡ x → x ≡ eqb b a
-    go true e = sym (eq-eqb b a (sym (eqb-true a b e)))
-    go false e = sym (ne-eqb b a (λ q. eqb-false a b e (sym q)))
-
 module _ (nodes other third : Nodes) where
   pair-either : pair-checks nodes other third ≡ pair-checks other nodes third
   pair-either =
       rw (
         or-swap (bad-size (nodes .bins)) (bad-size (other .bins)),
         or-swap (short-nodes nodes) (short-nodes other),
-        eqb-either (nodes .bins) (other .bins),
+        eqb-iff (nodes .bins) (other .bins) (other .bins) (nodes .bins) sym sym,
       )
 
   common-either : nodes .bins ≡ other .bins → nodes .bins ≤ 256 → common-tree nodes other ≡ common-tree other nodes

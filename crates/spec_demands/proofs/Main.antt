@@ -54,9 +54,7 @@ module _ (nodes : Nodes) (book : Book) (list : List ℕ) (t : Forest) (a : Asked
       record {
         accepted = ap (λ (x : Ring). x .answer) (e .0) ∙ d .0;
         in-book = ap (λ (x : Ring). x .book) (e .0) ∙ d .1;
-        new = j .new;
-        held = j .held;
-        orders = j .orders;
+        tree = j;
         standard = λ records order order′ answer r l p.
             let h = lent-again (nodes .bins) records rows′ (j .new) (a .tree .some-leaf) (a .tree .few-leaves) r (j .held) in
             let w = order-written (same-ring nodes records rows′) (j .new) h order order′ answer l p in
@@ -100,10 +98,7 @@ module _ (nodes other third : Nodes) (t u : Forest) (a : AskedBoth nodes other t
       let c = e .1 t u (a .first) (a .second) (a .same-bins) (a .all-records) (a .all-rows) .otherwise q in
       record {
         done = answer ∙ intersect-done nodes other third t u (a .first) (a .second) (a .same-bins) (a .all-records) (a .all-rows) (λ z. q (answer ∙ z));
-        new = c .new;
-        held = c .held;
-        wide = c .wide;
-        orders = c .orders;
+        tree = c;
         standard = λ records order order′ answer r l p.
             let h = lent-again (nodes .bins) records third′ (c .new) (a .first .some-leaf) (a .first .few-leaves) r (c .held) in
             let w = order-written (same-ring nodes records third′) (c .new) h order order′ answer l p in

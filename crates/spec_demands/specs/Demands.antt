@@ -14,7 +14,6 @@ use Rattle.spec_orders.specs.Tree.{Forest, Allowed}
 use Rattle.spec_orders.specs.Form.{FirstOf, StandardOrder}
 use Rattle.spec_orders.specs.TreeText.{tree, refused, Reads}
 use Rattle.spec_orders.specs.Conflict.{Numbers}
-use Rattle.spec_intersection.specs.ThreeNeighbours.{Wide}
 use Rattle.spec_calls.specs.declared.Refusal.{Refusal}
 use Rattle.spec_calls.specs.declared.Refusal.the-variants.{TreeText}
 use Rattle.spec_calls.specs.Tables.{Nodes, lent-nodes, leaves, same-ring, Book, padded}
@@ -22,7 +21,7 @@ use Rattle.spec_calls.specs.Book.{with-group}
 use Rattle.spec_calls.specs.NodeTable.{Holds}
 use Rattle.spec_calls.specs.Refusals.{Reply, reply, reported}
 use Rattle.spec_calls.specs.Calls.{open-refusal, join-refusal, order-refusal, aim-refusal, write-refusal, conflict-refusal, conflicts-of, group-numbered, intersect-refusal}
-use Rattle.spec_calls.specs.Demands.{LentTree, LentBook, ImpossibleIff}
+use Rattle.spec_calls.specs.Demands.{LentTree, LentBook, ImpossibleIff, NewTree, BothTrees}
 use Rattle.spec_calls.specs.Promises.{OpenPromise, JoinPromise, TrialPromise, OrderPromise, AimPromise, WritePromise, ReadPromise, ConflictPromise, IntersectPromise}
 
 -- ==== The first demand
@@ -75,13 +74,11 @@ pub record Asked (nodes : Nodes) (book : Book) (list : List ℕ) (t : Forest) : 
   pub group : WellFormed (nodes .bins) list
 
 -- "Otherwise the new tree allows exactly those that do, and the standard order is the first of them." The group is accepted, and the rows hold the
--- new tree. Who then calls for its standard order, with these rows in 256 records or more, has the first of those orders in the n places.
+-- new tree (`NewTree`). Who then calls for its standard order, with these rows in 256 records or more, has the first of those orders in the n places.
 pub record NewRing (nodes : Nodes) (book : Book) (G : Restriction) (t : Forest) (rows′ : List ℕ) (book′ : Book) (said : Reply) : Type 0 where
   pub accepted : said ≡ reply 0 (book .count + 1)
   pub in-book : book′ ≡ with-group book G
-  pub new : Forest
-  pub held : Holds (leaves nodes) rows′ new
-  pub orders : (ord : List ℕ) → Allowed new ord ↔ (Allowed t ord × Consecutive G ord)
+  pub tree : NewTree (leaves nodes) G t rows′
   pub standard : (records : ℕ) (order order′ : List ℕ) (answer : Reply) → 256 ≤ records → nodes .bins ≤ length order
       → OrderPromise (same-ring nodes records rows′) order order′ answer
       → (answer ≡ reply 0 (nodes .bins)) × FirstOf (λ ord. Allowed t ord × Consecutive G ord) (take (nodes .bins) order′)
@@ -155,14 +152,11 @@ pub record AskedBoth (nodes other third : Nodes) (t u : Forest) : Type 0 where
   pub all-records : 256 ≤ third .records
   pub all-rows : 65792 ≤ length (third .rows)
 
--- "The tree that allows exactly the orders allowed by both." "A node with three neighbours in the result is a P-node." Who then calls for its
--- standard order, with these rows in 256 records or more, has the first of those orders in the n places.
+-- The rows hold "the tree that allows exactly the orders allowed by both", where a node with three neighbours is a P-node (`BothTrees`). Who then
+-- calls for its standard order, with these rows in 256 records or more, has the first of those orders in the n places.
 pub record OneRing (nodes : Nodes) (t u : Forest) (third′ : List ℕ) (said : Reply) : Type 0 where
   pub done : said ≡ reply 0 0
-  pub new : Forest
-  pub held : Holds (leaves nodes) third′ new
-  pub wide : Wide new
-  pub orders : (ord : List ℕ) → Allowed new ord ↔ (Allowed t ord × Allowed u ord)
+  pub tree : BothTrees (leaves nodes) t u third′
   pub standard : (records : ℕ) (order order′ : List ℕ) (answer : Reply) → 256 ≤ records → nodes .bins ≤ length order
       → OrderPromise (same-ring nodes records third′) order order′ answer
       → (answer ≡ reply 0 (nodes .bins)) × FirstOf (λ ord. Allowed t ord × Allowed u ord) (take (nodes .bins) order′)

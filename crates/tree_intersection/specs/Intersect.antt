@@ -1,11 +1,8 @@
 -- What the joining of a tree's characteristic groups to another tree reads and answers.
-use mathlib.Core.Bool.{_||_}
 use mathlib.Core.Option.{Option, none, some}
 use mathlib.Core.List.{List, []}
 use Prim.Native.Nat.{ℕ, _≤_}
 use lib.ListN.{length, take}
-use Rattle.spec_orders.specs.Lists.{elem}
-use Rattle.spec_orders.specs.CircularOrder.{Restriction}
 use Rattle.spec_orders.specs.Tree.{Forest, nil, leaf, node}
 use Rattle.spec_intersection.specs.Intersection.{node-groups}
 use Rattle.tree_tokens.specs.Tokens.{flat}
@@ -22,10 +19,6 @@ pub record Growing (n : ℕ) (toks : List ℕ) (k : ℕ) : Type 0 where
 pub data Grows : Option Forest → List ℕ → Updated → Type 0 where
   impossible : {new : List ℕ} → Grows none new Impossible
   grown : {t : Forest} {new : List ℕ} {k : ℕ} → Begins (flat t) new k → Grows (some t) new (Tokens k)
-
--- These leaves beside those of the group.
-abbrev pub also-leaves : List ℕ → Restriction → Restriction
-also-leaves l G x = elem l x || G x
 
 -- The groups of the first item, if it is a node.
 abbrev pub first-groups : Forest → List (List ℕ)

@@ -8,10 +8,10 @@ ghost use Rattle.spec_orders.specs.Tree.{Forest, frontier};
 ghost use Rattle.spec_orders.specs.Join.{join, joins};
 ghost use Rattle.spec_intersection.specs.ThreeNeighbours.{relabel};
 ghost use Rattle.spec_intersection.specs.Intersection.{item-pairs, p-items, all-groups, intersection};
-ghost use Rattle.mark_words.specs.Marks.{marked, words-of};
+ghost use Rattle.mark_words.specs.Marks.{marked, words-of, either};
 ghost use Rattle.tree_tokens.specs.Tokens.{Judged, tree, encode, Tokens, Wrote, flat, TreeTokens};
 ghost use Rattle.tree_update.specs.Update.{Answers};
-ghost use Rattle.tree_intersection.specs.Intersect.{Growing, Grows, also-leaves, first-groups};
+ghost use Rattle.tree_intersection.specs.Intersect.{Growing, Grows, first-groups};
 use tree_update::Updated;
 
 // The first token; of a P-node, which is 16 less, where it is of a C-node with two items.
@@ -46,7 +46,7 @@ fn relabel(toks: &[u16], out: &mut [u16]) -> usize
 fn mark_leaves(toks: &[u16], words: &mut [u64])
     requires { ⌜ Tokens (now toks) ⌝ }
     ensures { λ _. ⌜ ((j : Judged) → now (toks .entry) ≡ encode j
-        → now (words .exit) ≡ words-of (length (now (words .entry))) (also-leaves (frontier (tree j)) (marked (now (words .entry))))) ⌝ }
+        → now (words .exit) ≡ words-of (length (now (words .entry))) (either (elem (frontier (tree j))) (marked (now (words .entry))))) ⌝ }
 {
     let mut i = 0;
     while i < toks.len() {

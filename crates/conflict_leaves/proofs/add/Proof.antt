@@ -2,9 +2,8 @@ use mathlib.Core.Path.{subst}
 use Prim.Native.Nat.{ℕ, _-_, _^_, _<_}
 use native.Mathlib.Omega.{arith}
 use lib.ListN.{length}
-use Rattle.mark_words.specs.Marks.{marked}
+use Rattle.mark_words.specs.Marks.{marked, either}
 use Rattle.mark_words.proofs.Words.{Written, written-none, written-read, written-one, written-all}
-use Rattle.conflict_leaves.specs.StandIn.{either}
 use Rattle.conflict_leaves.proofs.Choice.{either-word}
 use Rattle.conflict_leaves.proofs.add.Statement.{statement}
 use Rattle.conflict_leaves.proofs.add.Tie as tie
