@@ -305,6 +305,12 @@ fn deepest_after(n: usize) -> Vec<u8> {
     format!("1 {opened}{n}{}", ")".repeat(n - 2)).into_bytes()
 }
 
+/// The text of n leaves with one C-node.
+fn rigid(n: usize) -> Vec<u8> {
+    let leaves: Vec<String> = (2..=n).map(|leaf| leaf.to_string()).collect();
+    format!("1 C({})", leaves.join(" ")).into_bytes()
+}
+
 /// Joins the groups to a ring.
 fn joining(groups: &[Vec<u16>]) -> impl Fn(&mut dyn Planner) + '_ {
     |ring| groups.iter().for_each(|group| ring.join(group))
@@ -325,16 +331,17 @@ fn intersection(n: usize, one: impl Fn(&mut dyn Planner), other: impl Fn(&mut dy
     repeated(ROUNDS, 1, two, |ring| assert_eq!(black_box(ring.intersect()), possible))
 }
 
-/// The intersections: of trees of 96 groups each, all runs of one circular order; of such trees of two circular orders, which have none; and of the
-/// deepest trees.
+/// The intersections: of trees of 96 groups each, all runs of one circular order; of such trees of two circular orders, which have none; of one C-node
+/// with itself; and of the deepest trees.
 fn intersection_rows(n: usize) -> Vec<Row> {
     let groups = runs(SEED, n, 2 * GROUPS);
     let (one, other) = groups.split_at(GROUPS);
     let foreign = runs(OTHER_SEED, n, GROUPS);
-    let (before, after) = (deepest(n), deepest_after(n));
+    let (before, after, rigid) = (deepest(n), deepest_after(n), rigid(n));
     vec![
         ("intersect", intersection(n, joining(one), joining(other), true)),
         ("intersect, none", intersection(n, joining(one), joining(&foreign), false)),
+        ("intersect, one C-node and itself", intersection(n, reading(&rigid), reading(&rigid), true)),
         ("intersect, deepest trees", intersection(n, reading(&before), reading(&after), true)),
         ("intersect, deepest tree and itself", intersection(n, reading(&before), reading(&before), true)),
     ]
