@@ -2,12 +2,13 @@
  *
  * A ring is its number of bins n, a table of node records, a book of mark words and the count of groups in the book. The caller owns the
  * tables and lends them to each call, each as a pointer and its count of elements; a node table is counted in 16-bit numbers, 257 to a
- * record. A pointer is never null, and a table that is written overlaps no other. Longer tables than the sizes below may be lent: what
- * stands past the stated size is never touched. A thread that makes calls has a stack of 1 MiB or more.
+ * record. A pointer is never null, not even that of a list with no elements, and a table that is written overlaps no other. Longer tables
+ * than the sizes below may be lent: what stands past the stated size is never touched. A thread that makes calls has a stack of 1 MiB or
+ * more.
  *
  * Every call but tokuwhape_name and tokuwhape_group returns TOKUWHAPE_DONE or the number of a refusal, and writes *value: when done, the
- * call's own answer; on 5 and 6 the place in the list from 0; on 11 and 12 the byte from 0; on any other refusal 0. A refusal leaves every
- * table as it was. */
+ * call's own answer; on a refusal the place in the list or the byte where it names one, else 0. A refusal leaves every table as it was. No
+ * call returns 4: a list may be empty. */
 #ifndef TOKUWHAPE_H
 #define TOKUWHAPE_H
 
@@ -27,23 +28,26 @@
 extern "C" {
 #endif
 
-/* What a call returns. */
+/* ---- What a call returns. Written by tools/outer.py. */
+
 enum tokuwhape_answer {
     TOKUWHAPE_DONE = 0,
-    TOKUWHAPE_RING_SIZE = 1,        /* n or m is 0 or above 256 */
+    TOKUWHAPE_RING_SIZE = 1,        /* a count of bins is 0 or above 256 */
     TOKUWHAPE_SHORT_TABLE = 2,      /* a lent table is too short */
-    TOKUWHAPE_NOT_IN_FORM = 3,      /* node table or book not in form, or the count above 96 */
-    TOKUWHAPE_EMPTY_GROUP = 4,      /* the list is empty */
-    TOKUWHAPE_OUTSIDE_RING = 5,     /* a bin is 0 or above n */
-    TOKUWHAPE_REPEATED = 6,         /* a bin stands earlier in the same list */
-    TOKUWHAPE_BOOK_FULL = 7,        /* 96 groups already in the book */
+    TOKUWHAPE_NOT_IN_FORM = 3,      /* the node table or the book is not in form, or the count of groups is above 96 */
+    TOKUWHAPE_OUTSIDE_RING = 5,     /* a bin of the list is 0 or above n; *value: the place, from 0 */
+    TOKUWHAPE_REPEATED = 6,         /* a bin stands in the list a second time; *value: the place, from 0 */
+    TOKUWHAPE_BOOK_FULL = 7,        /* the book has 96 groups already */
     TOKUWHAPE_IMPOSSIBLE = 8,       /* no order of the tree has the group consecutive, or no order is allowed by both trees */
-    TOKUWHAPE_NO_SUCH_GROUP = 9,    /* the group number is 0 or above the count */
+    TOKUWHAPE_NO_SUCH_GROUP = 9,    /* the group number is 0 or above the count of groups */
     TOKUWHAPE_NOT_CONSECUTIVE = 10, /* the book's group is not consecutive in the standard order */
-    TOKUWHAPE_RING_FILE = 11,       /* ring file malformed */
-    TOKUWHAPE_TREE_TEXT = 12,       /* tree text malformed */
-    TOKUWHAPE_BIN_COUNTS = 13       /* the two bin counts differ */
+    TOKUWHAPE_RING_FILE = 11,       /* the ring file is malformed; *value: the byte, from 0 */
+    TOKUWHAPE_TREE_TEXT = 12,       /* the tree text is malformed; *value: the byte, from 0 */
+    TOKUWHAPE_BIN_COUNTS = 13,      /* the two counts of bins differ */
+    TOKUWHAPE_NO_AIM = 14           /* the book's group is empty, so it has no aim */
 };
+
+/* ---- What a call returns: end. */
 
 /* A node record, 257 numbers: docs/NODE-TABLE.md. */
 typedef struct {
@@ -60,7 +64,8 @@ typedef char tokuwhape_node_size[TOKUWHAPE_RECORDS * sizeof(tokuwhape_node) == T
 /* Opens a ring of n bins: its node table gets the fresh tree, and its book is emptied. *value: the count of groups, 0. */
 uint8_t tokuwhape_open(size_t n, tokuwhape_node *nodes, size_t numbers, uint64_t *book, size_t words, size_t *value);
 
-/* Joins the list's group: the node table gets the new tree, and the group takes the book's next place. *value: the new count of groups. */
+/* Joins the list's group, which may be empty: the node table gets the new tree, and the group takes the book's next place. *value: the new
+ * count of groups. */
 uint8_t tokuwhape_join(size_t n, tokuwhape_node *nodes, size_t numbers, uint64_t *book, size_t words, size_t count, const uint16_t *list,
                        size_t length, size_t *value);
 
@@ -71,7 +76,7 @@ uint8_t tokuwhape_trial(size_t n, const tokuwhape_node *nodes, size_t numbers, c
 /* Writes the standard order, from bin 1, to the first n places of order. *value: n. */
 uint8_t tokuwhape_order(size_t n, const tokuwhape_node *nodes, size_t numbers, uint16_t *order, size_t places, size_t *value);
 
-/* Finds the aim, in the standard order, of the book's group with this number from 1. *value: the bin. */
+/* Finds the aim, in the standard order, of the book's group with this number from 1; an empty group has none. *value: the bin. */
 uint8_t tokuwhape_aim(size_t n, const tokuwhape_node *nodes, size_t numbers, const uint64_t *book, size_t words, size_t count, size_t group,
                       size_t *value);
 
@@ -108,7 +113,7 @@ size_t tokuwhape_name(const uint8_t *file, size_t length, size_t k, size_t *star
  * returns 0. */
 size_t tokuwhape_group(const uint8_t *file, size_t length, size_t names, size_t head, size_t line, uint16_t *list, size_t places);
 
-/* ---- End of what tools/outer.py writes. */
+/* ---- The calls: end. */
 
 #ifdef __cplusplus
 }

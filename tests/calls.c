@@ -56,12 +56,12 @@ static void joining(void) {
     EXPECT(tokuwhape_join(5, nodes, NUMBERS, book, WORDS - 1, 2, LIST(2, 4), &value), TOKUWHAPE_SHORT_TABLE, 0);
     EXPECT(tokuwhape_join(6, nodes, NUMBERS, book, WORDS, 2, LIST(2, 4), &value), TOKUWHAPE_NOT_IN_FORM, 0);
     EXPECT(tokuwhape_join(5, nodes, NUMBERS, book, WORDS, 97, LIST(2, 4), &value), TOKUWHAPE_NOT_IN_FORM, 0);
-    EXPECT(tokuwhape_join(5, nodes, NUMBERS, book, WORDS, 2, order, 0, &value), TOKUWHAPE_EMPTY_GROUP, 0);
     EXPECT(tokuwhape_join(5, nodes, NUMBERS, book, WORDS, 2, LIST(2, 4, 6), &value), TOKUWHAPE_OUTSIDE_RING, 2);
     EXPECT(tokuwhape_join(5, nodes, NUMBERS, book, WORDS, 2, LIST(2, 4, 2), &value), TOKUWHAPE_REPEATED, 2);
     EXPECT(tokuwhape_join(5, nodes, NUMBERS, book, WORDS, 2, LIST(1, 5), &value), TOKUWHAPE_IMPOSSIBLE, 0);
     EXPECT(tokuwhape_trial(5, nodes, NUMBERS, book, WORDS, 2, LIST(1, 5), &value), TOKUWHAPE_IMPOSSIBLE, 0);
     EXPECT(tokuwhape_trial(5, nodes, NUMBERS, book, WORDS, 2, LIST(2, 4), &value), TOKUWHAPE_DONE, 3);
+    EXPECT(tokuwhape_trial(5, nodes, NUMBERS, book, WORDS, 2, order, 0, &value), TOKUWHAPE_DONE, 3);
     HOLDS(memcmp(kept, nodes, sizeof nodes) == 0);
     HOLDS(memcmp(kept_book, book, sizeof book) == 0);
 }
@@ -76,6 +76,8 @@ static void reading(void) {
     HOLDS(order[0] == 1 && order[1] == 2 && order[2] == 4 && order[3] == 5 && order[4] == 3 && order[5] == 43947);
     EXPECT(tokuwhape_aim(5, nodes, NUMBERS, book, WORDS, 2, 1, &value), TOKUWHAPE_DONE, 3);
     EXPECT(tokuwhape_aim(5, nodes, NUMBERS, book, WORDS, 2, 3, &value), TOKUWHAPE_NO_SUCH_GROUP, 0);
+    EXPECT(tokuwhape_aim(5, nodes, NUMBERS, book, WORDS, 3, 3, &value), TOKUWHAPE_NO_AIM, 0);
+    EXPECT(tokuwhape_conflict(5, book, WORDS, 3, order, 0, conflicts, GROUPS + 1, &value), TOKUWHAPE_DONE, 0);
     EXPECT(tokuwhape_conflict(5, book, WORDS, 2, LIST(1, 5), conflicts, GROUPS + 1, &value), TOKUWHAPE_DONE, 2);
     HOLDS(conflicts[0] == 1 && conflicts[1] == 2 && conflicts[2] == 0 && conflicts[95] == 0 && conflicts[96] == 43947);
     EXPECT(tokuwhape_write(5, nodes, NUMBERS, bytes, TEXT + 1, &value), TOKUWHAPE_DONE, 15);
@@ -88,15 +90,18 @@ static void reading(void) {
     nodes[0].kind = 2;
 }
 
-/* The reader of texts, which overwrites the tables, and a full book. */
+/* The reader of texts, which overwrites the tables, and a full book, its first group an empty one. */
 static void filling(void) {
     EXPECT(tokuwhape_read(5, nodes, NUMBERS, book, WORDS, (const uint8_t *)"1 P(2 3 4)", 10, &value), TOKUWHAPE_TREE_TEXT, 9);
     HOLDS(memcmp(kept, nodes, sizeof nodes) == 0);
     EXPECT(tokuwhape_read(5, nodes, MORE, book, WORDS + 1, (const uint8_t *)"1 P(2 3 4 5)", 12, &value), TOKUWHAPE_DONE, 0);
     HOLDS(nodes[0].kind == 1 && nodes[0].count == 4 && nodes[0].items[3] == 5 && nodes[1].kind == 0 && book[0] == 0);
-    for (size_t count = 0; count < 96; count++)
+    EXPECT(tokuwhape_join(5, nodes, MORE, book, WORDS + 1, 0, order, 0, &value), TOKUWHAPE_DONE, 1);
+    for (size_t count = 1; count < 96; count++)
         EXPECT(tokuwhape_join(5, nodes, MORE, book, WORDS + 1, count, LIST(1, 2, 3, 4, 5), &value), TOKUWHAPE_DONE, count + 1);
     EXPECT(tokuwhape_join(5, nodes, NUMBERS, book, WORDS, 96, LIST(1, 2, 3, 4, 5), &value), TOKUWHAPE_BOOK_FULL, 0);
+    EXPECT(tokuwhape_join(5, nodes, NUMBERS, book, WORDS, 96, order, 0, &value), TOKUWHAPE_BOOK_FULL, 0);
+    EXPECT(tokuwhape_aim(5, nodes, NUMBERS, book, WORDS, 96, 1, &value), TOKUWHAPE_NO_AIM, 0);
     HOLDS(memcmp(&kept[RECORDS], &nodes[RECORDS], sizeof nodes[0]) == 0 && book[WORDS] == kept_book[WORDS]);
 }
 

@@ -1,4 +1,5 @@
-"""The table of calls: each call on a ring, on two trees or on a ring file, once. tools/outer.py writes the outer layers from it."""
+"""The table of calls: each call on a ring, on two trees or on a ring file, once; and the table of refusals. tools/outer.py writes the outer layers
+from them."""
 from typing import NamedTuple
 
 # What a call is lent: a number, by its type; or a table, by the type of its entries.
@@ -68,6 +69,34 @@ class FileCall(NamedTuple):
     does: str
 
 
+class Refusal(NamedTuple):
+    """A refusal. Its case and numbers stand in spec_calls too, for the proofs, by hand."""
+
+    number: int
+    name: str
+    cause: str
+    names: str = ""  # what is returned with the number
+
+
+PLACE, BYTE = "place", "byte"
+
+# Documents 01 and 02; no call gives 4.
+REFUSALS = [
+    Refusal(1, "RingSize", "a count of bins is 0 or above 256"),
+    Refusal(2, "ShortTable", "a lent table is too short"),
+    Refusal(3, "NotInForm", "the node table or the book is not in form, or the count of groups is above 96"),
+    Refusal(5, "OutsideRing", "a bin of the list is 0 or above n", PLACE),
+    Refusal(6, "Repeated", "a bin stands in the list a second time", PLACE),
+    Refusal(7, "BookFull", "the book has 96 groups already"),
+    Refusal(8, "Impossible", "no order of the tree has the group consecutive, or no order is allowed by both trees"),
+    Refusal(9, "NoSuchGroup", "the group number is 0 or above the count of groups"),
+    Refusal(10, "NotConsecutive", "the book's group is not consecutive in the standard order"),
+    Refusal(11, "RingFile", "the ring file is malformed", BYTE),
+    Refusal(12, "TreeText", "the tree text is malformed", BYTE),
+    Refusal(13, "BinCounts", "the two counts of bins differ"),
+    Refusal(14, "NoAim", "the book's group is empty, so it has no aim"),
+]
+
 RING = [
     Call(
         name="open",
@@ -85,9 +114,9 @@ RING = [
         rows="call_update",
         promise="JoinPromise",
         lent="n nodes! book! count list",
-        does="Joins the list's group: the node table gets the new tree, and the group takes the book's next place.",
+        does="Joins the list's group, which may be empty: the node table gets the new tree, and the group takes the book's next place.",
         value="the new count of groups",
-        refuses="1 to 8",
+        refuses="1 to 3, 5 to 8",
     ),
     Call(
         name="trial",
@@ -113,9 +142,9 @@ RING = [
         rows="call_order",
         promise="AimPromise",
         lent="n nodes book count group",
-        does="Finds the aim, in the standard order, of the book's group with this number from 1.",
+        does="Finds the aim, in the standard order, of the book's group with this number from 1; an empty group has none.",
         value="the leaf",
-        refuses="1, 2, 3, 9, 10",
+        refuses="1 to 3, 9, 14, 10",
     ),
     Call(
         name="conflict",
@@ -126,7 +155,7 @@ RING = [
         does="Writes the numbers of the book's groups in conflict with the list's group, rising, then zeros, to the first 96 places of conflicts: "
         "none where the whole book and the group can be consecutive together.",
         value="how many numbers",
-        refuses="1 to 6",
+        refuses="1 to 3, 5, 6",
     ),
     Call(
         name="write",

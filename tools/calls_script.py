@@ -358,6 +358,101 @@ def read_back(s, r, n):
     s.order(n)
 
 
+# ---- groups with no bins
+
+def empty_lists(s):
+    """Lists with no bins: on fresh rings, beside other groups, until the book is full and after."""
+    for n in (1, 2, 3, 5, 64, 65, 256):
+        s.open(n)
+        for count, g in enumerate(([], whole(n), [], [n])):
+            s.trial(n, count, g)
+            s.conflict(n, count, g)
+            s.join(n, count, g)
+        s.order(n)
+        s.text(n)
+        for k in range(6):
+            s.aim(n, 4, k)
+    s.ring(5, [[]] * 95)
+    for g in ([], [2, 4]):
+        s.join(5, 95, g)
+        for h in ([], [1, 3], [1, 2, 3, 4, 5], [6], [2, 2]):
+            for count in (95, 96, 97):
+                s.trial(5, count, h)
+                s.conflict(5, count, h)
+            s.join(5, 96, h)
+        for k in (0, 1, 95, 96, 97):
+            s.aim(5, 96, k)
+        s.words(95, [])
+
+
+def empty_marks(s):
+    """Books that hold groups without marks, by themselves possible or not; the count may be above their number, or leave out one with marks."""
+    for more in ([], [[1, 5]], [[], [2, 3], [1, 5], []]):
+        s.ring(5, [[], [1, 3], [], [3, 5], []])
+        for k, g in enumerate(more):
+            s.words(5 + k, g)
+        kept = s.kept()
+        for count in (0, 3, 4, 5, 6, 7, 9, 95, 96, 97):
+            for g in ([], [2, 4], [1, 5], [1, 2, 3, 4, 5], [0], [4, 4]):
+                s.trial(5, count, g)
+                s.conflict(5, count, g)
+                if s.join(5, count, g)[0] == 0:
+                    s.restore(kept)
+            for k in (1, 2, 3, 4, 5, 6, 8, 96):
+                s.aim(5, count, k)
+    # a full book, impossible by its first, a middle and its last group
+    s.open(5)
+    for k, g in ((0, [1, 3]), (50, [3, 5]), (95, [1, 5])):
+        s.words(k, g)
+    for g in ([], [1, 3], [2, 4], [1, 2, 4]):
+        s.conflict(5, 96, g)
+        s.join(5, 96, g)
+    for k in (0, 1, 2, 51, 95, 96, 97):
+        s.aim(5, 96, k)
+
+
+def empty_aims(s):
+    """The aim of an empty group with each cause that is checked before it, and in a book with a group that is not consecutive."""
+    s.ring(5, [[1, 3], [], [3, 5]])
+    kept = s.kept()
+    for damage in (None, "nodes", "book", "both"):
+        s.restore(kept)
+        if damage in ("nodes", "both"):
+            s.node(ROW + 3, 5)
+        if damage in ("book", "both"):
+            s.word(4, 32)
+        for n, short, much, k in itertools.product([5] + BAD_N, [{}] + SHORT, (3, 4, 97), (2, 4, 0, 5, LARGEST)):
+            if pairs(n != 5, short, damage or much == 97, not 1 <= k <= much):
+                s.aim(n, much, k, **short)
+    s.restore(kept)
+    s.words(0, [2, 5])  # not consecutive in the standard order, 1 2 4 5 3
+    for k in range(6):
+        s.aim(5, 4, k)
+
+
+def random_empty(s, r):
+    """Random rings with empty lists among the others; then books that nobody joined, with groups without marks."""
+    for _ in range(24):
+        n = r.pick([1, 2, 3, 4, 5, 6, 8, 12, 64])
+        s.open(n)
+        count = 0
+        for g in random_groups(r, n, 6):
+            g = g if r.below(3) else []
+            s.trial(n, count, g)
+            s.conflict(n, count, g)
+            count += s.join(n, count, g)[0] == 0
+        s.text(n)
+        for k in range(1, count + 2):
+            s.aim(n, count, k)
+        for k in range(8):
+            s.words(k, r.shuffled(whole(n))[:1 + r.below(n)] if r.below(3) else [])
+        for g in [[]] + random_groups(r, n, 2):
+            s.conflict(n, 8, g)
+            s.trial(n, 8, g)
+        for k in range(1, 9):
+            s.aim(n, 8, k)
+
+
 def main():
     s = Script()
     r = Random(20260101)
@@ -365,6 +460,9 @@ def main():
         part(s)
     for part in (random_damage, other_books, random_rings):
         part(s, r)
+    for part in (empty_lists, empty_marks, empty_aims):
+        part(s)
+    random_empty(s, r)
     folder = os.path.join(HERE, "crates", "test_calls")
     os.makedirs(os.path.join(folder, "data"), exist_ok=True)
     with open(os.path.join(folder, "data", "script.txt"), "w") as f:

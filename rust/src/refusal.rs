@@ -1,23 +1,35 @@
-//! Why a call is refused.
+//! Why a call is refused. Written by tools/outer.py.
 use std::fmt;
 
-/// The refusals 1 to 13 of documents 01 and 02, by their numbers. A place counts from 0 in the group's list, a byte from 0 in the file or
-/// text.
+/// The refusals of documents 01 and 02; no call gives 4. A place counts from 0 in the group's list, a byte from 0 in the file or text.
 #[derive(Clone, Copy, PartialEq, Eq, Debug)]
 pub enum Refusal {
+    /// 1: a count of bins is 0 or above 256.
     RingSize,
+    /// 2: a lent table is too short.
     ShortTable,
+    /// 3: the node table or the book is not in form, or the count of groups is above 96.
     NotInForm,
-    EmptyGroup,
+    /// 5: a bin of the list is 0 or above n.
     OutsideRing(usize),
+    /// 6: a bin stands in the list a second time.
     Repeated(usize),
+    /// 7: the book has 96 groups already.
     BookFull,
+    /// 8: no order of the tree has the group consecutive, or no order is allowed by both trees.
     Impossible,
+    /// 9: the group number is 0 or above the count of groups.
     NoSuchGroup,
+    /// 10: the book's group is not consecutive in the standard order.
     NotConsecutive,
+    /// 11: the ring file is malformed.
     RingFile(usize),
+    /// 12: the tree text is malformed.
     TreeText(usize),
+    /// 13: the two counts of bins differ.
     BinCounts,
+    /// 14: the book's group is empty, so it has no aim.
+    NoAim,
 }
 
 impl Refusal {
@@ -28,7 +40,6 @@ impl Refusal {
             1 => Refusal::RingSize,
             2 => Refusal::ShortTable,
             3 => Refusal::NotInForm,
-            4 => Refusal::EmptyGroup,
             5 => Refusal::OutsideRing(value),
             6 => Refusal::Repeated(value),
             7 => Refusal::BookFull,
@@ -38,17 +49,17 @@ impl Refusal {
             11 => Refusal::RingFile(value),
             12 => Refusal::TreeText(value),
             13 => Refusal::BinCounts,
-            _ => unreachable!("the archive's calls return 0 to 13"),
+            14 => Refusal::NoAim,
+            _ => unreachable!("no call of the archive returns {number}"),
         })
     }
 
-    /// The refusal's number in the table, 1 to 13.
+    /// The refusal's number in the table.
     pub fn number(self) -> u8 {
         match self {
             Refusal::RingSize => 1,
             Refusal::ShortTable => 2,
             Refusal::NotInForm => 3,
-            Refusal::EmptyGroup => 4,
             Refusal::OutsideRing(_) => 5,
             Refusal::Repeated(_) => 6,
             Refusal::BookFull => 7,
@@ -58,6 +69,7 @@ impl Refusal {
             Refusal::RingFile(_) => 11,
             Refusal::TreeText(_) => 12,
             Refusal::BinCounts => 13,
+            Refusal::NoAim => 14,
         }
     }
 
@@ -73,19 +85,19 @@ impl Refusal {
 impl fmt::Display for Refusal {
     fn fmt(&self, f: &mut fmt::Formatter) -> fmt::Result {
         match self {
-            Refusal::RingSize => write!(f, "a ring has 1 to 256 bins"),
+            Refusal::RingSize => write!(f, "a count of bins is 0 or above 256"),
             Refusal::ShortTable => write!(f, "a lent table is too short"),
-            Refusal::NotInForm => write!(f, "the node table or the book is not in form"),
-            Refusal::EmptyGroup => write!(f, "the group is empty"),
-            Refusal::OutsideRing(place) => write!(f, "place {place} of the list is no bin of the ring"),
-            Refusal::Repeated(place) => write!(f, "place {place} of the list repeats a bin"),
-            Refusal::BookFull => write!(f, "the book is full"),
-            Refusal::Impossible => write!(f, "no order of the ring has the group together, or none is allowed by both trees"),
-            Refusal::NoSuchGroup => write!(f, "the book has no group with this number"),
-            Refusal::NotConsecutive => write!(f, "the book's group does not hang together in the standard order"),
-            Refusal::RingFile(byte) => write!(f, "the ring file is malformed at byte {byte}"),
-            Refusal::TreeText(byte) => write!(f, "the tree text is malformed at byte {byte}"),
-            Refusal::BinCounts => write!(f, "the two trees have different numbers of bins"),
+            Refusal::NotInForm => write!(f, "the node table or the book is not in form, or the count of groups is above 96"),
+            Refusal::OutsideRing(at) => write!(f, "a bin of the list is 0 or above n, at place {at}"),
+            Refusal::Repeated(at) => write!(f, "a bin stands in the list a second time, at place {at}"),
+            Refusal::BookFull => write!(f, "the book has 96 groups already"),
+            Refusal::Impossible => write!(f, "no order of the tree has the group consecutive, or no order is allowed by both trees"),
+            Refusal::NoSuchGroup => write!(f, "the group number is 0 or above the count of groups"),
+            Refusal::NotConsecutive => write!(f, "the book's group is not consecutive in the standard order"),
+            Refusal::RingFile(at) => write!(f, "the ring file is malformed, at byte {at}"),
+            Refusal::TreeText(at) => write!(f, "the tree text is malformed, at byte {at}"),
+            Refusal::BinCounts => write!(f, "the two counts of bins differ"),
+            Refusal::NoAim => write!(f, "the book's group is empty, so it has no aim"),
         }
     }
 }

@@ -4,6 +4,19 @@ use crate::{Node, Refusal, GROUPS, RECORDS, TEXT, WORDS};
 const IN_FORM: &str = "a ring's tables are in form";
 
 /// A ring with its node table and book.
+///
+/// ```
+/// use tokuwhape::{Refusal, Ring};
+///
+/// let mut ring = Ring::new(5)?;
+/// assert_eq!(ring.join(&[1, 3]), Ok(1));
+/// assert_eq!(ring.aim(1), Ok(3));
+/// // a group with no bins takes a place of the book and has no aim
+/// assert_eq!(ring.join(&[]), Ok(2));
+/// assert_eq!(ring.aim(2), Err(Refusal::NoAim));
+/// assert_eq!(ring.text(), "1 P(P(2 4 5) 3)");
+/// # Ok::<(), Refusal>(())
+/// ```
 #[derive(Clone, PartialEq, Eq, Debug)]
 pub struct Ring {
     n: usize,
@@ -50,7 +63,7 @@ impl Ring {
         self.count
     }
 
-    /// Joins the group and returns how many groups the book then has, which is the group's number.
+    /// Joins the group, which may be empty, and returns how many groups the book then has, which is the group's number.
     pub fn join(&mut self, group: &[u16]) -> Result<usize, Refusal> {
         self.count = crate::join(self.n, &mut self.nodes, &mut self.book, self.count, group)?;
         Ok(self.count)
@@ -68,7 +81,7 @@ impl Ring {
         order
     }
 
-    /// The leaf that is the aim, in the standard order, of the book's group with this number from 1.
+    /// The leaf that is the aim, in the standard order, of the book's group with this number from 1; an empty group has none.
     pub fn aim(&self, group: usize) -> Result<usize, Refusal> {
         crate::aim(self.n, &self.nodes, &self.book, self.count, group)
     }

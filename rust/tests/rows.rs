@@ -122,6 +122,17 @@ fn conflicts_of_circle_e() {
     assert_eq!(tokuwhape::conflict(5, &book, 2, &[1, 5], &mut conflicts), Ok(2));
     assert_eq!(conflicts[..3], [1, 2, 0]);
     assert!(conflicts[3..96].iter().all(|number| *number == 0) && conflicts[96] == 9);
+    assert_eq!(tokuwhape::conflict(5, &book, 3, &[], &mut conflicts), Ok(0));
+    assert!(conflicts[..96].iter().all(|number| *number == 0));
+}
+
+/// An empty group is in conflict with a book that is impossible by itself, but with no empty group of it.
+#[test]
+fn conflicts_of_an_impossible_book() {
+    let (mut book, mut conflicts) = (circle_e(NUMBERS).book, [9; 96]);
+    book[12] = 0b10001;
+    assert_eq!(tokuwhape::conflict(5, &book, 5, &[], &mut conflicts), Ok(3));
+    assert_eq!(conflicts[..4], [1, 2, 4, 0]);
 }
 
 #[test]
@@ -155,6 +166,7 @@ fn a_ring_file_is_read_first() {
     assert_eq!((file.group(0), file.group(1), file.group(2)), (Some(vec![1, 3]), Some(vec![]), None));
     let mut ring = file.ring();
     assert_eq!(ring.join(&file.group(0).unwrap()), Ok(1));
+    assert_eq!(ring.join(&file.group(1).unwrap()), Ok(2));
     assert_eq!(ring.text(), "1 P(2 3)");
 }
 
@@ -171,7 +183,18 @@ fn a_ring_owns_its_tables() {
     let again = Ring::from_text(5, &ring.text()).unwrap();
     assert_eq!((again.leaves(), again.groups(), again.text()), (5, 0, ring.text()));
     assert_eq!(Ring::new(257), Err(Refusal::RingSize));
-    assert_eq!(Ring::from_text(5, "1").unwrap_err().to_string(), "the tree text is malformed at byte 1");
+    assert_eq!(Ring::from_text(5, "1").unwrap_err().to_string(), "the tree text is malformed, at byte 1");
+}
+
+#[test]
+fn groups_with_no_bins() {
+    let mut ring = Ring::new(5).unwrap();
+    assert_eq!([&[][..], &[1, 3], &[3, 5], &[]].map(|group| ring.join(group)), [Ok(1), Ok(2), Ok(3), Ok(4)]);
+    assert_eq!(ring.text(), "1 C(P(2 4) 5 3)");
+    assert_eq!((ring.aim(1), ring.aim(2), ring.aim(5)), (Err(Refusal::NoAim), Ok(3), Err(Refusal::NoSuchGroup)));
+    assert_eq!((ring.conflict(&[]), ring.conflict(&[1, 5])), (Ok(vec![]), Ok(vec![2, 3])));
+    assert_eq!((Refusal::NoAim.number(), Refusal::NoAim.place()), (14, None));
+    assert_eq!(Refusal::NoAim.to_string(), "the book's group is empty, so it has no aim");
 }
 
 #[test]

@@ -1,10 +1,10 @@
 """The declarations of the calls for C and Rust."""
 import calls
+from layers.refusals import constants
 from layers.table import params
 from layers.text import MADE, signature, wrapped
 
 C_TYPES = {"Node": "tokuwhape_node", "usize": "size_t", "u8": "uint8_t", "u16": "uint16_t", "u32": "uint32_t", "u64": "uint64_t"}
-BEGIN, END = "/* ---- The calls. Written by tools/outer.py. */", "/* ---- End of what tools/outer.py writes. */"
 
 
 def exported():
@@ -39,9 +39,12 @@ def declared():
 
 
 def header(old):
-    """The header with the calls between its two marks."""
+    """The header with each of its two parts between its marks."""
     lines = old.splitlines()
-    return [*lines[: lines.index(BEGIN) + 1], "", *declared(), *lines[lines.index(END) :]]
+    for part, made in {"What a call returns": constants, "The calls": declared}.items():
+        begin, end = lines.index(f"/* ---- {part}. {MADE} */"), lines.index(f"/* ---- {part}: end. */")
+        lines = [*lines[: begin + 1], "", *made(), *lines[end:]]
+    return lines
 
 
 def symbols(prefix, made, about, nodes):

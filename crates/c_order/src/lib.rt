@@ -20,7 +20,7 @@ pub extern "C" fn tokuwhape_order(
     spec_calls::code(answer, value)
 }
 
-// Finds the aim, in the standard order, of the book's group with this number from 1. The value is the leaf.
+// Finds the aim, in the standard order, of the book's group with this number from 1; an empty group has none. The value is the leaf.
 #[no_mangle]
 pub extern "C" fn tokuwhape_aim(
     n: usize,

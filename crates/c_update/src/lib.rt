@@ -20,7 +20,8 @@ pub extern "C" fn tokuwhape_open(
     spec_calls::code(answer, value)
 }
 
-// Joins the list's group: the node table gets the new tree, and the group takes the book's next place. The value is the new count of groups.
+// Joins the list's group, which may be empty: the node table gets the new tree, and the group takes the book's next place. The value is the new count
+// of groups.
 #[no_mangle]
 pub extern "C" fn tokuwhape_join(
     n: usize,

@@ -1,8 +1,8 @@
 -- An attempt's refusal and tree, from what its checks and its work come to.
-use mathlib.Core.Path.{_≡_, refl, _∙_, ap, subst}
+use mathlib.Core.Path.{_≡_, refl, sym, _∙_, ap, subst}
 use mathlib.Core.Logic.{_≢_}
 use mathlib.Core.Option.{Option, none, some}
-use mathlib.Core.List.{List, [], _∷_, _++_}
+use mathlib.Core.List.{List, [], _∷_}
 use Prim.Native.Nat.{ℕ, _≤_, _<_}
 use native.Mathlib.Omega.{arith}
 use borrow.Author.Tests.{eq-eqb, ne-eqb}
@@ -17,37 +17,36 @@ use Rattle.tree_update.specs.Update.{Answers, written}
 use Rattle.spec_calls.specs.declared.Refusal.{Refusal}
 use Rattle.spec_calls.specs.declared.Refusal.the-variants.{BookFull, Impossible as Not-possible}
 use Rattle.spec_calls.specs.Tables.{Nodes, leaves, Book}
-use Rattle.spec_calls.specs.Refusals.{refuse, first-refusal, list-checks}
+use Rattle.spec_calls.specs.Refusals.{refuse, first-refusal, bad-list}
 use Rattle.spec_calls.specs.Calls.{is-none, ring-checks, joined-tree, join-refusal}
 use Rattle.spec_calls.proofs.Demands.{lent-held}
 use Rattle.table_book.proofs.Laws.{few-groups}
 use Rattle.table_book.proofs.Lists.{group-held}
 use Rattle.call_checks.specs.Lent.{RingLent}
-use Rattle.spec_calls.proofs.Checks.{first-refusal-some, first-refusal-none, first-refusal-left}
+use Rattle.spec_calls.proofs.Checks.{first-refusal-some, first-refusal-none, first-refusal-left, first-refusal-one}
 use Rattle.call_attempt.specs.declared.Tried.{Tried}
 use Rattle.call_attempt.specs.declared.Tried.the-variants.{Joined, Refused}
 use Rattle.call_attempt.specs.Attempts.{group-refusal, JoinedTree, AttemptsOn, Attempts}
 
 module _ (t : Forest) (n count : ℕ) (list : List ℕ) where
-  abbrev pub after-list : List (Option Refusal)
-  after-list = refuse (eqb count 96) BookFull ∷ refuse (is-none (join (group-of n list) t)) Not-possible ∷ []
-
-  pub list-passed : group-refusal t n count list ≡ none → first-refusal (list-checks n list) ≡ none
+  pub list-passed : group-refusal t n count list ≡ none → bad-list n list ≡ none
   unfolding group-refusal
-  list-passed e = first-refusal-left (list-checks n list) after-list e
+  list-passed e =
+      sym (first-refusal-one (bad-list n list))
+      ∙ first-refusal-left (bad-list n list ∷ []) (refuse (eqb count 96) BookFull ∷ refuse (is-none (join (group-of n list) t)) Not-possible ∷ []) e
 
-  pub list-refused : (r : Refusal) → first-refusal (list-checks n list) ≡ some r → group-refusal t n count list ≡ some r
+  pub list-refused : (r : Refusal) → bad-list n list ≡ some r → group-refusal t n count list ≡ some r
   unfolding group-refusal
-  list-refused r e = first-refusal-some (list-checks n list) after-list r e
+  list-refused r e = rw e
 
-  module _ (e : first-refusal (list-checks n list) ≡ none) where
+  module _ (e : bad-list n list ≡ none) where
     pub full-refused : count ≡ 96 → group-refusal t n count list ≡ some BookFull
     unfolding group-refusal
-    full-refused q = first-refusal-none (list-checks n list) after-list e ∙ ap (λ b. first-refusal (refuse b BookFull ∷ refuse (is-none (join (group-of n list) t)) Not-possible ∷ [])) (eq-eqb count 96 q)
+    full-refused q = rw (e, eq-eqb count 96 q)
 
     judged : (count ≡ 96 → ⊥) → group-refusal t n count list ≡ first-refusal (refuse (is-none (join (group-of n list) t)) Not-possible ∷ [])
     unfolding group-refusal
-    judged q = first-refusal-none (list-checks n list) after-list e ∙ ap (λ b. first-refusal (refuse b BookFull ∷ refuse (is-none (join (group-of n list) t)) Not-possible ∷ [])) (ne-eqb count 96 q)
+    judged q = rw (e, ne-eqb count 96 q)
 
     -- The marks of the list are its leaves.
     marks-are : (words : List ℕ) → n ≤ 256 → words ≡ words-of 4 (group-of n list) → marked words ≡ group-of n list
@@ -70,7 +69,7 @@ module _ (t : Forest) (n count : ℕ) (list : List ℕ) where
 -- On lent tables.
 module _ (nodes : Nodes) (book : Book) (list : List ℕ) where
   abbrev after-ring : List (Option Refusal)
-  after-ring = list-checks (nodes .bins) list ++ (refuse (eqb (book .count) 96) BookFull ∷ refuse (is-none (joined-tree nodes list)) Not-possible ∷ [])
+  after-ring = bad-list (nodes .bins) list ∷ refuse (eqb (book .count) 96) BookFull ∷ refuse (is-none (joined-tree nodes list)) Not-possible ∷ []
 
   pub ring-refused : (r : Refusal) → first-refusal (ring-checks nodes book) ≡ some r → join-refusal nodes book list ≡ some r
   unfolding join-refusal
@@ -85,7 +84,7 @@ module _ (nodes : Nodes) (book : Book) (list : List ℕ) where
     unfolding join-refusal group-refusal
     refusal-is =
         first-refusal-none (ring-checks nodes book) after-ring (h .passes)
-        ∙ ap (λ o. first-refusal (list-checks (nodes .bins) list ++ (refuse (eqb (book .count) 96) BookFull ∷ refuse (is-none o) Not-possible ∷ []))) tree-is
+        ∙ ap (λ o. first-refusal (bad-list (nodes .bins) list ∷ refuse (eqb (book .count) 96) BookFull ∷ refuse (is-none o) Not-possible ∷ [])) tree-is
 
     pub attempt-is : (marks out new : List ℕ) (x : Tried) → AttemptsOn (h .tree) (nodes .bins) (book .count) list marks out new x → Attempts nodes book list marks out new x
     attempt-is marks out new (Refused r) a = refusal-is ∙ a

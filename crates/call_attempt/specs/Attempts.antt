@@ -2,7 +2,7 @@
 use mathlib.Core.Path.{_≡_}
 use mathlib.Core.Logic.{_≢_}
 use mathlib.Core.Option.{Option, none, some}
-use mathlib.Core.List.{List, [], _∷_, _++_}
+use mathlib.Core.List.{List, [], _∷_}
 use Prim.Native.Nat.{ℕ, _<_}
 use lib.Dec.{eqb}
 use Rattle.spec_orders.specs.CircularOrder.{group-of}
@@ -14,16 +14,16 @@ use Rattle.tree_tokens.specs.Tokens.{Wrote, flat}
 use Rattle.spec_calls.specs.declared.Refusal.{Refusal}
 use Rattle.spec_calls.specs.declared.Refusal.the-variants.{BookFull, Impossible}
 use Rattle.spec_calls.specs.Tables.{Nodes, leaves, Book}
-use Rattle.spec_calls.specs.Refusals.{refuse, first-refusal, list-checks}
+use Rattle.spec_calls.specs.Refusals.{refuse, first-refusal, bad-list}
 use Rattle.spec_calls.specs.Calls.{is-none, joined-tree, join-refusal}
 use Rattle.spec_calls.specs.Demands.{LentTree, LentBook}
 use Rattle.call_attempt.specs.declared.Tried.{Tried}
 use Rattle.call_attempt.specs.declared.Tried.the-variants.{Joined, Refused}
 
--- Checks 4 to 8, for a tree t.
+-- Checks 5 to 8, for a tree t.
 unfoldable pub group-refusal : Forest → ℕ → ℕ → List ℕ → Option Refusal
 group-refusal t n count list =
-    first-refusal (list-checks n list ++ (refuse (eqb count 96) BookFull ∷ refuse (is-none (join (group-of n list) t)) Impossible ∷ []))
+    first-refusal (bad-list n list ∷ refuse (eqb count 96) BookFull ∷ refuse (is-none (join (group-of n list) t)) Impossible ∷ [])
 
 -- The tree with the group, written over `old`, and the group's marks.
 pub record JoinedTree (t : Forest) (n count : ℕ) (list marks old new : List ℕ) (k : ℕ) : Type 0 where

@@ -1,5 +1,5 @@
-// The attempt to join a group, for joining, its trial and the lister: checks 4 to 8 on a tree in tokens, or 1 to 8 on a ring's lent tables, and
-// the tree with the group joined to it.
+// The attempt to join a group, for joining, its trial and the lister: checks 5 to 8 on a tree in tokens, on a ring's lent tables 1 to 3
+// before them, and the tree with the group joined to it.
 ghost use mathlib.Core.Path.{_≡_};
 ghost use Prim.Native.Nat.{_≤_};
 ghost use lib.ListN.{length};
@@ -18,7 +18,7 @@ pub enum Tried {
     Refused(Refusal),
 }
 
-// Checks 4 to 8 on a tree and the count of a book in form. Writes the group's four words to marks, and the tree with the group joined to it to
+// Checks 5 to 8 on a tree and the count of a book in form. Writes the group's four words to marks, and the tree with the group joined to it to
 // the start of out.
 pub fn attempt_on(
     toks: &[u16],
@@ -44,7 +44,7 @@ pub fn attempt_on(
     Tried::Joined(m)
 }
 
-// Checks 1 to 8. Writes the group's four words to marks, and the ring's tree with the group joined to it to the start of out.
+// Checks 1 to 3 and 5 to 8. Writes the group's four words to marks, and the ring's tree with the group joined to it to the start of out.
 pub fn attempt(
     n: usize,
     nodes: &[u16],

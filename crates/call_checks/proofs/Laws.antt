@@ -4,12 +4,11 @@ use mathlib.Core.Bool.{Bool, true, false, not, _||_}
 use mathlib.Core.Option.{Option, none, some}
 use mathlib.Core.List.{List, [], _∷_, _++_}
 use Prim.Native.Nat.{ℕ, _≤_, _<_}
-use native.Mathlib.Nat.{pos-of-ne-zero}
 use native.Mathlib.Omega.{arith}
-use borrow.Author.Tests.{eq-eqb, ne-eqb, lt-ltb, ltb-false, eqb-false}
-use lib.Dec.{eqb, ltb}
+use borrow.Author.Tests.{eq-eqb, ne-eqb, lt-ltb, ltb-false, not-false}
 use lib.ListN.{length}
 use Rattle.spec_orders.specs.Tree.{Forest}
+use Rattle.spec_orders.proofs.Tests.{or-neither}
 use Rattle.spec_calls.specs.declared.Refusal.{Refusal}
 use Rattle.spec_calls.specs.declared.Refusal.the-variants.{RingSize, ShortTable, NotInForm}
 use Rattle.spec_calls.specs.Tables.{Nodes, leaves, Book}
@@ -19,8 +18,8 @@ use Rattle.spec_calls.specs.Refusals.{refuse, first-refusal, bad-size, short, s
 use Rattle.spec_calls.specs.Calls.{is-none, table-checks, tree-checks, ring-checks}
 use Rattle.spec_calls.specs.Demands.{LentTree, LentBook}
 use Rattle.spec_calls.proofs.NodeTables.{tree-in-holds}
-use Rattle.spec_calls.proofs.Checks.{first-refusal-some, first-refusal-none}
-use Rattle.spec_calls.proofs.Demands.{size-fine, tables-whole}
+use Rattle.spec_calls.proofs.Checks.{first-refusal-some, first-refusal-none, first-refusal-passed}
+use Rattle.spec_calls.proofs.Demands.{size-fine, size-whole, tables-whole}
 use Rattle.table_walk.specs.declared.Walked.the-variants.{Found}
 use Rattle.table_walk.specs.Walks.{Loads}
 use Rattle.call_checks.specs.declared.Lent.{Lent}
@@ -120,15 +119,8 @@ module _ (nodes : Nodes) (book : Book) where
 
 -- On a book by itself: where none of 1, 2 and 3 refuses.
 pub book-lent : (n : ℕ) (book : Book) (other : Bool) → first-refusal (book-checks n book other) ≡ none → (1 ≤ n) × (n ≤ 256) × LentBook n book × (other ≡ false)
-book-lent n book other e = go (eqb n 0) refl (ltb 256 n) refl (short 384 (book .words)) refl other refl (book-in-form? n book) refl e
-  where
-    go : (a : Bool) → eqb n 0 ≡ a → (b : Bool) → ltb 256 n ≡ b → (c : Bool) → short 384 (book .words) ≡ c → (o : Bool) → other ≡ o → (f : Bool) → book-in-form? n book ≡ f
-        → first-refusal (refuse (a || b) RingSize ∷ refuse (c || o) ShortTable ∷ refuse (not f) NotInForm ∷ []) ≡ none
-        → (1 ≤ n) × (n ≤ 256) × LentBook n book × (other ≡ false)
-    go true p b q c r o t f w e = absurd (let z : _≡_ {A = ℕ} 0 1 = cc in omega arith)
-    go false p true q c r o t f w e = absurd (let z : _≡_ {A = ℕ} 0 1 = cc in omega arith)
-    go false p false q true r o t f w e = absurd (let z : _≡_ {A = ℕ} 0 1 = cc in omega arith)
-    go false p false q false r true t f w e = absurd (let z : _≡_ {A = ℕ} 0 1 = cc in omega arith)
-    go false p false q false r false t false w e = absurd (let z : _≡_ {A = ℕ} 0 1 = cc in omega arith)
-    go false p false q false r false t true w e =
-        (pos-of-ne-zero (eqb-false n 0 p), ltb-false 256 n q, record { all-words = ltb-false (length (book .words)) 384 r; in-form = w }, t)
+book-lent n book other e =
+    let p = first-refusal-passed ((bad-size n, RingSize) ∷ (short 384 (book .words) || other, ShortTable) ∷ (not (book-in-form? n book), NotInForm) ∷ []) e in
+    let tables = or-neither (short 384 (book .words)) other (p .1 .0) in
+    let size = size-whole n (p .0) in
+    (size .0, size .1, record { all-words = ltb-false (length (book .words)) 384 (tables .0); in-form = not-false (book-in-form? n book) (p .1 .1 .0) }, tables .1)

@@ -1,7 +1,7 @@
 -- The call's checks, and its definition meets the third demand.
 use mathlib.Core.Path.{_≡_, refl, sym, ap, subst, _∙_}
 use mathlib.Core.Option.{none, some}
-use mathlib.Core.List.{List, _++_}
+use mathlib.Core.List.{List, [], _∷_, _++_}
 use Prim.Native.Nat.{ℕ, zero, suc, _-_, _≤_}
 use native.Mathlib.Omega.{arith}
 use borrow.Author.Tests.{le-ltb}
@@ -12,7 +12,7 @@ use Rattle.spec_orders.proofs.Conflicts.{sublist-length, book-numbers, ring-dem
 use Rattle.spec_calls.specs.declared.Refusal.{Refusal}
 use Rattle.spec_calls.specs.Tables.{Book, padded}
 use Rattle.spec_orders.proofs.Numbers.{numbers-length}
-use Rattle.spec_calls.specs.Refusals.{Reply, reply, reported, first-refusal, short, list-checks}
+use Rattle.spec_calls.specs.Refusals.{Reply, reply, reported, first-refusal, short, bad-list}
 use Rattle.spec_calls.specs.Calls.{Filled, filled-as, group-numbered, conflict-refusal, conflicts-of, conflict-call}
 use Rattle.spec_calls.proofs.NodeTables.{padded-length}
 use Rattle.spec_calls.proofs.Demands.{passes-iff, size-fine}
@@ -21,19 +21,19 @@ use Rattle.tree_tokens.specs.Tokens.{Wrote}
 use Rattle.spec_calls.specs.Demands.{LentBook, Named}
 use Rattle.spec_calls.specs.Promises.{ConflictPromise}
 use Rattle.call_checks.specs.Lent.{book-checks}
-use Rattle.spec_calls.proofs.Checks.{first-refusal-some, first-refusal-none}
+use Rattle.spec_calls.proofs.Checks.{first-refusal-some, first-refusal-none, first-refusal-one}
 
 module _ (n : ℕ) (book : Book) (list table : List ℕ) where
   -- The checks of the lent book, and then those of the list.
-  checks-are : conflict-refusal n book list table ≡ first-refusal (book-checks n book (short 96 table) ++ list-checks n list)
+  checks-are : conflict-refusal n book list table ≡ first-refusal (book-checks n book (short 96 table) ++ (bad-list n list ∷ []))
   unfolding conflict-refusal
   checks-are = refl
 
   pub book-refused : (r : Refusal) → first-refusal (book-checks n book (short 96 table)) ≡ some r → conflict-refusal n book list table ≡ some r
-  book-refused r e = checks-are ∙ first-refusal-some (book-checks n book (short 96 table)) (list-checks n list) r e
+  book-refused r e = checks-are ∙ first-refusal-some (book-checks n book (short 96 table)) (bad-list n list ∷ []) r e
 
-  pub list-judged : first-refusal (book-checks n book (short 96 table)) ≡ none → conflict-refusal n book list table ≡ first-refusal (list-checks n list)
-  list-judged e = checks-are ∙ first-refusal-none (book-checks n book (short 96 table)) (list-checks n list) e
+  pub list-judged : first-refusal (book-checks n book (short 96 table)) ≡ none → conflict-refusal n book list table ≡ bad-list n list
+  list-judged e = checks-are ∙ first-refusal-none (book-checks n book (short 96 table)) (bad-list n list ∷ []) e ∙ first-refusal-one (bad-list n list)
 
   pub lent-passes : 1 ≤ n → n ≤ 256 → LentBook n book → 96 ≤ length table → WellFormed n list → conflict-refusal n book list table ≡ none
   unfolding conflict-refusal
@@ -43,8 +43,8 @@ module _ (n : ℕ) (book : Book) (list table : List ℕ) where
         le-ltb (length (book .words)) 384 (h .all-words),
         le-ltb (length table) 96 places,
         h .in-form,
+        passes-iff n list .1 w,
       )
-      (passes-iff n list .1 w)
 
 -- There are no more numbers than groups.
 pub list-few : (n : ℕ) (book : Book) (new : Restriction) → length (conflicts-of n book new) ≤ book .count

@@ -15,9 +15,11 @@ use Rattle.spec_orders.specs.Conflict.{consecutive?}
 use Rattle.spec_orders.specs.Aim.{aim-of}
 use Rattle.spec_orders.proofs.TextTree.{form-length}
 use Rattle.spec_calls.specs.declared.Refusal.{Refusal}
-use Rattle.spec_calls.specs.declared.Refusal.the-variants.{NoSuchGroup, NotConsecutive}
+use Rattle.spec_calls.specs.declared.Refusal.the-variants.{NoSuchGroup, NoAim, NotConsecutive}
 use Rattle.spec_calls.specs.declared.Answer.the-variants.{Done, Refused}
 use Rattle.spec_calls.specs.Tables.{Nodes, leaves, Book}
+use Rattle.mark_words.specs.Marks.{no-mark?}
+use Rattle.spec_calls.specs.Book.{group-words}
 use Rattle.spec_calls.specs.Refusals.{reported, report, refuse, first-refusal}
 use Rattle.spec_calls.specs.Calls.{ring-checks, group-numbered, answered, aim-refusal, aim-call}
 use Rattle.spec_calls.proofs.Demands.{lent-held}
@@ -38,9 +40,14 @@ module _ (book : Book) (k : ℕ) (t : Forest) where
   unfolding aim-of-group
   number-past e l = rw (ne-eqb k 0 e, lt-ltb (book .count) k l)
 
-  pub number-there : k ≢ 0 → k ≤ book .count → aim-of-group book k t ≡ aim-in (group-numbered (book .words) k) (standard t)
-  unfolding aim-of-group
-  number-there e l = rw (ne-eqb k 0 e, le-ltb (book .count) k l)
+  module _ (e : k ≢ 0) (l : k ≤ book .count) where
+    pub no-aim : no-mark? (group-words (book .words) (k - 1)) ≡ true → aim-of-group book k t ≡ Refused NoAim
+    unfolding aim-of-group
+    no-aim q = rw (ne-eqb k 0 e, le-ltb (book .count) k l, q)
+
+    pub marks-judged : no-mark? (group-words (book .words) (k - 1)) ≡ false → aim-of-group book k t ≡ aim-in (group-numbered (book .words) k) (standard t)
+    unfolding aim-of-group
+    marks-judged q = rw (ne-eqb k 0 e, le-ltb (book .count) k l, q)
 
 -- The standard order fits.
 pub order-room : {toks : List ℕ} {book : Book} (h : Lends toks book) → length (standard (tree (plain (h .shown)))) ≤ 256
@@ -49,11 +56,13 @@ order-room h =
     rw e (omega (arith, form-length (leaves (h .nodes)) (h .shown) (h .lent .tree .in-form), h .lent .some-leaf, h .lent .few-leaves))
 
 -- The checks after the ring's, as the code makes them.
-last-checks : (a b : Bool) (v : ℕ)
-    → answered (first-refusal (refuse a NoSuchGroup ∷ refuse (not b) NotConsecutive ∷ [])) v ≡ report (cond a (Refused NoSuchGroup) (cond b (Done v) (Refused NotConsecutive)))
-last-checks true b v = refl
-last-checks false true v = refl
-last-checks false false v = refl
+last-checks : (a e b : Bool) (v : ℕ)
+    → answered (first-refusal (refuse a NoSuchGroup ∷ refuse e NoAim ∷ refuse (not b) NotConsecutive ∷ [])) v
+    ≡ report (cond a (Refused NoSuchGroup) (cond e (Refused NoAim) (cond b (Done v) (Refused NotConsecutive))))
+last-checks true e b v = refl
+last-checks false true b v = refl
+last-checks false false true v = refl
+last-checks false false false v = refl
 
 module _ (nodes : Nodes) (book : Book) (k : ℕ) where
   pub aim-refused : (r : Refusal) → first-refusal (ring-checks nodes book) ≡ some r → reported r ≡ aim-call nodes book k
@@ -69,4 +78,4 @@ module _ (nodes : Nodes) (book : Book) (k : ℕ) where
     aim-there =
         let G = group-numbered (book .words) k in
         rw (first-refusal-none (ring-checks nodes book) _ (h .passes), lent-held nodes (h .tree) (h .lent))
-        (sym (last-checks (eqb k 0 || ltb (book .count) k) (consecutive? G (standard (h .tree))) (aim-of G (standard (h .tree)))))
+        (sym (last-checks (eqb k 0 || ltb (book .count) k) (no-mark? (group-words (book .words) (k - 1))) (consecutive? G (standard (h .tree))) (aim-of G (standard (h .tree)))))

@@ -1,7 +1,6 @@
 -- The size of a book's group: the count of its marks is the count of its leaves in the standard order.
 use mathlib.Core.Path.{_≡_, refl, sym, ap, _∙_}
-use mathlib.Core.Logic.{Iff·rfl}
-use mathlib.Core.Bool.{Bool, true, false, cond, not, true≢false}
+use mathlib.Core.Bool.{Bool, true, false, cond, true≢false}
 use mathlib.Core.List.{List, [], _∷_}
 use Prim.Native.Nat.{ℕ, zero, suc, _+_, _-_, _*_, _≤_, _<_}
 use native.Mathlib.Omega.{arith}
@@ -15,13 +14,14 @@ use Rattle.spec_orders.specs.Form.{InForm, standard}
 use Rattle.spec_orders.specs.Aim.{count-in}
 use Rattle.spec_orders.proofs.Rearranged.{perm-skip}
 use Rattle.spec_orders.proofs.Members.{all-passed}
-use Rattle.spec_orders.proofs.Numbers.{count, count-cons, count-append, numbers-append, numbers-in}
+use Rattle.spec_orders.proofs.Numbers.{count, count-cons, count-append, numbers-append}
 use Rattle.spec_orders.proofs.TextTree.{form-length}
-use Rattle.spec_orders.proofs.Tests.{both, false-if}
-use Rattle.mark_words.specs.Marks.{marked, leaves-of}
+use Rattle.spec_orders.proofs.Tests.{false-if}
+use Rattle.mark_words.specs.Marks.{marked, leaves-of, no-mark?}
 use Rattle.mark_words.proofs.Leaves.{marked-leaf}
 use Rattle.spec_calls.specs.Tables.{Nodes, leaves, Book}
-use Rattle.spec_calls.specs.Book.{group-words, group-in-form?, book-in-form?}
+use Rattle.spec_calls.specs.Book.{group-words}
+use Rattle.spec_calls.proofs.Books.{group-form}
 use Rattle.spec_calls.specs.Demands.{LentTree, LentBook}
 use Rattle.table_book.proofs.Laws.{few-groups}
 use Rattle.call_order.specs.Starts.{GroupWithin}
@@ -69,31 +69,22 @@ size-in n t ws f h l e =
     ap (λ j. count G (numbers-from 1 j)) s ∙ ap (count G) (numbers-append 1 n k) ∙ count-append G (numbers-from 1 n) (numbers-from (1 + n) k) in
     omega (arith, count-in-is G (standard t), perm-count G (all-standard n t f h), r, count-past G (1 + n) k (λ x m. past-n ws n e x (omega arith)))
 
-some-leaf : (l : List ℕ) → not (same l []) ≡ true → 1 ≤ length l
-some-leaf [] e = absurd (true≢false (sym e))
+some-leaf : (l : List ℕ) → same l [] ≡ false → 1 ≤ length l
+some-leaf [] e = absurd (true≢false e)
 some-leaf (x ∷ l) e = omega arith
 
-group-form : (n : ℕ) (book : Book) (k : ℕ) → book-in-form? n book ≡ true → k < book .count → group-in-form? n (group-words (book .words) k) ≡ true
-unfolding book-in-form?
-group-form n book k e l =
-    all-passed (λ i. group-in-form? n (group-words (book .words) i)) (numbers-from 0 (book .count)) .0
-    (both Iff·rfl Iff·rfl .0 (both {a = leb (book .count) 96} Iff·rfl Iff·rfl .0 e .1) .0)
-    k
-    (numbers-in 0 (book .count) k (omega arith) (omega arith))
-
--- The book's group at place k, and the standard order.
+-- The book's group at place k, with a mark, and the standard order.
 pub group-within : (nodes : Nodes) (t : Forest) (book : Book) (k : ℕ) → LentTree nodes t → LentBook (nodes .bins) book → k < book .count
-    → GroupWithin (group-words (book .words) k) (standard t)
-group-within nodes t book k h b m =
+    → no-mark? (group-words (book .words) k) ≡ false → GroupWithin (group-words (book .words) k) (standard t)
+group-within nodes t book k h b m some-mark =
     let words = group-words (book .words) k in
     let c = few-groups (nodes .bins) book (b .in-form) in
-    let g = both {a = not (same (leaves-of words) [])} Iff·rfl Iff·rfl .0 (group-form (nodes .bins) book k (b .in-form) m) in
     let four : length words ≡ 4 = omega (arith, length-take 4 (drop (4 * k) (book .words)), length-drop (4 * k) (book .words), b .all-words) in
     let f = h .tree .in-form in
     record {
       four = four;
-      some-leaf = some-leaf (leaves-of words) (g .0);
-      all-leaves = size-in (leaves nodes) t words f (h .some-leaf) (omega (arith, h .few-leaves)) (g .1);
+      some-leaf = some-leaf (leaves-of words) some-mark;
+      all-leaves = size-in (leaves nodes) t words f (h .some-leaf) (omega (arith, h .few-leaves)) (group-form (nodes .bins) book k b m);
       some-place = omega arith;
       few-places = omega (arith, form-length (leaves nodes) t f, h .some-leaf, h .few-leaves);
     }

@@ -2,15 +2,17 @@
 use mathlib.Core.Path.{_≡_}
 use mathlib.Core.Bool.{cond, _||_}
 use mathlib.Core.List.{List}
-use Prim.Native.Nat.{ℕ}
+use Prim.Native.Nat.{ℕ, _-_}
 use lib.Dec.{eqb, ltb}
 use Rattle.tree_tokens.specs.Tokens.{flat}
 use Rattle.spec_orders.specs.Tree.{Forest}
 use Rattle.spec_orders.specs.Form.{standard}
-use Rattle.spec_calls.specs.declared.Refusal.the-variants.{NoSuchGroup}
+use Rattle.spec_calls.specs.declared.Refusal.the-variants.{NoSuchGroup, NoAim}
 use Rattle.spec_calls.specs.declared.Answer.{Answer}
 use Rattle.spec_calls.specs.declared.Answer.the-variants.{Refused}
 use Rattle.spec_calls.specs.Tables.{Nodes, Book}
+use Rattle.mark_words.specs.Marks.{no-mark?}
+use Rattle.spec_calls.specs.Book.{group-words}
 use Rattle.spec_calls.specs.Calls.{group-numbered}
 use Rattle.spec_calls.specs.Demands.{LentTree, LentBook}
 use Rattle.call_order.specs.Starts.{aim-in}
@@ -23,6 +25,8 @@ pub record Lends (toks : List ℕ) (book : Book) : Type 0 where
   pub lent : LentTree nodes shown
   pub groups : LentBook (nodes .bins) book
 
--- Check 9, and then 10 and the aim.
+-- Checks 9 and 14, and then 10 and the aim.
 unfoldable pub aim-of-group : Book → ℕ → Forest → Answer
-aim-of-group book k t = cond (eqb k 0 || ltb (book .count) k) (Refused NoSuchGroup) (aim-in (group-numbered (book .words) k) (standard t))
+aim-of-group book k t =
+    cond (eqb k 0 || ltb (book .count) k) (Refused NoSuchGroup)
+    (cond (no-mark? (group-words (book .words) (k - 1))) (Refused NoAim) (aim-in (group-numbered (book .words) k) (standard t)))

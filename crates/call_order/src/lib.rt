@@ -107,7 +107,7 @@ fn aim_in(words: &[u64], order: &[u16]) -> Answer
     Answer::Refused(Refusal::NotConsecutive)
 }
 
-// Checks 9 and 10 on the book's group with this number, and its aim in the standard order of the tree.
+// Checks 9, 14 and 10 on the book's group with this number, and its aim in the standard order of the tree.
 fn group_aim(toks: &[u16], book: &[u64], count: usize, group: usize) -> Answer
     requires { ⌜ Lends (now toks) (lent-book (now book) count) ⌝ }
     ensures { λ r. ⌜ ((t : Forest) → now (toks .entry) ≡ flat t → r ≡ aim-of-group (lent-book (now (book .entry)) count) group t) ⌝ }
@@ -120,12 +120,15 @@ fn group_aim(toks: &[u16], book: &[u64], count: usize, group: usize) -> Answer
     }
     let at = 4 * (group - 1);
     let end = at + 4;
+    if mark_sets::is_empty(&book[at..end]) {
+        return Answer::Refused(Refusal::NoAim);
+    }
     let mut order = [0u16; 256];
     let m = tree_order::standard_order(toks, &mut order);
     aim_in(&book[at..end], &order[0..m])
 }
 
-// The leaf at which the group with this number is aimed (document 01's aim), in the standard order.
+// The leaf at which the group with this number is aimed (document 01's aim), in the standard order; or refuses (1 to 3, 9, 14, 10).
 pub fn aim(n: usize, nodes: &[u16], have: usize, book: &[u64], count: usize, group: usize) -> Answer
     ensures { λ r. ⌜ AimPromise (lent-nodes n have (now (nodes .entry))) (lent-book (now (book .entry)) count) group (report r) ⌝ }
 {

@@ -22,7 +22,7 @@ pub fn open(n: usize, nodes: &mut [u16], have: usize, book: &mut [u64]) -> Answe
 }
 
 // Joins the list's group: the node table gets the new tree, and the group takes the book's next place. Answers the new count of groups; or
-// refuses (1 to 8), and leaves both tables as they were.
+// refuses (1 to 3, 5 to 8), and leaves both tables as they were.
 pub fn join(
     n: usize,
     nodes: &mut [u16],

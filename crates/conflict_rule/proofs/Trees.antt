@@ -12,7 +12,7 @@ use Rattle.spec_orders.specs.CircularOrder.{Restriction, Consecutive, AllConsec
 use Rattle.spec_orders.specs.Tree.{Forest, Allowed}
 use Rattle.spec_orders.specs.Form.{standard}
 use Rattle.spec_orders.specs.Join.{join}
-use Rattle.spec_orders.proofs.ListLaws.{all-append, all-left, all-right, all-map}
+use Rattle.spec_orders.proofs.ListLaws.{all-map, all-middle}
 use Rattle.spec_orders.proofs.StandardOrders.{standard-allowed}
 use Rattle.spec_orders.proofs.Joining.{Allows, orders-left}
 use Rattle.spec_orders.specs.Conflict.{possible?, leave-out, conflict-list}
@@ -64,13 +64,6 @@ represented-possible {t = t} rep =
 pub stands-within : {n : ℕ} {f : ℕ → Restriction} {toks : List ℕ} → TokensRepresent n f toks → TokensWithin n toks
 stands-within s = (s .0, s .2, s .3 .form, s .4)
 
--- One group more, anywhere.
-one-more : (Gs l : List Restriction) (G : Restriction) (ord : List ℕ) → AllConsecutive (Gs ++ (G ∷ l)) ord ↔ (AllConsecutive (Gs ++ l) ord × Consecutive G ord)
-one-more Gs l G ord = (
-  (λ w. let r = all-right _ Gs (G ∷ l) w in (all-append _ Gs l (all-left _ Gs (G ∷ l) w) (r .1), r .0)),
-  (λ w. all-append _ Gs (G ∷ l) (all-left _ Gs l (w .0)) (w .1, all-right _ Gs l (w .0))),
-)
-
 -- All numbers, and those behind some.
 behind : (n : ℕ) (f : ℕ → Restriction) (Gs : List Restriction) (js : List ℕ) (i : ℕ) → Possible n (Gs ++ map f js) → Possible n (Gs ++ map f (drop i js))
 behind n f Gs js i p = fewer-behind (ring-tests n) f Gs (take i js) (drop i js) (subst (λ l. Possible n (Gs ++ map f l)) (sym (take-append-drop i js)) p)
@@ -91,7 +84,7 @@ module _ {n : ℕ} {f : ℕ → Restriction} {Gs : List Restriction} where
     more : (ord : List ℕ) → AllConsecutive (Gs ++ map f (drop (left - 1) js)) ord ↔ (AllConsecutive (Gs ++ map f (drop left js)) ord × Consecutive G ord)
     unfolding G
     more ord = subst (λ l. AllConsecutive (Gs ++ map f l) ord ↔ (AllConsecutive (Gs ++ map f (drop left js)) ord × Consecutive G ord)) (sym (from-before js left h g))
-        (one-more Gs (map f (drop left js)) G ord)
+        (all-middle (λ H. Consecutive H ord) Gs G (map f (drop left js)))
 
     pub walk-joins : {u : Forest} {new : List ℕ} → (1 ≤ getD js (left - 1) 0) × (getD js (left - 1) 0 ≤ 96) → join (f (getD js (left - 1) 0)) (w .tree) ≡ some u → new ≡ flat u → Walked n f Gs js (left - 1) new
     unfolding G

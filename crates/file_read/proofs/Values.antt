@@ -13,7 +13,7 @@ use borrow.Author.Tests.{lt-ltb, le-leb, leb-true, leb-false}
 use Rattle.spec_orders.specs.Lists.{All, those-of, numbers-from}
 use Rattle.spec_orders.proofs.Tests.{and-both, false-if, cond-cases}
 use Rattle.spec_orders.proofs.Numbers.{those-agree}
-use Rattle.spec_orders.proofs.ListLaws.{all-at}
+use Rattle.spec_orders.proofs.ListLaws.{none-of-length, all-at}
 use Rattle.file_syntax.proofs.FirstLine.{words-file}
 use Rattle.file_read.specs.RingFile.{Value, off, on, hyphen, value-byte, in-group, value-word, further, line, value-lines, leaves-on, Rules, FileHolds, place-of, words-in, name-in, name-start, line-in, value-in, group-in}
 
@@ -126,10 +126,6 @@ module _ (x : List ℕ) (n h l : ℕ) where
       go : (bs : List ℕ) → those-of (λ b. false) bs ≡ []
       go [] = refl
       go (b ∷ bs) = go bs
-
-pub none-of-length : (w : List ℕ) → length w ≡ 0 → w ≡ []
-none-of-length [] q = refl
-none-of-length (b ∷ w) q = absurd (omega arith)
 
 -- The same of the bytes v that were found.
 module _ (x : List ℕ) (n h l : ℕ) (v : List ℕ) (e : v ≡ line-in x n h l) where

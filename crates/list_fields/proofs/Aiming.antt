@@ -1,6 +1,7 @@
 -- A group line's marks; the aim of its group in the standard order, from them.
-use mathlib.Core.Path.{_≡_, sym, ap, _∙_}
-use mathlib.Core.List.{List}
+use mathlib.Core.Path.{_≡_, refl, sym, ap, _∙_}
+use mathlib.Core.Logic.{_≢_}
+use mathlib.Core.List.{List, [], _∷_, _++_}
 use Prim.Native.Nat.{ℕ, _+_, _-_, _/_, _%_, _≤_}
 use native.Mathlib.Nat.{mod-lt}
 use native.Mathlib.Omega.{arith}
@@ -9,6 +10,7 @@ use Rattle.spec_orders.specs.Lists.{All, elem, numbers-from}
 use Rattle.spec_orders.specs.CircularOrder.{Restriction, WellFormed, group-of}
 use Rattle.spec_orders.specs.Form.{standard}
 use Rattle.spec_orders.specs.Aim.{count-in, run-start, aim-of}
+use Rattle.spec_orders.specs.Circles.{bytes}
 use Rattle.spec_orders.proofs.ListLaws.{all-map, all-at}
 use Rattle.spec_orders.proofs.Members.{in-all}
 use Rattle.spec_orders.proofs.Rearranged.{perm-all}
@@ -21,6 +23,7 @@ use Rattle.spec_calls.proofs.Demands.{well-formed-passes}
 use Rattle.table_book.specs.declared.Checked.{Checked}
 use Rattle.table_book.specs.declared.Checked.the-variants.{Fine, Bad}
 use Rattle.table_book.specs.Lists.{ListChecked}
+use Rattle.spec_listing.specs.Listing.{name, aim-field}
 use Rattle.call_order.specs.Starts.{GroupWithin}
 use Rattle.call_order.proofs.Sizes.{count-in-is, perm-count, all-standard}
 use Rattle.list_fields.specs.Ordered.{Ordered}
@@ -29,6 +32,15 @@ use Rattle.list_fields.specs.Ordered.{Ordered}
 pub line-marked : (n : ℕ) (list words : List ℕ) (r : Checked) → WellFormed n list → ListChecked n list words r → words ≡ words-of 4 (group-of n list)
 line-marked n list words Fine g h = h .1
 line-marked n list words (Bad r) g h = absurd (let e = sym (well-formed-passes n list g) ∙ h in let z : _≡_ {A = ℕ} 0 1 = cc in omega (arith, z))
+
+-- The field of the aim, where there is a leaf; the fields where there is none.
+pub leaf-told : (names : List (List ℕ)) (ord list : List ℕ) → length list ≢ 0 → name names (aim-of (elem list) ord) ≡ aim-field names ord list
+leaf-told names ord [] h = absurd (h refl)
+leaf-told names ord (b ∷ l) h = refl
+
+pub no-leaf-told : (names : List (List ℕ)) (ord list : List ℕ) → length list ≡ 0 → bytes " kept - -" ≡ bytes " kept " ++ (aim-field names ord list ++ bytes " -")
+no-leaf-told names ord [] h = refl
+no-leaf-told names ord (b ∷ l) h = absurd (omega arith)
 
 module _ {n : ℕ} {order : List ℕ} (o : Ordered n order) where
   pub order-length : length order ≡ n
@@ -62,10 +74,10 @@ module _ {n : ℕ} {order : List ℕ} (o : Ordered n order) where
         ∙ sym (perm-count (elem list) (all-standard n (o .tree) (o .form) (o .some-leaf)))
         ∙ count-elem n list (g .different) (g .in-range)
 
-    pub kept-within : GroupWithin words order
-    kept-within = record {
+    pub kept-within : length list ≢ 0 → GroupWithin words order
+    kept-within some = record {
       four = ap length w ∙ length-words 4 (elem list);
-      some-leaf = omega (arith, size, g .some-leaf);
+      some-leaf = omega (arith, size, some);
       all-leaves = ap (λ (G : Restriction). count-in G order) same-group ∙ counted ∙ sym size;
       some-place = omega (arith, order-length, o .some-leaf);
       few-places = omega (arith, order-length, o .few-leaves);

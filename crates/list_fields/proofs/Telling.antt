@@ -8,31 +8,26 @@ use lib.ListN.{length, take, drop, length-append}
 use Rattle.spec_orders.specs.Lists.{elem}
 use Rattle.spec_orders.specs.Tree.{Forest}
 use Rattle.spec_orders.specs.Join.{join}
-use Rattle.spec_orders.specs.Aim.{aim-of}
 use Rattle.spec_orders.specs.Circles.{bytes}
 use Rattle.spec_calls.specs.Tables.{lent-book}
 use Rattle.spec_calls.specs.Book.{groups}
 use Rattle.spec_calls.specs.Calls.{conflicts-of}
-use Rattle.spec_listing.specs.Listing.{Outcome, kept, refused, RingState, joined, outcome, next, name, commas, fields}
+use Rattle.spec_listing.specs.Listing.{Outcome, kept, refused, RingState, joined, outcome, next, commas, aim-field, fields}
 use Rattle.list_ring.specs.Stands.{RingStands}
-use Rattle.list_ring.proofs.Outcomes.{outcome-empty, outcome-full, outcome-joined}
+use Rattle.list_ring.proofs.Outcomes.{outcome-full, outcome-joined}
 use Rattle.list_fields.proofs.Conflicting.{conflicts-listed}
 
 module _ (names : List (List ℕ)) (ord : List ℕ) (n : ℕ) (s : RingState) (list : List ℕ) where
-  pub tells-empty : length list ≡ 0 → bytes " empty - -" ≡ fields names ord s list (outcome n s list)
+  pub tells-full : length (s .groups) ≡ 96 → bytes " full - -" ≡ fields names ord s list (outcome n s list)
   unfolding fields
-  tells-empty h = rw (outcome-empty n s list h)
-
-  pub tells-full : (length list ≡ 0 → ⊥) → length (s .groups) ≡ 96 → bytes " full - -" ≡ fields names ord s list (outcome n s list)
-  unfolding fields
-  tells-full h e = rw (outcome-full n s list h e)
+  tells-full e = rw (outcome-full n s list e)
 
   module _ (k : ℕ) (toks : List ℕ) (m : ℕ) (book table : List ℕ) (after : ℕ) where
     abbrev After : Outcome → Type 0
     After o = RingStands n (next s k list o) toks m book table after
 
     kept-told : (o : Option Forest) → After (joined n s (elem list) o) → length (s .groups) < after
-        → bytes " kept " ++ (name names (aim-of (elem list) ord) ++ bytes " -") ≡ fields names ord s list (joined n s (elem list) o)
+        → bytes " kept " ++ (aim-field names ord list ++ bytes " -") ≡ fields names ord s list (joined n s (elem list) o)
     unfolding fields
     kept-told (some t) h l = refl
     kept-told none h l = absurd (omega (arith, h .counted))
@@ -47,11 +42,11 @@ module _ (names : List (List ℕ)) (ord : List ℕ) (n : ℕ) (s : RingState) (l
         ap₂ (λ (lines ns : List ℕ). bytes " refused - " ++ commas lines ns) (subst (λ i. take (i - 0) (drop 0 table) ≡ s .lines) e (h .in-table))
         (conflicts-listed n book (s .groups) (elem list) (subst (λ i. groups (lent-book book i) ≡ s .groups) e (h .in-book)))
 
-    module _ (some-leaf : length list ≡ 0 → ⊥) (place : length (s .groups) ≡ 96 → ⊥) (h : After (outcome n s list)) where
+    module _ (place : length (s .groups) ≡ 96 → ⊥) (h : After (outcome n s list)) where
       is : outcome n s list ≡ joined n s (elem list) (join (elem list) (s .tree))
-      is = outcome-joined n s list some-leaf place
+      is = outcome-joined n s list place
 
-      pub tells-kept : length (s .groups) < after → bytes " kept " ++ (name names (aim-of (elem list) ord) ++ bytes " -") ≡ fields names ord s list (outcome n s list)
+      pub tells-kept : length (s .groups) < after → bytes " kept " ++ (aim-field names ord list ++ bytes " -") ≡ fields names ord s list (outcome n s list)
       tells-kept l = kept-told (join (elem list) (s .tree)) (subst After is h) l ∙ ap (fields names ord s list) (sym is)
 
       pub tells-refused : {count : ℕ} → count ≡ length (s .groups) → after ≤ length (s .groups)

@@ -5,19 +5,18 @@ ghost use Prim.Native.Nat.{ℕ, _+_, _-_, _≤_};
 ghost use lib.ListN.{length, take, drop};
 ghost use Rattle.spec_orders.specs.Lists.{elem};
 ghost use Rattle.spec_orders.specs.CircularOrder.{WellFormed, group-of};
-ghost use Rattle.spec_orders.specs.Aim.{aim-of};
 ghost use Rattle.spec_orders.specs.Circles.{bytes};
 ghost use Rattle.mark_words.specs.Marks.{words-of};
 ghost use Rattle.spec_calls.specs.Tables.{lent-book};
 ghost use Rattle.spec_calls.specs.Calls.{conflicts-of};
 ghost use Rattle.list_bytes.specs.Appends.{Appends};
 ghost use Rattle.file_read.specs.RingFile.{FileHolds};
-ghost use Rattle.spec_listing.specs.Listing.{RingState, outcome, next, name, commas, fields};
+ghost use Rattle.spec_listing.specs.Listing.{RingState, outcome, next, commas, aim-field, fields};
 ghost use Rattle.list_ring.specs.Stands.{RingStands, Line};
 ghost use Rattle.list_fields.specs.Ordered.{Ordered};
 use list_bytes::put;
 
-// Marks the group of a line with some leaf: such a list passes the checks.
+// Marks the group of a line: its list passes the checks.
 fn mark_line(list: &[u16], n: usize, marks: &mut [u64])
     requires { ⌜ (n ≤ 256) × (length (now marks) ≡ 4) × (WellFormed n (now list)) ⌝ }
     ensures { λ _. ⌜ now (marks .exit) ≡ words-of 4 (group-of n (now (list .entry))) ⌝ }
@@ -48,7 +47,7 @@ fn put_refused(
     list_series::put_conflicts(&numbers[0..k], &table[0..count], out, a)
 }
 
-// Appends the fields of a group line that is kept: its aim in the order.
+// Appends the fields of a group line that is kept: its aim in the order, or `-` where it has no leaf.
 fn put_kept(
     file: &[u8],
     names: usize,
@@ -61,8 +60,11 @@ fn put_kept(
 ) -> usize
     requires { ⌜ (FileHolds (now file) names head lines) × (WellFormed names (now list)) × (Ordered names (now order)) × (at + 2048 ≤ length (now out)) ⌝ }
     ensures { λ r. ⌜ (r ≤ at + 2048) × ((f : FileHolds (now (file .entry)) names head lines)
-        → Appends (bytes " kept " ++ (name (f .ns) (aim-of (elem (now (list .entry))) (now (order .entry))) ++ bytes " -")) at (now (out .entry)) (now (out .exit)) r) ⌝ }
+        → Appends (bytes " kept " ++ (aim-field (f .ns) (now (order .entry)) (now (list .entry)) ++ bytes " -")) at (now (out .entry)) (now (out .exit)) r) ⌝ }
 {
+    if list.len() == 0 {
+        return put(b" kept - -", out, at);
+    }
     let mut words = [0u64; 4];
     mark_line(list, names, &mut words);
     let leaf = call_order::middle(&words, order);
@@ -93,9 +95,6 @@ pub fn put_fields(
         → RingStands names (next s k (now (list .entry)) (outcome names s (now (list .entry)))) toks m (now (book .entry)) (now (table .entry)) after
         → Appends (fields (f .ns) (now (order .entry)) s (now (list .entry)) (outcome names s (now (list .entry)))) at (now (out .entry)) (now (out .exit)) r) ⌝ }
 {
-    if list.len() == 0 {
-        return put(b" empty - -", out, at);
-    }
     if before == 96 {
         return put(b" full - -", out, at);
     }

@@ -1,15 +1,18 @@
 -- The printed lines by their numbers, and the ring after so many group lines.
 use mathlib.Core.Path.{_≡_, refl, ap, _∙_}
+use mathlib.Core.Bool.{cond}
 use mathlib.Core.List.{List, [], _∷_, _++_}
 use Prim.Native.Nat.{ℕ, zero, suc, _+_, _<_}
 use native.Mathlib.Omega.{arith}
 use native.Mathlib.Numerals.{add-one}
+use lib.Dec.{eqb}
 use lib.ListN.{length, getD, take, length-append, List·getD-append}
 use lib.Seq.{getD-append-add}
 use Rattle.spec_orders.specs.Form.{standard}
 use Rattle.spec_orders.specs.TreeText.{digits}
 use Rattle.spec_orders.specs.Circles.{bytes}
 use Rattle.spec_listing.specs.Listing.{RingState, opened, outcome, next, run, state-at, fields, group-lines, listing}
+use Rattle.spec_listing.proofs.EmptyLines.{state-form, empty-fields}
 use Rattle.list_line.specs.Printing.{group-line, final, ending}
 
 -- The group lines.
@@ -68,6 +71,17 @@ module _ (names lists : List (List ℕ)) where
       (ap (λ (k : ℕ). getD (bytes "line answer aim conflict" ∷ (groups-printed ++ ending names (final names lists))) k []) (add-one l)
       ∙ List·getD-append groups-printed (ending names (final names lists)) [] l (omega (arith, groups-length))
       ∙ line-at names ord lists l h)
+
+  -- A line with no leaf is kept and has no aim, or finds 96 groups in the book.
+  pub empty-line : (l : ℕ) → l < length lists → getD lists l [] ≡ []
+      → getD (listing names lists) (l + 1) []
+      ≡ digits (l + 1) ++ cond (eqb (length (state-at (length names) lists l .groups)) 96) (bytes " full - -") (bytes " kept - -")
+  unfolding group-line
+  empty-line l h e =
+      let s = state-at (length names) lists l in
+      middle-line l h
+      ∙ ap (λ (list : List ℕ). digits (l + 1) ++ fields names ord s list (outcome (length names) s list)) e
+      ∙ ap (λ (told : List ℕ). digits (l + 1) ++ told) (empty-fields (length names) names ord s (state-form (length names) lists l))
 
   pub end-line : (j : ℕ) → getD (listing names lists) (length lists + 1 + j) [] ≡ getD (ending names (final names lists)) j []
   end-line j =

@@ -16,8 +16,7 @@ use Rattle.list_ring.proofs.Runs.{state-none, state-more}
 leaves-line : (n : ℕ) (vs : List Value) → length vs ≡ n → n ≤ 256 → Line n (leaves-on vs)
 leaves-line n vs e h = record {
   few-leaves = h;
-  group = λ l. record {
-    some-leaf = l;
+  group = record {
     in-range = subst (λ k. All (λ b. (1 ≤ b) × (b ≤ k)) (leaves-on vs)) e (leaves-within vs);
     different = leaves-different vs;
   };

@@ -2,12 +2,13 @@
 use mathlib.Core.Path.{_≡_, refl, sym, ap, subst, _∙_}
 use mathlib.Core.Bool.{Bool, true, false, cond}
 use mathlib.Core.Option.{Option, none, some}
-use mathlib.Core.List.{List, [], _∷_}
-use Prim.Native.Nat.{ℕ, _+_, _-_, _≤_, _<_}
+use mathlib.Core.List.{List, [], _∷_, _++_}
+use Prim.Native.Nat.{ℕ, suc, _+_, _-_, _≤_, _<_}
 use native.Mathlib.Omega.{arith}
 use borrow.Author.Tests.{eq-eqb, ne-eqb}
 use lib.Dec.{eqb}
 use lib.ListN.{length, take, drop, set, length-append}
+use lib.Seq.{take-suc-set}
 use Rattle.spec_orders.specs.Lists.{elem}
 use Rattle.spec_orders.specs.CircularOrder.{group-of}
 use Rattle.spec_orders.specs.Tree.{Forest}
@@ -15,21 +16,20 @@ use Rattle.spec_orders.specs.Join.{fresh, join}
 use Rattle.spec_orders.proofs.Fresh.{fresh-form}
 use Rattle.spec_orders.proofs.Joining.{join-some}
 use Rattle.spec_calls.specs.declared.Refusal.{Refusal}
-use Rattle.spec_calls.specs.declared.Refusal.the-variants.{EmptyGroup, BookFull, Impossible}
+use Rattle.spec_calls.specs.declared.Refusal.the-variants.{BookFull, Impossible}
 use Rattle.spec_calls.specs.Tables.{lent-book}
 use Rattle.spec_calls.specs.Book.{groups, booked}
-use Rattle.spec_calls.specs.Refusals.{refuse, first-refusal, list-checks}
+use Rattle.spec_calls.specs.Refusals.{refuse, first-refusal, bad-list}
 use Rattle.spec_calls.specs.Calls.{is-none}
-use Rattle.spec_calls.proofs.Demands.{well-formed-passes, passes-iff}
+use Rattle.spec_calls.proofs.Demands.{well-formed-passes}
+use Rattle.spec_calls.proofs.Books.{groups-booked}
 use Rattle.table_book.proofs.Lists.{group-held}
 use Rattle.tree_tokens.specs.Tokens.{Wrote, flat, TreeTokens}
 use Rattle.tree_tokens.proofs.Writes.{read-part, wrote-most}
-use Rattle.spec_calls.proofs.Checks.{first-refusal-none}
 use Rattle.call_attempt.specs.Attempts.{group-refusal, JoinedTree}
-use Rattle.call_attempt.proofs.Laws.{after-list, list-passed}
-use Rattle.spec_listing.specs.Listing.{Outcome, kept, refused, empty, full, RingState, opened, joined, outcome, next}
+use Rattle.call_attempt.proofs.Laws.{list-passed}
+use Rattle.spec_listing.specs.Listing.{Outcome, kept, refused, full, RingState, opened, joined, outcome, next}
 use Rattle.list_ring.specs.Stands.{RingStands, Line}
-use Rattle.list_ring.proofs.Books.{groups-booked, table-more}
 
 -- The fresh ring.
 pub opened-stands : (n : ℕ) {old toks : List ℕ} {m : ℕ} → Wrote (flat (fresh n)) old toks m → (book table : List ℕ) → RingStands n (opened n) toks m book table 0
@@ -45,38 +45,26 @@ opened-stands n w book table = record {
 }
 
 module _ (n : ℕ) (s : RingState) where
-  pub outcome-empty : (list : List ℕ) → length list ≡ 0 → outcome n s list ≡ empty
+  pub outcome-full : (list : List ℕ) → length (s .groups) ≡ 96 → outcome n s list ≡ full
   unfolding outcome
-  outcome-empty [] h = refl
-  outcome-empty (b ∷ l) h = absurd (omega arith)
+  outcome-full list e = rw (eq-eqb (length (s .groups)) 96 e)
 
-  pub outcome-full : (list : List ℕ) → (length list ≡ 0 → ⊥) → length (s .groups) ≡ 96 → outcome n s list ≡ full
+  pub outcome-joined : (list : List ℕ) → (length (s .groups) ≡ 96 → ⊥) → outcome n s list ≡ joined n s (elem list) (join (elem list) (s .tree))
   unfolding outcome
-  outcome-full [] h e = absurd (h refl)
-  outcome-full (b ∷ l) h e = rw (eq-eqb (length (s .groups)) 96 e)
+  outcome-joined list e = rw (ne-eqb (length (s .groups)) 96 e)
 
-  pub outcome-joined : (list : List ℕ) → (length list ≡ 0 → ⊥) → (length (s .groups) ≡ 96 → ⊥)
-      → outcome n s list ≡ joined n s (elem list) (join (elem list) (s .tree))
-  unfolding outcome
-  outcome-joined [] h e = absurd (h refl)
-  outcome-joined (b ∷ l) h e = rw (ne-eqb (length (s .groups)) 96 e)
-
--- "`refused` (8)", "`empty` (4)", "`full` (7)": the refusal that a line meets is the attempt's.
+-- "`refused` (8)", "`full` (7)": the refusal that a line meets is the attempt's.
 abbrev refusal-of : Outcome → Option Refusal
 refusal-of (kept t) = none
 refusal-of (refused ns) = some Impossible
-refusal-of empty = some EmptyGroup
 refusal-of full = some BookFull
 
 outcome-refusal : (n : ℕ) (s : RingState) (list : List ℕ) → Line n list → group-refusal (s .tree) n (length (s .groups)) list ≡ refusal-of (outcome n s list)
 unfolding outcome group-refusal
-outcome-refusal n s [] line = refl
-outcome-refusal n s (b ∷ l) line =
-    first-refusal-none (list-checks n (b ∷ l)) (after-list (s .tree) n (length (s .groups)) (b ∷ l)) (well-formed-passes n (b ∷ l) (line .group (omega arith)))
-    ∙ judged (eqb (length (s .groups)) 96) (join (elem (b ∷ l)) (s .tree))
+outcome-refusal n s list line = rw (well-formed-passes n list (line .group)) (judged (eqb (length (s .groups)) 96) (join (elem list) (s .tree)))
   where
     judged : (f : Bool) (o : Option Forest)
-        → first-refusal (refuse f BookFull ∷ refuse (is-none o) Impossible ∷ []) ≡ refusal-of (cond f full (joined n s (elem (b ∷ l)) o))
+        → first-refusal (refuse f BookFull ∷ refuse (is-none o) Impossible ∷ []) ≡ refusal-of (cond f full (joined n s (elem list) o))
     judged true o = refl
     judged false none = refl
     judged false (some t) = refl
@@ -85,8 +73,15 @@ outcome-refusal n s (b ∷ l) line =
 refused-next : (o : Outcome) (r : Refusal) → refusal-of o ≡ some r → (s : RingState) (line : ℕ) (list : List ℕ) → next s line list o ≡ s
 refused-next (kept t) r e s line list = absurd (let z : _≡_ {A = ℕ} 0 1 = cc in omega (arith, z))
 refused-next (refused ns) r e s line list = refl
-refused-next empty r e s line list = refl
 refused-next full r e s line list = refl
+
+-- A line more in the table.
+table-more : (table : List ℕ) (c line : ℕ) → c < length table
+    → take (c + 1 - 0) (drop 0 (set table c line)) ≡ take (c - 0) (drop 0 table) ++ (line ∷ [])
+table-more table c line h =
+    let e : c + 1 - 0 ≡ suc c = omega arith in
+    let f : c - 0 ≡ c = omega arith in
+    rw (e, f) (take-suc-set table c line h)
 
 -- The ring after a line.
 module _ (n : ℕ) (s : RingState) (line : ℕ) (list : List ℕ) {toks book table : List ℕ} {m count : ℕ} (h : RingStands n s toks m book table count) where
@@ -100,13 +95,11 @@ module _ (n : ℕ) (s : RingState) (line : ℕ) (list : List ℕ) {toks book tab
       subst (λ (u : RingState). RingStands n u toks m book table count) (sym (refused-next (outcome n s list) r q s line list)) h
 
   module _ {marks old tree : List ℕ} {k : ℕ} (a : JoinedTree (s .tree) n count list marks old tree k) where
-    passed : first-refusal (list-checks n list) ≡ none
+    passed : bad-list n list ≡ none
     passed = list-passed (s .tree) n count list (a .passes)
 
     is-kept : outcome n s list ≡ kept (a .tree)
-    is-kept =
-        outcome-joined n s list (λ e. omega (arith, passes-iff n list .0 passed .some-leaf)) (λ e. a .not-full (h .counted ∙ e))
-        ∙ ap (joined n s (elem list)) (a .is)
+    is-kept = outcome-joined n s list (λ e. a .not-full (h .counted ∙ e)) ∙ ap (joined n s (elem list)) (a .is)
 
     pub kept-few : count < 96
     kept-few = omega (arith, h .few, a .not-full)

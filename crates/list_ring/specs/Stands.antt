@@ -21,10 +21,10 @@ pub record RingStands (n : ℕ) (s : RingState) (toks : List ℕ) (m : ℕ) (boo
   pub counted : count ≡ length (s .groups)
   pub few : count ≤ 96
 
--- The leaves of a group line: none, or a group of a ring with n leaves, at most 256.
+-- The leaves of a group line: a group of a ring with n leaves, at most 256.
 pub record Line (n : ℕ) (list : List ℕ) : Type 0 where
   pub few-leaves : n ≤ 256
-  pub group : 1 ≤ length list → WellFormed n list
+  pub group : WellFormed n list
 
 -- The groups of an accepted file, in the sequence of its lines.
 abbrev pub lists-of : {x : List ℕ} {n h l : ℕ} → FileHolds x n h l → List (List ℕ)

@@ -1,8 +1,8 @@
 -- What the functions do to a word, and what they find in it.
 use mathlib.Core.Path.{_≡_, refl, sym, ap, ap₂, _∙_}
-use mathlib.Core.Logic.{_≢_, inl, Iff·rfl}
+use mathlib.Core.Logic.{_≢_, Iff·rfl}
 use mathlib.Core.Bool.{Bool, true, false, cond, not, _&&_, true≢false}
-use mathlib.Core.List.{List, [], _∷_}
+use mathlib.Core.List.{List}
 use Prim.Native.Nat.{ℕ, suc, _+_, _-_, _*_, _^_, _<_, min}
 use native.Mathlib.Nat.{lt-of-lt-of-le}
 use native.Mathlib.Decide.{decLt}
@@ -12,14 +12,13 @@ use lib.ListN.{length, getD}
 use lib.Pow.{pow-pos, pow-mono, ones-lt}
 use lib.Bits.{bitAnd, bitXor, and-lt, xor-lt}
 use borrow.Author.Tests.{lt-ltb, le-ltb, le-leb, lt-leb}
-use Rattle.spec_orders.specs.Lists.{In, all-of, same}
-use Rattle.mark_words.specs.Marks.{bit, marked, word-of, leaves-of, outside}
+use Rattle.spec_orders.specs.Lists.{all-of}
+use Rattle.mark_words.specs.Marks.{bit, marked, word-of, leaves-of, no-mark?, outside}
 use Rattle.spec_orders.proofs.Members.{all-passed}
 use Rattle.spec_orders.proofs.Tests.{both, false-if}
-use Rattle.spec_orders.proofs.FormTests.{same-decides}
 use Rattle.mark_words.proofs.Word.{word-is, word-ext, no-marks, bit-and, bit-xor, bit-ones, bit-past}
 use Rattle.mark_words.proofs.Words.{Words, marked-at}
-use Rattle.mark_words.proofs.Leaves.{marked-leaf, by-mark}
+use Rattle.mark_words.proofs.Leaves.{marked-leaf, no-mark, by-mark}
 
 -- ---- the leaves from 1 to n
 
@@ -80,18 +79,12 @@ within-not ws n i v h = false-if (all-of (λ b. leb b n) (leaves-of ws)) (λ e. 
 
 -- ---- no leaf at all
 
-nothing-in : (l : List ℕ) → ((x : ℕ) → In x l → ⊥) → l ≡ []
-nothing-in [] h = refl
-nothing-in (y ∷ l) h = absurd (h y (inl refl))
-
-pub empty-all : (ws : List ℕ) → ((i : ℕ) → i < length ws → getD ws i 0 ≡ 0) → same (leaves-of ws) [] ≡ true
+pub empty-all : (ws : List ℕ) → ((i : ℕ) → i < length ws → getD ws i 0 ≡ 0) → no-mark? ws ≡ true
 empty-all ws h =
-    ap (λ (l : List ℕ). same l [])
-    (nothing-in (leaves-of ws)
-    (by-mark ws (λ x. ⊥) (λ i j k l b. true≢false (sym b ∙ ap (λ (w : ℕ). bit w j) (h i k) ∙ bit-past 0 j (pow-pos j)))))
+    no-mark ws .1 (λ x. false-if (marked ws x) (λ m. by-mark ws (λ x. ⊥)
+    (λ i j k l b. true≢false (sym b ∙ ap (λ (w : ℕ). bit w j) (h i k) ∙ bit-past 0 j (pow-pos j))) x (marked-leaf ws x m)))
 
-pub empty-not : (ws : List ℕ) (i : ℕ) → Words ws → getD ws i 0 ≢ 0 → same (leaves-of ws) [] ≡ false
-empty-not ws i v h = false-if (same (leaves-of ws) []) (λ e. h (no-marks (getD ws i 0) 64 (v i) (λ j l. false-if (bit (getD ws i 0) j) (λ b. none e j l b))))
-  where
-    none : same (leaves-of ws) [] ≡ true → (j : ℕ) → j < 64 → bit (getD ws i 0) j ≡ true → ⊥
-    none e j l b = rw (same-decides (leaves-of ws) [] .0 e) at (marked-leaf ws (64 * i + suc j) (marked-at ws i j l ∙ b))
+pub empty-not : (ws : List ℕ) (i : ℕ) → Words ws → getD ws i 0 ≢ 0 → no-mark? ws ≡ false
+empty-not ws i v h =
+    false-if (no-mark? ws)
+    (λ e. h (no-marks (getD ws i 0) 64 (v i) (λ j l. sym (marked-at ws i j l) ∙ no-mark ws .0 e (64 * i + suc j))))

@@ -5,8 +5,8 @@ ghost use lib.Count.{ones};
 ghost use lib.Dec.{leb};
 ghost use lib.ListN.{length};
 ghost use mathlib.Core.List.{[], _∷_};
-ghost use Rattle.spec_orders.specs.Lists.{same, all-of};
-ghost use Rattle.mark_words.specs.Marks.{marked, words-of, leaves-of, outside};
+ghost use Rattle.spec_orders.specs.Lists.{all-of};
+ghost use Rattle.mark_words.specs.Marks.{marked, words-of, leaves-of, no-mark?, outside};
 
 // The word whose k lowest marks are set: all 64 where k is more.
 fn low_marks(k: usize) -> u64
@@ -61,7 +61,7 @@ pub fn within(words: &[u64], n: usize) -> bool
 
 // Whether no leaf is marked.
 pub fn is_empty(words: &[u64]) -> bool
-    ensures { λ r. ⌜ r ≡ same (leaves-of (now (words .entry))) [] ⌝ }
+    ensures { λ r. ⌜ r ≡ no-mark? (now (words .entry)) ⌝ }
 {
     let mut i = 0;
     while i < words.len() {

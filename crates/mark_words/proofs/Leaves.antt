@@ -1,20 +1,22 @@
 -- The list of marks, and how many there are.
 use mathlib.Core.Path.{_≡_, sym, ap, _∙_}
+use mathlib.Core.Logic.{_↔_}
 use mathlib.Core.Bool.{true, false, true≢false}
-use mathlib.Core.List.{List}
+use mathlib.Core.List.{List, []}
 use Prim.Native.Nat.{ℕ, zero, suc, _+_, _*_, _/_, _%_, _≤_, _<_}
 use native.Mathlib.Nat.{mod-lt}
 use native.Mathlib.Decide.{decLe}
 use native.Mathlib.Omega.{arith}
 use lib.ListN.{length, getD}
 use Rattle.spec_orders.specs.Lists.{All, Distinct, In, those-of, elem, numbers-from}
-use Rattle.spec_orders.specs.CircularOrder.{Restriction, WellFormed}
-use Rattle.mark_words.specs.Marks.{bit, marked, words-of, leaves-of}
+use Rattle.spec_orders.specs.CircularOrder.{Restriction, WellFormed, EmptyGroup}
+use Rattle.mark_words.specs.Marks.{bit, marked, words-of, leaves-of, no-mark?}
 use Rattle.spec_orders.proofs.ListLaws.{all-map}
-use Rattle.spec_orders.proofs.Members.{elem-in, all-in}
+use Rattle.spec_orders.proofs.Members.{nothing-in, elem-in, all-in}
 use Rattle.spec_orders.proofs.Numbers.{those-different, in-those, those-in, in-range, numbers-in, those-agree, count-elem}
 use Rattle.mark_words.proofs.Words.{length-words, leaf-at, marked-none, marked-past, marked-words}
 use Rattle.spec_orders.proofs.Tests.{false-if}
+use Rattle.spec_orders.proofs.FormTests.{same-decides}
 
 -- A leaf stands in the list of marks just when it is marked, and then it is one of the words' leaves.
 pub leaf-marked : (ws : List ℕ) (x : ℕ) → In x (leaves-of ws) → marked ws x ≡ true
@@ -36,6 +38,13 @@ marked-leaf ws (suc m) e = go (decLe (suc m) (64 * length ws))
 
 pub marked-range : (ws : List ℕ) (x : ℕ) → marked ws x ≡ true → (1 ≤ x) × (x ≤ 64 * length ws)
 marked-range ws x e = leaf-range ws x (marked-leaf ws x e)
+
+-- Without a mark in its words a group is empty, and only then.
+pub no-mark : (words : List ℕ) → (no-mark? words ≡ true) ↔ EmptyGroup (marked words)
+no-mark words = (
+  (λ e x. false-if (marked words x) (λ m. rw (same-decides (leaves-of words) [] .0 e) at (marked-leaf words x m))),
+  (λ e. same-decides (leaves-of words) [] .1 (nothing-in (leaves-of words) (λ x i. true≢false (sym (leaf-marked words x i) ∙ e x)))),
+)
 
 -- So the list is one of different leaves, and the words are those of the list.
 pub leaves-different : (ws : List ℕ) → Distinct (leaves-of ws)

@@ -10,7 +10,7 @@ use native.Mathlib.Omega.{arith}
 use lib.ListN.{length, getD, drop, set, length-append, length-set, List·getD-append, List·getD-eq-default, drop-of-length-le, replicate}
 use lib.Seq.{ext-getD, getD-at, set-at, drop-cons, append-snoc}
 use lib.Pow.{pow-pos}
-use Rattle.spec_orders.specs.CircularOrder.{Restriction}
+use Rattle.spec_orders.specs.CircularOrder.{Restriction, EmptyGroup}
 use Rattle.mark_words.specs.Marks.{bit, marked, word-of, words-of, no-leaf}
 use Rattle.mark_words.proofs.Word.{word-bit, word-is, word-agree, bit-past, word-none}
 
@@ -98,6 +98,10 @@ words-agree zero G H h = refl
 words-agree (suc k) G H h =
     ap₂ (λ (ws : List ℕ) (w : ℕ). ws ++ (w ∷ [])) (words-agree k G H (λ b l m. h b l (omega arith)))
     (word-agree G H (64 * k) 64 (λ i l. h (64 * k + suc i) (omega arith) (omega arith)))
+
+-- Those of an empty group are zero.
+pub empty-words : (k : ℕ) (G : Restriction) → EmptyGroup G → words-of k G ≡ replicate k 0
+empty-words k G e = words-agree k G no-leaf (λ b l m. e b) ∙ no-words k
 
 pub words-of-marked : (ws : List ℕ) → Words ws → words-of (length ws) (marked ws) ≡ ws
 words-of-marked ws w = sym (words-by-marks ws (marked ws) w (λ i j l m. sym (marked-at ws i j m)))

@@ -5,7 +5,7 @@ use mathlib.Core.List.{List, [], _∷_, _++_}
 use Prim.Native.Nat.{ℕ, zero, suc, _+_, _*_, _/_, _%_, _^_}
 use lib.Dec.{eqb, leb}
 use lib.ListN.{length, getD}
-use Rattle.spec_orders.specs.Lists.{numbers-from, those-of}
+use Rattle.spec_orders.specs.Lists.{numbers-from, those-of, same}
 use Rattle.spec_orders.specs.CircularOrder.{Restriction}
 
 -- Mark i of a word, from 0, the lowest.
@@ -30,6 +30,10 @@ words-of (suc k) G = words-of k G ++ (word-of G (64 * k) 64 ∷ [])
 -- The list of marks: the leaves marked in the words, rising.
 unfoldable pub leaves-of : List ℕ → List ℕ
 leaves-of ws = those-of (marked ws) (numbers-from 1 (64 * length ws))
+
+-- No leaf is marked.
+abbrev pub no-mark? : List ℕ → Bool
+no-mark? ws = same (leaves-of ws) []
 
 -- No leaf; the leaf and those of the group; the leaves of either group; the leaves from 1 to n that are outside the group.
 abbrev pub no-leaf : Restriction

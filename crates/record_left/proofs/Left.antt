@@ -3,7 +3,7 @@ use mathlib.Core.Path.{_≡_, refl, sym, _∙_, ap, subst}
 use mathlib.Core.Logic.{_≢_}
 use mathlib.Core.Bool.{not, _||_}
 use mathlib.Core.Option.{Option, none, some}
-use mathlib.Core.List.{List, [], _∷_, _++_}
+use mathlib.Core.List.{List, [], _∷_}
 use Prim.Native.Nat.{ℕ, _≤_}
 use native.Mathlib.Omega.{arith}
 use lib.Dec.{eqb}
@@ -20,7 +20,7 @@ use Rattle.spec_calls.specs.declared.Refusal.the-variants.{NotInForm, BookFull,
 use Rattle.spec_calls.specs.Tables.{Nodes, leaves, Book, over}
 use Rattle.spec_calls.specs.NodeTable.{table-of, held-tree}
 use Rattle.spec_calls.specs.Book.{book-in-form?}
-use Rattle.spec_calls.specs.Refusals.{Reply, refuse, short, list-checks}
+use Rattle.spec_calls.specs.Refusals.{Reply, refuse, short, bad-list}
 use Rattle.spec_calls.specs.Calls.{Ring, ring, Filled, filled-as, filled, of-tree as written, is-none, table-checks, ring-checks, open-refusal, opened, open-call, joined-tree, join-refusal, joined, join-call, read-outcome, ReadCall, unread, read, common-tree, intersect-refusal, intersect-call, pair-checks, common-checks}
 use Rattle.spec_calls.specs.Promises.{OpenPromise, JoinPromise, ReadPromise, IntersectPromise}
 use Rattle.spec_calls.proofs.NodeTables.{tree-in-holds}
@@ -92,7 +92,7 @@ module _ (nodes : Nodes) (book : Book) (list : List ℕ) where
   unfolding join-refusal
   join-whole e =
       let of-form = refuse (is-none (held-tree nodes) || not (book-in-form? (nodes .bins) book)) NotInForm ∷ [] in
-      let of-group = list-checks (nodes .bins) list ++ (refuse (eqb (book .count) 96) BookFull ∷ refuse (is-none (joined-tree nodes list)) Impossible ∷ []) in
+      let of-group = bad-list (nodes .bins) list ∷ refuse (eqb (book .count) 96) BookFull ∷ refuse (is-none (joined-tree nodes list)) Impossible ∷ [] in
       let w = tables-whole nodes (short 384 (book .words)) (first-refusal-left (table-checks nodes (short 384 (book .words))) of-form (first-refusal-left (ring-checks nodes book) of-group e)) in
       (w .1, w .2)
 

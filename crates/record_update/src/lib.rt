@@ -19,8 +19,8 @@ pub fn open(n: usize, nodes: &mut [Node], book: &mut [u64]) -> Answer
     r
 }
 
-// Joins the list's group: the node table gets the new tree, and the group takes the book's next place. Answers the new count of groups; or refuses (1
-// to 8), and leaves every table as it was.
+// Joins the list's group, which may be empty: the node table gets the new tree, and the group takes the book's next place. Answers the new count of
+// groups; or refuses (1 to 3, 5 to 8), and leaves every table as it was.
 pub fn join(n: usize, nodes: &mut [Node], book: &mut [u64], count: usize, list: &[u16]) -> Answer
     ensures { λ r. ⌜ JoinPromise (lent-records n (now (nodes .entry))) (lent-book (now (book .entry)) count) (now (list .entry)) (node-rows (now (nodes .exit))) (lent-book (now (book .exit)) count) (report r) × Left (now (nodes .entry)) (now (nodes .exit)) (report r) ⌝ }
 {

@@ -1,4 +1,4 @@
--- The calls' definitions meet the second demand; and a list is refused by 4, 5 or 6 just when it is not well formed.
+-- The calls' definitions meet the second demand; and a list is refused by 5 or 6 just when it is not well formed.
 use mathlib.Core.Path.{_≡_, refl, sym, ap, subst}
 use mathlib.Core.Logic.{_↔_, _≢_}
 use mathlib.Core.Bool.{Bool, true, false, cond, _||_, true≢false}
@@ -16,18 +16,19 @@ use Rattle.spec_orders.specs.CircularOrder.{Restriction, WellFormed, group-of}
 use Rattle.spec_orders.specs.Tree.{Forest}
 use Rattle.spec_orders.specs.Form.{InForm, FirstOf, StandardOrder, standard}
 use Rattle.spec_orders.specs.Join.{join}
+use Rattle.spec_orders.proofs.Tests.{or-neither}
 use Rattle.spec_orders.proofs.StandardOrders.{standard-is}
 use Rattle.spec_orders.proofs.TextTree.{form-length}
 use Rattle.spec_orders.proofs.Joining.{join-none, join-some}
-use Rattle.spec_calls.specs.declared.Refusal.{Refusal}
-use Rattle.spec_calls.specs.declared.Refusal.the-variants.{RingSize, ShortTable, OutsideRing, Repeated, BookFull, Impossible}
+use Rattle.spec_calls.specs.declared.Refusal.the-variants.{RingSize, ShortTable, OutsideRing, Repeated, Impossible}
 use Rattle.spec_calls.specs.Tables.{Nodes, leaves, Book, over}
 use Rattle.spec_calls.specs.Book.{with-group}
 use Rattle.spec_calls.specs.NodeTable.{held-tree}
-use Rattle.spec_calls.specs.Refusals.{Reply, reply, refuse, first-refusal, bad-size, short, short-nodes, bad-leaf, list-checks}
+use Rattle.spec_calls.specs.Refusals.{Reply, reply, refuse, first-refusal, bad-size, short, short-nodes, bad-leaf, bad-list}
 use Rattle.spec_calls.specs.Calls.{filled-as, is-none, table-checks, joined-tree, join-refusal, joined, join-call, order-refusal, order-call}
 use Rattle.spec_calls.specs.Demands.{LentTree, LentBook, Joins}
 use Rattle.spec_calls.proofs.NodeTables.{tree-in-holds, over-holds}
+use Rattle.spec_calls.proofs.Checks.{first-refusal-passed}
 
 -- ---- lists
 
@@ -49,9 +50,11 @@ leaves-fine n seen k [] r d a = refl
 leaves-fine n seen k (b ∷ l) r d a =
     rw (ne-eqb b 0 (λ e. omega (arith, r .0 .0)), le-ltb n b (r .0 .1), a .0) (leaves-fine n (b ∷ seen) (suc k) l (r .1) (d .1) (new-more seen b l (a .1) (d .0)))
 
-pub well-formed-passes : (n : ℕ) (l : List ℕ) → WellFormed n l → first-refusal (list-checks n l) ≡ none
-well-formed-passes n [] w = absurd (omega (arith, w .some-leaf))
-well-formed-passes n (b ∷ l) w = rw (leaves-fine n [] 0 (b ∷ l) (w .in-range) (w .different) (new-none (b ∷ l)))
+pub well-formed-passes : (n : ℕ) (l : List ℕ) → WellFormed n l → bad-list n l ≡ none
+well-formed-passes n l w = leaves-fine n [] 0 l (w .in-range) (w .different) (new-none l)
+
+pub empty-well-formed : (n : ℕ) → WellFormed n []
+empty-well-formed n = record { in-range = tt; different = tt }
 
 new-less : (seen : List ℕ) (x : ℕ) (l : List ℕ) → New (x ∷ seen) l → New seen l × All (λ y. x ≢ y) l
 new-less seen x [] a = (tt, tt)
@@ -82,16 +85,8 @@ leaves-are n seen k (b ∷ l) e = go (leaves-are n (b ∷ seen) (suc k) l) (eqb 
     go more false z false q true r e = absurd (let i : _≡_ {A = ℕ} 0 1 = cc in omega arith)
     go more false z false q false r e = fine-more n seen b l z q r (more e)
 
-pub passes-iff : (n : ℕ) (l : List ℕ) → (first-refusal (list-checks n l) ≡ none) ↔ WellFormed n l
-passes-iff n l = (from l, well-formed-passes n l)
-  where
-    from : (l : List ℕ) → first-refusal (list-checks n l) ≡ none → WellFormed n l
-    from [] e = absurd (let i : _≡_ {A = ℕ} 0 1 = cc in omega arith)
-    from (b ∷ l) e = let f = leaves-are n [] 0 (b ∷ l) (last (bad-leaf n [] 0 (b ∷ l)) e) in record { some-leaf = omega arith; in-range = f .0; different = f .1 }
-      where
-        last : (r : Option Refusal) → first-refusal (r ∷ []) ≡ none → r ≡ none
-        last none e = refl
-        last (some r) e = absurd (let i : _≡_ {A = ℕ} 0 1 = cc in omega arith)
+pub passes-iff : (n : ℕ) (l : List ℕ) → (bad-list n l ≡ none) ↔ WellFormed n l
+passes-iff n l = (λ e. let f = leaves-are n [] 0 l e in record { in-range = f .0; different = f .1 }, well-formed-passes n l)
 
 -- ---- checks 1 and 2
 
@@ -101,21 +96,23 @@ size-fine n l m = rw (ne-eqb n 0 (λ e. omega arith), le-ltb 256 n m)
 pub nodes-fine : (nodes : Nodes) → 256 ≤ nodes .records → 65792 ≤ length (nodes .rows) → short-nodes nodes ≡ false
 nodes-fine nodes l m = rw (le-ltb (nodes .records) 256 l, le-ltb (length (nodes .rows)) 65792 m)
 
+pub size-whole : (n : ℕ) → bad-size n ≡ false → (1 ≤ n) × (n ≤ 256)
+size-whole n e = let r = or-neither (eqb n 0) (ltb 256 n) e in (pos-of-ne-zero (eqb-false n 0 (r .0)), ltb-false 256 n (r .1))
+
+pub nodes-whole : (nodes : Nodes) → short-nodes nodes ≡ false → (256 ≤ nodes .records) × (65792 ≤ length (nodes .rows))
+nodes-whole nodes e =
+    let r = or-neither (ltb (nodes .records) 256) (short 65792 (nodes .rows)) e in
+    (ltb-false (nodes .records) 256 (r .0), ltb-false (length (nodes .rows)) 65792 (r .1))
+
 -- Where none of them refuses; `other`: another lent table is too short.
 pub tables-whole : (nodes : Nodes) (other : Bool) → first-refusal (table-checks nodes other) ≡ none
     → (1 ≤ nodes .bins) × (nodes .bins ≤ 256) × (256 ≤ nodes .records) × (65792 ≤ length (nodes .rows)) × (other ≡ false)
-tables-whole nodes other e = go (eqb (nodes .bins) 0) refl (ltb 256 (nodes .bins)) refl (ltb (nodes .records) 256) refl (short 65792 (nodes .rows)) refl other refl e
-  where
-    go : (a : Bool) → eqb (nodes .bins) 0 ≡ a → (b : Bool) → ltb 256 (nodes .bins) ≡ b → (c : Bool) → ltb (nodes .records) 256 ≡ c → (d : Bool) → short 65792 (nodes .rows) ≡ d → (o : Bool) → other ≡ o
-        → first-refusal (refuse (a || b) RingSize ∷ refuse ((c || d) || o) ShortTable ∷ []) ≡ none
-        → (1 ≤ nodes .bins) × (nodes .bins ≤ 256) × (256 ≤ nodes .records) × (65792 ≤ length (nodes .rows)) × (other ≡ false)
-    go true p b q c r d s o t e = absurd (let z : _≡_ {A = ℕ} 0 1 = cc in omega arith)
-    go false p true q c r d s o t e = absurd (let z : _≡_ {A = ℕ} 0 1 = cc in omega arith)
-    go false p false q true r d s o t e = absurd (let z : _≡_ {A = ℕ} 0 1 = cc in omega arith)
-    go false p false q false r true s o t e = absurd (let z : _≡_ {A = ℕ} 0 1 = cc in omega arith)
-    go false p false q false r false s true t e = absurd (let z : _≡_ {A = ℕ} 0 1 = cc in omega arith)
-    go false p false q false r false s false t e =
-        (pos-of-ne-zero (eqb-false (nodes .bins) 0 p), ltb-false 256 (nodes .bins) q, ltb-false (nodes .records) 256 r, ltb-false (length (nodes .rows)) 65792 s, t)
+tables-whole nodes other e =
+    let p = first-refusal-passed ((bad-size (nodes .bins), RingSize) ∷ (short-nodes nodes || other, ShortTable) ∷ []) e in
+    let tables = or-neither (short-nodes nodes) other (p .1 .0) in
+    let size = size-whole (nodes .bins) (p .0) in
+    let rows = nodes-whole nodes (tables .0) in
+    (size .0, size .1, rows .0, rows .1, tables .1)
 
 -- ---- joining
 
@@ -127,18 +124,11 @@ pub first-among : {Ok Same : List ℕ → Type 0} {ord : List ℕ} → FirstOf O
 first-among {ord = ord} s same = record { allowed = same ord .0 (s .allowed); least = λ other o. s .least other (same other .1 o) }
 
 module _ (nodes : Nodes) (book : Book) (list : List ℕ) (t : Forest) (h : LentTree nodes t) (b : LentBook (nodes .bins) book) (place-left : book .count < 96) (w : WellFormed (nodes .bins) list) where
-  the-joined : joined-tree nodes list ≡ join (group-of (nodes .bins) list) t
+  pub the-joined : joined-tree nodes list ≡ join (group-of (nodes .bins) list) t
   unfolding joined-tree
   the-joined = rw (lent-held nodes t h)
 
-  after-checks : (cs : List (Option Refusal)) → first-refusal (list-checks (nodes .bins) list ++ cs) ≡ first-refusal cs
-  after-checks cs = go list w
-    where
-      go : (l : List ℕ) → WellFormed (nodes .bins) l → first-refusal (list-checks (nodes .bins) l ++ cs) ≡ first-refusal cs
-      go [] w = absurd (omega (arith, w .some-leaf))
-      go (b ∷ l) w = rw (leaves-fine (nodes .bins) [] 0 (b ∷ l) (w .in-range) (w .different) (new-none (b ∷ l)))
-
-  the-refusal : join-refusal nodes book list ≡ first-refusal (refuse (is-none (join (group-of (nodes .bins) list) t)) Impossible ∷ [])
+  pub the-refusal : join-refusal nodes book list ≡ first-refusal (refuse (is-none (join (group-of (nodes .bins) list) t)) Impossible ∷ [])
   unfolding join-refusal
   the-refusal =
       rw (
@@ -147,7 +137,7 @@ module _ (nodes : Nodes) (book : Book) (list : List ℕ) (t : Forest) (h : LentT
         le-ltb (length (book .words)) 384 (b .all-words),
         lent-held nodes t h,
         b .in-form,
-        after-checks (refuse (eqb (book .count) 96) BookFull ∷ refuse (is-none (joined-tree nodes list)) Impossible ∷ []),
+        well-formed-passes (nodes .bins) list w,
         ne-eqb (book .count) 96 (λ e. omega (arith, place-left)),
         the-joined,
       )

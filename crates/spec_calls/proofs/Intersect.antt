@@ -1,13 +1,13 @@
 -- The intersection's definition meets the demand on it, and either tree may be lent as the first one.
 use mathlib.Core.Path.{_≡_, refl, sym, _∙_, ap, ap₂, subst}
-use mathlib.Core.Bool.{Bool, true, false, not, _||_}
+use mathlib.Core.Bool.{not, _||_}
 use mathlib.Core.Logic.{_≢_}
 use mathlib.Core.Option.{Option, none, some}
 use mathlib.Core.List.{[], _∷_, _++_}
 use Prim.Native.Nat.{ℕ, _≤_}
 use native.Mathlib.Omega.{arith}
-use borrow.Author.Tests.{eq-eqb, eqb-true, ltb-false}
-use lib.Dec.{eqb, ltb}
+use borrow.Author.Tests.{eq-eqb, eqb-true, not-false}
+use lib.Dec.{eqb}
 use lib.ListN.{length, drop}
 use lib.Seq.{drop-append-seam}
 use Rattle.spec_orders.specs.Tree.{Forest}
@@ -22,12 +22,12 @@ use Rattle.spec_calls.specs.declared.Refusal.{Refusal}
 use Rattle.spec_calls.specs.declared.Refusal.the-variants.{RingSize, ShortTable, NotInForm, Impossible, BinCounts}
 use Rattle.spec_calls.specs.Tables.{Nodes, leaves}
 use Rattle.spec_calls.specs.NodeTable.{table-of, held-tree}
-use Rattle.spec_calls.specs.Refusals.{Reply, reply, refuse, first-refusal, bad-size, short, short-nodes}
+use Rattle.spec_calls.specs.Refusals.{Reply, reply, refuse, first-refusal, bad-size, short-nodes}
 use Rattle.spec_calls.specs.Calls.{Filled, is-none, of-tree, filled, common-tree, pair-checks, common-checks, intersect-refusal, intersect-call}
 use Rattle.spec_calls.specs.Demands.{LentTree, Intersects}
 use Rattle.spec_calls.proofs.NodeTables.{table-length, tree-in-holds, over-holds}
-use Rattle.spec_calls.proofs.Checks.{first-refusal-some, first-refusal-left}
-use Rattle.spec_calls.proofs.Demands.{size-fine, nodes-fine, lent-held, first-among}
+use Rattle.spec_calls.proofs.Checks.{first-refusal-some, first-refusal-left, first-refusal-passed}
+use Rattle.spec_calls.proofs.Demands.{size-fine, nodes-fine, size-whole, nodes-whole, lent-held, first-among}
 
 -- Checks 1, 2 and 13. Where none of them refuses: the tables are whole, and the counts are the same.
 pub record Whole (nodes other third : Nodes) : Type 0 where
@@ -38,31 +38,24 @@ pub record Whole (nodes other third : Nodes) : Type 0 where
   pub third-records : 256 ≤ third .records
   pub third-rows : 65792 ≤ length (third .rows)
 
-table-whole : (nodes : Nodes) → short-nodes nodes ≡ false → (256 ≤ nodes .records) × (65792 ≤ length (nodes .rows))
-table-whole nodes e =
-    let r = or-neither (ltb (nodes .records) 256) (short 65792 (nodes .rows)) e in
-    (ltb-false (nodes .records) 256 (r .0), ltb-false (length (nodes .rows)) 65792 (r .1))
-
 pub pair-whole : (nodes other third : Nodes) → first-refusal (pair-checks nodes other third) ≡ none → Whole nodes other third
 pair-whole nodes other third e =
-    let r = all-pass (bad-size (nodes .bins) || bad-size (other .bins)) ((short-nodes nodes || short-nodes other) || short-nodes third) (eqb (nodes .bins) (other .bins)) e in
-    let size = or-neither (eqb (nodes .bins) 0) (ltb 256 (nodes .bins)) (or-neither (bad-size (nodes .bins)) (bad-size (other .bins)) (r .0) .0) in
-    let rows = or-neither (short-nodes nodes || short-nodes other) (short-nodes third) (r .1) in
+    let r = first-refusal-passed
+    ((bad-size (nodes .bins) || bad-size (other .bins), RingSize)
+    ∷ ((short-nodes nodes || short-nodes other) || short-nodes third, ShortTable)
+    ∷ (not (eqb (nodes .bins) (other .bins)), BinCounts)
+    ∷ [])
+    e in
+    let rows = or-neither (short-nodes nodes || short-nodes other) (short-nodes third) (r .1 .0) in
     let both = or-neither (short-nodes nodes) (short-nodes other) (rows .0) in
     record {
-      few-leaves = ltb-false 256 (nodes .bins) (size .1);
-      same-bins = eqb-true (nodes .bins) (other .bins) (r .2);
-      first-rows = table-whole nodes (both .0) .1;
-      second-rows = table-whole other (both .1) .1;
-      third-records = table-whole third (rows .1) .0;
-      third-rows = table-whole third (rows .1) .1;
+      few-leaves = size-whole (nodes .bins) (or-neither (bad-size (nodes .bins)) (bad-size (other .bins)) (r .0) .0) .1;
+      same-bins = eqb-true (nodes .bins) (other .bins) (not-false (eqb (nodes .bins) (other .bins)) (r .1 .1 .0));
+      first-rows = nodes-whole nodes (both .0) .1;
+      second-rows = nodes-whole other (both .1) .1;
+      third-records = nodes-whole third (rows .1) .0;
+      third-rows = nodes-whole third (rows .1) .1;
     }
-  where
-    all-pass : (a b c : Bool) → first-refusal (refuse a RingSize ∷ refuse b ShortTable ∷ refuse (not c) BinCounts ∷ []) ≡ none → (a ≡ false) × (b ≡ false) × (c ≡ true)
-    all-pass true b c e = absurd (let z : _≡_ {A = ℕ} 0 1 = cc in omega arith)
-    all-pass false true c e = absurd (let z : _≡_ {A = ℕ} 0 1 = cc in omega arith)
-    all-pass false false true e = (refl, refl, refl)
-    all-pass false false false e = absurd (let z : _≡_ {A = ℕ} 0 1 = cc in omega arith)
 
 -- The tree of the orders allowed by both, of the trees that are held; it is in form.
 pub common-of : (nodes other : Nodes) {t u : Forest} → held-tree nodes ≡ some t → held-tree other ≡ some u → common-tree nodes other ≡ intersection t u

@@ -1,10 +1,10 @@
 -- Document 01, "The ring and its tables": the book, a table of 384 mark words, four for each of up to 96 groups.
-use mathlib.Core.Bool.{Bool, not, _&&_}
-use mathlib.Core.List.{List, [], _++_, map}
+use mathlib.Core.Bool.{Bool, _&&_}
+use mathlib.Core.List.{List, _++_, map}
 use Prim.Native.Nat.{ℕ, _+_, _-_, _*_}
 use lib.Dec.{eqb, leb}
 use lib.ListN.{take, drop, replicate}
-use Rattle.spec_orders.specs.Lists.{numbers-from, same, all-of}
+use Rattle.spec_orders.specs.Lists.{numbers-from, all-of}
 use Rattle.spec_orders.specs.CircularOrder.{Restriction}
 use Rattle.mark_words.specs.Marks.{marked, words-of, leaves-of}
 use Rattle.spec_calls.specs.Tables.{Book, lent-book, over}
@@ -17,9 +17,9 @@ group-words words k = take 4 (drop (4 * k) words)
 unfoldable pub groups : Book → List Restriction
 groups book = map (λ k. marked (group-words (book .words) k)) (numbers-from 0 (book .count))
 
--- "Each group up to the count has a mark, each mark is that of a bin from 1 to n."
+-- "Each mark is that of a bin from 1 to n." Document 02, No. 2: "a book group without marks is in form".
 abbrev pub group-in-form? : ℕ → List ℕ → Bool
-group-in-form? n words = not (same (leaves-of words) []) && all-of (λ b. leb b n) (leaves-of words)
+group-in-form? n words = all-of (λ b. leb b n) (leaves-of words)
 
 -- "A book is well formed, or in form, when its count is at most 96, each group up to the count [is as above], and all groups past the count
 -- are zero."

@@ -15,13 +15,13 @@ use Rattle.spec_orders.specs.Join.{fresh, join, then}
 use Rattle.spec_orders.specs.Conflict.{consecutive?, ring-conflicts}
 use Rattle.spec_orders.specs.Aim.{aim-of}
 use Rattle.spec_intersection.specs.Intersection.{intersection}
-use Rattle.mark_words.specs.Marks.{marked}
+use Rattle.mark_words.specs.Marks.{marked, no-mark?}
 use Rattle.spec_calls.specs.declared.Refusal.{Refusal}
-use Rattle.spec_calls.specs.declared.Refusal.the-variants.{RingSize, ShortTable, NotInForm, BookFull, Impossible, NoSuchGroup, NotConsecutive, TreeText, BinCounts}
+use Rattle.spec_calls.specs.declared.Refusal.the-variants.{RingSize, ShortTable, NotInForm, BookFull, Impossible, NoSuchGroup, NoAim, NotConsecutive, TreeText, BinCounts}
 use Rattle.spec_calls.specs.Tables.{Nodes, leaves, Book, over, padded}
 use Rattle.spec_calls.specs.Book.{group-words, book-in-form?, with-group, without-groups}
 use Rattle.spec_calls.specs.NodeTable.{table-of, held-tree}
-use Rattle.spec_calls.specs.Refusals.{Reply, reply, reported, refuse, first-refusal, bad-size, short, short-nodes, list-checks}
+use Rattle.spec_calls.specs.Refusals.{Reply, reply, reported, refuse, first-refusal, bad-size, short, short-nodes, bad-list}
 
 -- A call that may change a ring's tables: what it returns, and the rows and the book afterwards.
 pub record Ring : Type 0 where
@@ -76,7 +76,7 @@ opened none nodes book = ring (reply 0 0) (over (table-of (fresh (leaves nodes))
 unfoldable pub open-call : Nodes → Book → Ring
 open-call nodes book = opened (open-refusal nodes book) nodes book
 
--- Joining: checks 1 to 8. The tree with the group joined to it.
+-- Joining: checks 1 to 3 and 5 to 8. The tree with the group joined to it.
 unfoldable pub joined-tree : Nodes → List ℕ → Option Forest
 joined-tree nodes list = then (held-tree nodes) (join (group-of (nodes .bins) list))
 
@@ -84,7 +84,7 @@ unfoldable pub join-refusal : Nodes → Book → List ℕ → Option Refusal
 join-refusal nodes book list =
     first-refusal
     (ring-checks nodes book
-    ++ (list-checks (nodes .bins) list ++ (refuse (eqb (book .count) 96) BookFull ∷ refuse (is-none (joined-tree nodes list)) Impossible ∷ [])))
+    ++ (bad-list (nodes .bins) list ∷ refuse (eqb (book .count) 96) BookFull ∷ refuse (is-none (joined-tree nodes list)) Impossible ∷ []))
 
 -- "The accepted group takes the next book place in every case." Answers the new count of the book's groups.
 unfoldable pub joined : Option Refusal → Option Forest → Nodes → Book → List ℕ → Ring
@@ -132,7 +132,8 @@ pub data ReadCall (nodes : Nodes) (book : Book) (text : List ℕ) : Ring → Typ
   unread : {r : Refusal} → open-refusal nodes book ≡ some r → ReadCall nodes book text (unchanged r nodes book)
   read : {f : Found} → open-refusal nodes book ≡ none → Reads (leaves nodes) text f → ReadCall nodes book text (read-outcome f nodes book)
 
--- The aim of the book's group with the number k: checks 1, 2, 3, 9, 10. Answers the bin.
+-- The aim of the book's group with the number k: checks 1, 2, 3, 9, 14, 10. Answers the bin. Document 02, No. 2: "14 when the aim of an empty group
+-- is wanted, checked after 9".
 abbrev pub group-numbered : List ℕ → ℕ → Restriction
 group-numbered words k = marked (group-words words (k - 1))
 
@@ -141,6 +142,7 @@ aim-refusal nodes book k =
     first-refusal
     (ring-checks nodes book
     ++ (refuse (eqb k 0 || ltb (book .count) k) NoSuchGroup
+    ∷ refuse (no-mark? (group-words (book .words) (k - 1))) NoAim
     ∷ refuse (not (consecutive? (group-numbered (book .words) k) (of-tree (held-tree nodes) standard))) NotConsecutive
     ∷ []))
 
@@ -152,14 +154,15 @@ unfoldable pub aim-call : Nodes → Book → ℕ → Reply
 aim-call nodes book k =
     answered (aim-refusal nodes book k) (aim-of (group-numbered (book .words) k) (of-tree (held-tree nodes) standard))
 
--- "A conflict call reads n, the book and a group, and makes checks 1 to 6." The list's 96 places are filled; answers the count of numbers.
+-- "A conflict call reads n, the book and a group, and makes checks 1 to 6", but for 4. The list's 96 places are filled; answers the count of numbers.
 unfoldable pub conflict-refusal : ℕ → Book → List ℕ → List ℕ → Option Refusal
 conflict-refusal n book list conflicts =
     first-refusal
     (refuse (bad-size n) RingSize
     ∷ refuse (short 384 (book .words) || short 96 conflicts) ShortTable
     ∷ refuse (not (book-in-form? n book)) NotInForm
-    ∷ list-checks n list)
+    ∷ bad-list n list
+    ∷ [])
 
 unfoldable pub conflicts-of : ℕ → Book → Restriction → List ℕ
 conflicts-of n book new = ring-conflicts n (group-numbered (book .words)) (book .count) new

@@ -1,14 +1,14 @@
--- Document 01, "What a call refuses": the numbers of the table, what is returned with them, and the checks, each by itself. 13 is document 02's: "a
--- new number joins the table", there right after 2.
+-- Document 01, "What a call refuses": the numbers of the table, what is returned with them, and the checks, each by itself. Document 02: "a new
+-- number joins the table", 13 right after 2 and 14 after 9; "number 4 is no longer given".
 use mathlib.Core.Bool.{Bool, true, false, cond, _||_}
 use mathlib.Core.Option.{Option, none, some}
 use mathlib.Core.List.{List, [], _∷_}
 use Prim.Native.Nat.{ℕ, suc}
 use lib.Dec.{eqb, ltb}
 use lib.ListN.{length}
-use Rattle.spec_orders.specs.Lists.{elem, same}
+use Rattle.spec_orders.specs.Lists.{elem}
 use Rattle.spec_calls.specs.declared.Refusal.{Refusal}
-use Rattle.spec_calls.specs.declared.Refusal.the-variants.{RingSize, ShortTable, NotInForm, EmptyGroup, OutsideRing, Repeated, BookFull, Impossible, NoSuchGroup, NotConsecutive, RingFile, TreeText, BinCounts}
+use Rattle.spec_calls.specs.declared.Refusal.the-variants.{RingSize, ShortTable, NotInForm, OutsideRing, Repeated, BookFull, Impossible, NoSuchGroup, NotConsecutive, RingFile, TreeText, BinCounts, NoAim}
 use Rattle.spec_calls.specs.declared.Answer.{Answer}
 use Rattle.spec_calls.specs.declared.Answer.the-variants.{Done, Refused}
 use Rattle.spec_calls.specs.Tables.{Nodes}
@@ -26,7 +26,6 @@ abbrev pub reported : Refusal → Reply
 reported RingSize = reply 1 0
 reported ShortTable = reply 2 0
 reported NotInForm = reply 3 0
-reported EmptyGroup = reply 4 0
 reported (OutsideRing place) = reply 5 place
 reported (Repeated place) = reply 6 place
 reported BookFull = reply 7 0
@@ -36,6 +35,7 @@ reported NotConsecutive = reply 10 0
 reported (RingFile byte) = reply 11 byte
 reported (TreeText byte) = reply 12 byte
 reported BinCounts = reply 13 0
+reported NoAim = reply 14 0
 
 abbrev pub report : Answer → Reply
 report (Done value) = reply 0 value
@@ -69,6 +69,6 @@ unfoldable pub bad-leaf : ℕ → List ℕ → ℕ → List ℕ → Option Refus
 bad-leaf n seen k [] = none
 bad-leaf n seen k (b ∷ bs) = cond (eqb b 0 || ltb n b) (some (OutsideRing k)) (cond (elem seen b) (some (Repeated k)) (bad-leaf n (b ∷ seen) (suc k) bs))
 
--- 4, 5 and 6.
-abbrev pub list-checks : ℕ → List ℕ → List (Option Refusal)
-list-checks n list = refuse (same list []) EmptyGroup ∷ bad-leaf n [] 0 list ∷ []
+-- The two of a whole list.
+abbrev pub bad-list : ℕ → List ℕ → Option Refusal
+bad-list n list = bad-leaf n [] 0 list

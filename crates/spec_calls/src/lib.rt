@@ -8,7 +8,6 @@ pub enum Refusal {
     RingSize,
     ShortTable,
     NotInForm,
-    EmptyGroup,
     OutsideRing(usize),
     Repeated(usize),
     BookFull,
@@ -18,6 +17,7 @@ pub enum Refusal {
     RingFile(usize),
     TreeText(usize),
     BinCounts,
+    NoAim,
 }
 
 // A call's answer: done, with the number that the call returns, or refused.
@@ -26,7 +26,7 @@ pub enum Answer {
     Refused(Refusal),
 }
 
-// The refusal's number in the table, 1 to 13.
+// The refusal's number in the table: 1 to 14, without 4.
 pub fn number(refusal: Refusal) -> u8
     ensures { λ r. ⌜ r ≡ reported refusal .number ⌝ }
 {
@@ -34,7 +34,6 @@ pub fn number(refusal: Refusal) -> u8
         Refusal::RingSize => 1,
         Refusal::ShortTable => 2,
         Refusal::NotInForm => 3,
-        Refusal::EmptyGroup => 4,
         Refusal::OutsideRing(_) => 5,
         Refusal::Repeated(_) => 6,
         Refusal::BookFull => 7,
@@ -44,6 +43,7 @@ pub fn number(refusal: Refusal) -> u8
         Refusal::RingFile(_) => 11,
         Refusal::TreeText(_) => 12,
         Refusal::BinCounts => 13,
+        Refusal::NoAim => 14,
     }
 }
 
@@ -59,12 +59,12 @@ pub fn place(refusal: Refusal) -> usize
         Refusal::RingSize => 0,
         Refusal::ShortTable => 0,
         Refusal::NotInForm => 0,
-        Refusal::EmptyGroup => 0,
         Refusal::BookFull => 0,
         Refusal::Impossible => 0,
         Refusal::NoSuchGroup => 0,
         Refusal::NotConsecutive => 0,
         Refusal::BinCounts => 0,
+        Refusal::NoAim => 0,
     }
 }
 

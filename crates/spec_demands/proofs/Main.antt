@@ -1,25 +1,31 @@
--- The three demands and document 02's No. 1, proved by citing: the refusals and what they keep, the promises' own demands on joining, trial, order,
--- conflict and intersection, and the round trip of a text.
-use mathlib.Core.Path.{_≡_, sym, _∙_, ap}
-use mathlib.Core.Logic.{_≢_}
+-- The three demands and document 02's Nos. 1 and 2, proved by citing: the refusals and what they keep, the promises' own demands on joining, trial,
+-- order, conflict and intersection, the round trip of a text, and the laws of empty groups.
+use mathlib.Core.Path.{_≡_, refl, sym, _∙_, ap, subst}
+use mathlib.Core.Logic.{_↔_, _≢_}
 use mathlib.Core.List.{List}
 use Prim.Native.Nat.{ℕ, _+_, _≤_}
 use lib.ListN.{length, take, drop}
 use Rattle.spec_orders.specs.Tree.{Forest}
 use Rattle.spec_orders.specs.Form.{StandardOrder}
-use Rattle.spec_orders.specs.CircularOrder.{group-of}
-use Rattle.spec_calls.specs.Tables.{lent-nodes, same-ring, Nodes, Book, padded}
+use Rattle.spec_orders.specs.CircularOrder.{group-of, EmptyGroup}
+use Rattle.spec_orders.proofs.Members.{elem-in, all-in}
+use Rattle.spec_orders.proofs.EmptyGroups.{empty-consecutive}
+use Rattle.spec_calls.specs.Tables.{lent-nodes, same-ring, Nodes, Book, lent-book, padded}
 use Rattle.spec_calls.specs.Refusals.{Reply, reply}
-use Rattle.spec_calls.specs.Calls.{Ring, Filled, ring, filled-as, open-refusal, open-call, joined-tree, join-refusal, join-call, trial-call, order-call, aim-call, write-call, conflicts-of, conflict-refusal, conflict-call, intersect-refusal, intersect-call}
-use Rattle.spec_calls.specs.Demands.{LentTree}
+use Rattle.spec_calls.specs.Calls.{Ring, Filled, ring, filled-as, open-refusal, open-call, joined-tree, join-refusal, join-call, trial-call, order-call, aim-call, write-call, group-numbered, conflicts-of, conflict-refusal, conflict-call, intersect-refusal, intersect-call}
+use Rattle.spec_calls.specs.Demands.{LentTree, LentBook}
 use Rattle.spec_calls.specs.Promises.{JoinPromise, OrderPromise, IntersectPromise}
-use Rattle.spec_calls.proofs.Demands.{join-done, order-done, first-among}
+use Rattle.spec_calls.proofs.Demands.{empty-well-formed, join-done, order-done, first-among}
 use Rattle.spec_calls.proofs.Intersect.{intersect-done, intersect-either, intersect-past}
+use Rattle.spec_calls.proofs.Books.{booked-form}
+use Rattle.spec_calls.proofs.EmptyGroups.{next-empty, next-in-form, join-empty, join-empty-full, conflict-joined, aim-empty}
+use Rattle.spec_calls.proofs.Reports.{never-4}
 use Rattle.spec_calls.proofs.Refused.{open-keeps, join-keeps, read-call-keeps}
-use Rattle.spec_demands.specs.Demands.{FirstDemand, Asked, NewRing, SecondDemand, ThirdDemand, AskedBoth, OneRing, TwoTrees}
+use Rattle.spec_demands.specs.Demands.{FirstDemand, Asked, NewRing, SecondDemand, ThirdDemand, AskedBoth, OneRing, TwoTrees, EmptyGroups}
 use Rattle.spec_demands.proofs.Refusals.{by-the-table, ring-by-the-table, filled-by-the-table, open-answer, join-answer, read-answer, some-refusal}
 use Rattle.spec_demands.proofs.Places.{same-numbers, filled-done}
 use Rattle.spec_demands.proofs.RoundTrip.{lent-again, written-read, read-written}
+use Rattle.spec_demands.proofs.EmptyGroups.{possible-more, places-never-name, empty-list}
 
 pub first-demand : FirstDemand
 unfolding open-call join-call trial-call order-call aim-call write-call conflict-call intersect-call
@@ -54,6 +60,9 @@ module _ (nodes : Nodes) (book : Book) (list : List ℕ) (t : Forest) (a : Asked
       record {
         accepted = ap (λ (x : Ring). x .answer) (e .0) ∙ d .0;
         in-book = ap (λ (x : Ring). x .book) (e .0) ∙ d .1;
+        in-form =
+            subst (λ (b : Book). LentBook (nodes .bins) (lent-book (b .words) (book .count + 1))) (sym (ap (λ (x : Ring). x .book) (e .0) ∙ d .1))
+            (booked-form (nodes .bins) book (group-of (nodes .bins) list) (a .groups) (a .place-left) (λ x i. all-in (λ b. (1 ≤ b) × (b ≤ nodes .bins)) x list (a .group .in-range) (elem-in list x i) .1));
         tree = j;
         standard = λ records order order′ answer r l p.
             let h = lent-again (nodes .bins) records rows′ (j .new) (a .tree .some-leaf) (a .tree .few-leaves) r (j .held) in
@@ -114,4 +123,24 @@ two-trees = record {
       let same = e .0 ∙ intersect-either nodes other (lent-nodes (nodes .bins) records rows) ∙ sym (f .0) in
       (ap (λ (x : Filled). x .answer) same, ap (λ (x : Filled). x .table) same);
   past = λ nodes other third third′ said e. ap (λ (x : Filled). drop 65792 (x .table)) (e .0) ∙ intersect-past nodes other third;
+}
+
+pub empty-groups : EmptyGroups
+empty-groups = record {
+  never-4 = never-4;
+  well-formed = λ n. (empty-well-formed n, λ x. refl);
+  in-every-order = empty-consecutive;
+  joining = λ nodes book t h b l rows′ book′ said e.
+      let same = e .0 ∙ join-empty nodes book t h b l in
+      (ap (λ (x : Ring). x .answer) same, ap (λ (x : Ring). x .rows) same, ap (λ (x : Ring). x .book) same);
+  full = λ nodes book t h b q rows′ book′ said e. ap (λ (x : Ring). x .answer) (e .0 ∙ join-empty-full nodes book t h b q);
+  place = next-empty;
+  in-form = next-in-form;
+  aiming = λ nodes book t h b k l m said e. subst (λ (s : Reply). (s ≡ reply 14 0) ↔ EmptyGroup (group-numbered (book .words) k)) (sym e) (aim-empty nodes book t h b k l m);
+  possible = λ n book b l. possible-more n book (next-empty n book b l);
+  lists-stay = λ n book b l list conflicts one′ two′ one two e f.
+      let same = f .0 ∙ conflict-joined n book b l list conflicts ∙ sym (e .0) in
+      (ap (λ (x : Filled). x .answer) same, ap (λ (x : Filled). x .table) same);
+  never-named = λ n book list conflicts l m b w places conflicts′ said e. places-never-name n book list said conflicts′ (e .1 l m b places w);
+  as-new = λ n book conflicts l m b places conflicts′ said e. empty-list n book said conflicts′ (e .1 l m b places (empty-well-formed n));
 }

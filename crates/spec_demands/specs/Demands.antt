@@ -7,16 +7,16 @@ use mathlib.Core.Logic.{_↔_, _≢_}
 use mathlib.Core.Option.{Option, none, some}
 use mathlib.Core.List.{List, [], _∷_, _++_, map}
 use Prim.Native.Nat.{ℕ, _+_, _≤_, _<_}
-use lib.ListN.{length, take, drop}
+use lib.ListN.{length, getD, take, drop}
 use Rattle.spec_orders.specs.Lists.{numbers-from}
-use Rattle.spec_orders.specs.CircularOrder.{Restriction, WellFormed, group-of, Consecutive, Possible}
+use Rattle.spec_orders.specs.CircularOrder.{Restriction, WellFormed, group-of, EmptyGroup, Consecutive, Possible}
 use Rattle.spec_orders.specs.Tree.{Forest, Allowed}
 use Rattle.spec_orders.specs.Form.{FirstOf, StandardOrder}
 use Rattle.spec_orders.specs.TreeText.{tree, refused, Reads}
 use Rattle.spec_orders.specs.Conflict.{Numbers}
 use Rattle.spec_calls.specs.declared.Refusal.{Refusal}
 use Rattle.spec_calls.specs.declared.Refusal.the-variants.{TreeText}
-use Rattle.spec_calls.specs.Tables.{Nodes, lent-nodes, leaves, same-ring, Book, padded}
+use Rattle.spec_calls.specs.Tables.{Nodes, lent-nodes, leaves, same-ring, Book, lent-book, padded}
 use Rattle.spec_calls.specs.Book.{with-group}
 use Rattle.spec_calls.specs.NodeTable.{Holds}
 use Rattle.spec_calls.specs.Refusals.{Reply, reply, reported}
@@ -28,8 +28,9 @@ use Rattle.spec_calls.specs.Promises.{OpenPromise, JoinPromise, TrialPromise, O
 
 -- "Any call, given any numbers, tables or text, ends and does nothing undefined": so does every proved function where its `requires` holds, and no
 -- call has a `requires`. "One that must be refused gives the number in the table of document 01 and leaves every table as that table says", which is
--- as it was. `must` is the first refusal down that table (document 02's 13 stands right after 2 there), if there is one; `Kept` says that the tables
--- which the call may write are as they were. (Others are lent to be read only.) A call that need not be refused is done and returns 0.
+-- as it was. `must` is the first refusal down that table, if there is one (document 02's 13 stands right after 2 there and 14 after 9, and 4 is no
+-- longer given); `Kept` says that the tables which the call may write are as they were. (Others are lent to be read only.) A call that need not be
+-- refused is done and returns 0.
 pub record ByTheTable (must : Option Refusal) (said : Reply) (Kept : Type 0) : Type 0 where
   pub refused : (r : Refusal) → must ≡ some r → (said ≡ reported r) × Kept
   pub done : (said .number ≡ 0) ↔ (must ≡ none)
@@ -73,11 +74,13 @@ pub record Asked (nodes : Nodes) (book : Book) (list : List ℕ) (t : Forest) : 
   pub place-left : book .count < 96
   pub group : WellFormed (nodes .bins) list
 
--- "Otherwise the new tree allows exactly those that do, and the standard order is the first of them." The group is accepted, and the rows hold the
--- new tree (`NewTree`). Who then calls for its standard order, with these rows in 256 records or more, has the first of those orders in the n places.
+-- "Otherwise the new tree allows exactly those that do, and the standard order is the first of them." The group is accepted, the rows hold the new
+-- tree (`NewTree`), and the book is in form with the group. Who then calls for the tree's standard order, with these rows in 256 records or more, has
+-- the first of those orders in the n places.
 pub record NewRing (nodes : Nodes) (book : Book) (G : Restriction) (t : Forest) (rows′ : List ℕ) (book′ : Book) (said : Reply) : Type 0 where
   pub accepted : said ≡ reply 0 (book .count + 1)
   pub in-book : book′ ≡ with-group book G
+  pub in-form : LentBook (nodes .bins) (lent-book (book′ .words) (book .count + 1))
   pub tree : NewTree (leaves nodes) G t rows′
   pub standard : (records : ℕ) (order order′ : List ℕ) (answer : Reply) → 256 ≤ records → nodes .bins ≤ length order
       → OrderPromise (same-ring nodes records rows′) order order′ answer
@@ -172,3 +175,43 @@ pub record TwoTrees : Type 0 where
       → (one ≡ two) × (one′ ≡ two′)
   -- What stands past the third table's 256 records stays, whatever is lent.
   pub past : (nodes other third : Nodes) (third′ : List ℕ) (said : Reply) → IntersectPromise nodes other third third′ said → drop 65792 third′ ≡ drop 65792 (third .rows)
+
+-- ==== Document 02, No. 2: a line with no bins
+
+-- The book with one empty group more than it was lent with: its words are the same, and its count is one more.
+abbrev pub with-empty : Book → Book
+with-empty book = lent-book (book .words) (book .count + 1)
+
+pub record EmptyGroups : Type 0 where
+  -- "Number 4 is no longer given." (`FirstDemand`: each call returns a refusal's number, or 0.)
+  pub never-4 : (r : Refusal) → reported r .number ≢ 4
+  -- "An empty group [...] is well formed: it hangs together in every order." The list [] names one.
+  pub well-formed : (n : ℕ) → WellFormed n [] × EmptyGroup (group-of n [])
+  pub in-every-order : (G : Restriction) → EmptyGroup G → (ord : List ℕ) → Consecutive G ord
+  -- It "shall be accepted", "changes no tree and takes a book place", where one is left; else 7. No table changes: a group without marks is four
+  -- zeros, as is the place that it takes.
+  pub joining : (nodes : Nodes) (book : Book) (t : Forest) → LentTree nodes t → LentBook (nodes .bins) book → book .count < 96
+      → (rows′ : List ℕ) (book′ : Book) (said : Reply) → JoinPromise nodes book [] rows′ book′ said
+      → (said ≡ reply 0 (book .count + 1)) × (rows′ ≡ nodes .rows) × (book′ ≡ book)
+  pub full : (nodes : Nodes) (book : Book) (t : Forest) → LentTree nodes t → LentBook (nodes .bins) book → book .count ≡ 96
+      → (rows′ : List ℕ) (book′ : Book) (said : Reply) → JoinPromise nodes book [] rows′ book′ said → said ≡ reply 7 0
+  pub place : (n : ℕ) (book : Book) → LentBook n book → book .count < 96 → EmptyGroup (group-numbered (book .words) (book .count + 1))
+  -- "So a book group without marks is in form": the book is, with this group. (`NewRing` says so of any group that joins.)
+  pub in-form : (n : ℕ) (book : Book) → LentBook n book → book .count < 96 → LentBook n (with-empty book)
+  -- "14 when the aim of an empty group is wanted."
+  pub aiming : (nodes : Nodes) (book : Book) (t : Forest) → LentTree nodes t → LentBook (nodes .bins) book → (k : ℕ) → 1 ≤ k → k ≤ book .count
+      → (said : Reply) → AimPromise nodes book k said → (said ≡ reply 14 0) ↔ EmptyGroup (group-numbered (book .words) k)
+  -- "An empty group joined to a possible book never causes a conflict." Joined to any book in form, it leaves possible what was possible, and no
+  -- conflict list of any group changes;
+  pub possible : (n : ℕ) (book : Book) → LentBook n book → book .count < 96
+      → Possible n (groups-numbered book (all-numbers (with-empty book))) ↔ Possible n (groups-numbered book (all-numbers book))
+  pub lists-stay : (n : ℕ) (book : Book) → LentBook n book → book .count < 96 → (list conflicts one′ two′ : List ℕ) (one two : Reply)
+      → ConflictPromise n book list conflicts one′ one → ConflictPromise n (with-empty book) list conflicts two′ two → (two ≡ one) × (two′ ≡ one′)
+  -- no list names one, wherever it stands in the book;
+  pub never-named : (n : ℕ) (book : Book) (list conflicts : List ℕ) → 1 ≤ n → n ≤ 256 → LentBook n book → WellFormed n list → 96 ≤ length conflicts
+      → (conflicts′ : List ℕ) (said : Reply) → ConflictPromise n book list conflicts conflicts′ said
+      → (place : ℕ) → place < said .value → EmptyGroup (group-numbered (book .words) (getD conflicts′ place 0)) → ⊥
+  -- and as the new group it has the empty list iff the book can hang together by itself.
+  pub as-new : (n : ℕ) (book : Book) (conflicts : List ℕ) → 1 ≤ n → n ≤ 256 → LentBook n book → 96 ≤ length conflicts
+      → (conflicts′ : List ℕ) (said : Reply) → ConflictPromise n book [] conflicts conflicts′ said
+      → (said ≡ reply 0 0) ↔ Possible n (groups-numbered book (all-numbers book))

@@ -1,5 +1,5 @@
--- Two listings, computed: the sample of document 01; and one with an empty line, with two refused ones of which the second names a line behind the
--- first, and with a group that is aimed at another leaf in the final order than when it was joined.
+-- Two listings, computed: the sample of document 01; and one with a line with no leaf, with two refused ones of which the second names a line behind
+-- the first, and with a group that is aimed at another leaf in the final order than when it was joined.
 use mathlib.Core.Path.{_≡_, refl}
 use mathlib.Core.Bool.{true}
 use mathlib.Core.List.{List, [], _∷_}
@@ -33,7 +33,7 @@ sample-right = refl
 
 pub lines-right : Prints ([] ∷ (2 ∷ 3 ∷ []) ∷ (3 ∷ 4 ∷ []) ∷ (2 ∷ 4 ∷ []) ∷ (2 ∷ 5 ∷ []) ∷ (3 ∷ 5 ∷ []) ∷ [])
     (bytes "line answer aim conflict"
-    ∷ bytes "1 empty - -"
+    ∷ bytes "1 kept - -"
     ∷ bytes "2 kept C -"
     ∷ bytes "3 kept D -"
     ∷ bytes "4 refused - 2,3"

@@ -26,12 +26,11 @@ pub record RingState : Type 0 where
 abbrev pub opened : ℕ → RingState
 opened n = record { tree = fresh n; groups = []; lines = [] }
 
--- A group line has the group of its leaves. What it comes to: "`kept`", with the new tree; "`refused` (8)", with the numbers of the book's groups in conflict; "`empty` (4)";
--- "`full` (7)". 4 comes before 7, and 7 before 8.
+-- A group line has the group of its leaves. What it comes to: "`kept`", with the new tree; "`refused` (8)", with the numbers of the book's groups in
+-- conflict; "`full` (7)". 7 comes before 8. Document 02, No. 2: a line with no leaf is such a line too, "`kept`" or "`full` where 7 applies".
 pub data Outcome : Type 0 where
   kept : Forest → Outcome
   refused : List ℕ → Outcome
-  empty : Outcome
   full : Outcome
 
 abbrev pub joined : ℕ → RingState → Restriction → Option Forest → Outcome
@@ -39,14 +38,12 @@ joined n s G (some t) = kept t
 joined n s G none = refused (ring-conflicts n (numbered (s .groups)) (length (s .groups)) G)
 
 unfoldable pub outcome : ℕ → RingState → List ℕ → Outcome
-outcome n s [] = empty
-outcome n s (b ∷ l) = cond (eqb (length (s .groups)) 96) full (joined n s (elem (b ∷ l)) (join (elem (b ∷ l)) (s .tree)))
+outcome n s list = cond (eqb (length (s .groups)) 96) full (joined n s (elem list) (join (elem list) (s .tree)))
 
 -- The ring after the group line with number k; after the lines from number k on; after the first l of all lines.
 abbrev pub next : RingState → ℕ → List ℕ → Outcome → RingState
 next s k list (kept t) = record { tree = t; groups = s .groups ++ (elem list ∷ []); lines = s .lines ++ (k ∷ []) }
 next s k list (refused ns) = s
-next s k list empty = s
 next s k list full = s
 
 unfoldable pub run : ℕ → RingState → ℕ → List (List ℕ) → RingState
@@ -69,12 +66,16 @@ name names b = getD names (b - 1) []
 abbrev pub commas : List ℕ → List ℕ → List ℕ
 commas lines numbers = between 44 (map (λ j. digits (getD lines (j - 1) 0)) numbers)
 
--- "Fields: group line from 1; `kept`, `refused`, `empty` or `full`; the aim's name in the final order; the input lines in conflict. `-` marks a
--- field that does not apply. One space stands between fields." What follows the line's number.
+-- "The aim's name in the final order." Document 02, No. 2: "aim `-`" where the group has no leaf.
+abbrev pub aim-field : List (List ℕ) → List ℕ → List ℕ → List ℕ
+aim-field names ord [] = bytes "-"
+aim-field names ord (b ∷ l) = name names (aim-of (elem (b ∷ l)) ord)
+
+-- "Fields: group line from 1; `kept`, `refused` [...] or `full`; the aim's name in the final order; the input lines in conflict. `-` marks a field
+-- that does not apply. One space stands between fields." What follows the line's number.
 unfoldable pub fields : List (List ℕ) → List ℕ → RingState → List ℕ → Outcome → List ℕ
-fields names ord s list (kept t) = bytes " kept " ++ (name names (aim-of (elem list) ord) ++ bytes " -")
+fields names ord s list (kept t) = bytes " kept " ++ (aim-field names ord list ++ bytes " -")
 fields names ord s list (refused ns) = bytes " refused - " ++ commas (s .lines) ns
-fields names ord s list empty = bytes " empty - -"
 fields names ord s list full = bytes " full - -"
 
 -- The printed lines of the group lines from number k on.

@@ -1,5 +1,5 @@
 -- A restriction (document 01: a group) joins a tree in form. It is impossible iff it is consecutive in no allowed order; else the orders in
--- which it is are those left, and the tree is in form. A restriction to 1, n − 1 or n leaves changes nothing.
+-- which it is are those left, and the tree is in form. A restriction to no leaf, or to 1, n − 1 or n leaves, changes nothing.
 use mathlib.Core.Path.{_∙_, _≡_, ap, refl, subst, sym}
 use mathlib.Core.Logic.{_↔_, _⊎_, inl, inr}
 use mathlib.Core.Bool.{Bool, Bool·not-not, cond, false, not, true, true≢false}
@@ -9,7 +9,7 @@ use Prim.Native.Nat.{_+_, _≤_, suc, zero, ℕ}
 use native.Mathlib.Omega.{arith}
 use lib.ListN.{length}
 use Rattle.spec_orders.specs.Lists.{All, Distinct, In, elem, numbers-from, Rearranged}
-use Rattle.spec_orders.specs.CircularOrder.{others, Restriction, WellFormed, Consecutive}
+use Rattle.spec_orders.specs.CircularOrder.{others, Restriction, WellFormed, EmptyGroup, Consecutive}
 use Rattle.spec_orders.specs.Tree.{Forest, items, frontier, Consistent, Allowed}
 use Rattle.spec_orders.specs.Form.{Canonical, Single, InForm, StandardOrder, standard}
 use Rattle.spec_orders.specs.Reduce.{complement, reduce}
@@ -24,7 +24,7 @@ use Rattle.spec_orders.proofs.Forms.{not-one, form-distinct}
 use Rattle.spec_orders.proofs.Gives.{Gives}
 use Rattle.spec_orders.proofs.ReduceOrders.{reduce-ok, reduce-frontier, reduce-single}
 use Rattle.spec_orders.proofs.ReduceForm.{reduce-canonical}
-use Rattle.spec_orders.proofs.ReduceIdle.{reduce-few, reduce-all}
+use Rattle.spec_orders.proofs.ReduceIdle.{reduce-few, reduce-outside, reduce-all}
 use Rattle.spec_orders.proofs.StandardOrders.{standard-allowed, standard-is}
 
 -- The circular orders of an answer.
@@ -120,25 +120,27 @@ join-stays n G t f b x h = go (G 1) refl b h
     go true q false h = few (complement G) (λ y i e. h y (inr (other-of y i)) (sym (Bool·not-not (G y)) ∙ ap not e))
     go false q true h = few G (λ y i e. h y (inr (other-of y i)) e)
 
-pub join-idle : (n : ℕ) (l : List ℕ) (t : Forest) → WellFormed n l → InForm n t → (length l ≡ 1) ⊎ (length l + 1 ≡ n) ⊎ (length l ≡ n) → join (elem l) t ≡ some t
-join-idle n l t w f (inl e) = one-leaf l e
+-- An empty group changes no tree.
+pub empty-joins : (G : Restriction) (t : Forest) → EmptyGroup G → Single (items t) → join G t ≡ some t
+unfolding join side
+empty-joins G t e one = rw (e 1) (reduce-outside G t one (in-all (λ y. G y ≡ false) (frontier t) (λ y i. e y)))
+
+pub join-idle : (n : ℕ) (l : List ℕ) (t : Forest) → WellFormed n l → InForm n t → (length l ≡ 0) ⊎ (length l ≡ 1) ⊎ (length l + 1 ≡ n) ⊎ (length l ≡ n) → join (elem l) t ≡ some t
+join-idle n [] t w f e = empty-joins (elem []) t (λ x. refl) (f .single)
+join-idle n (x ∷ l) t w f (inl e) = absurd (omega arith)
+join-idle n (x ∷ l) t w f (inr (inl e)) = one-leaf l e
   where
-    one-leaf : (l : List ℕ) → length l ≡ 1 → join (elem l) t ≡ some t
-    one-leaf [] e = absurd (omega arith)
-    one-leaf (x ∷ (z ∷ l)) e = absurd (omega arith)
-    one-leaf (x ∷ []) e = join-stays n (elem (x ∷ [])) t f true x (λ y i q. in-one x y (elem-in (x ∷ []) y q))
-join-idle n l t w f (inr e) = most-leaves n w f (size e)
+    one-leaf : (l : List ℕ) → suc (length l) ≡ 1 → join (elem (x ∷ l)) t ≡ some t
+    one-leaf (z ∷ l) e = absurd (omega arith)
+    one-leaf [] e = join-stays n (elem (x ∷ [])) t f true x (λ y i q. in-one x y (elem-in (x ∷ []) y q))
+join-idle n (x ∷ l) t w f (inr (inr e)) = most-leaves n w f (size e)
   where
-    size : (length l + 1 ≡ n) ⊎ (length l ≡ n) → n ≤ suc (length l)
+    size : (suc (length l) + 1 ≡ n) ⊎ (suc (length l) ≡ n) → n ≤ suc (suc (length l))
     size (inl e) = omega arith
     size (inr e) = omega arith
 
-    most-leaves : (n : ℕ) → WellFormed n l → InForm n t → n ≤ suc (length l) → join (elem l) t ≡ some t
-    most-leaves zero w f e = no-leaf l (w .some-leaf) (w .in-range)
-      where
-        no-leaf : (l : List ℕ) → 1 ≤ length l → All (λ b. (1 ≤ b) × (b ≤ 0)) l → join (elem l) t ≡ some t
-        no-leaf [] h a = absurd (omega arith)
-        no-leaf (x ∷ l) h a = absurd (omega (arith, a .0 .0, a .0 .1))
+    most-leaves : (n : ℕ) → WellFormed n (x ∷ l) → InForm n t → n ≤ suc (suc (length l)) → join (elem (x ∷ l)) t ≡ some t
+    most-leaves zero w f e = absurd (omega arith)
     most-leaves (suc n) w f e =
-        let r = all-but-one l (numbers-from 1 (suc n)) (w .different) (λ y i. let b = all-in (λ b. (1 ≤ b) × (b ≤ suc n)) y l (w .in-range) i in numbers-in 1 (suc n) y (b .0) (omega (arith, b .1))) (omega (arith, numbers-length 1 (suc n))) in
-        join-stays (suc n) (elem l) t f false (r .0) (λ y i q. r .1 y i (λ j. true≢false (sym (in-elem l y j) ∙ q)))
+        let r = all-but-one (x ∷ l) (numbers-from 1 (suc n)) (w .different) (λ y i. let b = all-in (λ b. (1 ≤ b) × (b ≤ suc n)) y (x ∷ l) (w .in-range) i in numbers-in 1 (suc n) y (b .0) (omega (arith, b .1))) (omega (arith, numbers-length 1 (suc n))) in
+        join-stays (suc n) (elem (x ∷ l)) t f false (r .0) (λ y i q. r .1 y i (λ j. true≢false (sym (in-elem (x ∷ l) y j) ∙ q)))

@@ -26,8 +26,8 @@ pub mod Reduced
 pub mod ReduceOrders
 pub mod ReduceForm
 pub mod ReduceIdle
--- The theorems: the form tests, the standard order, the tree text, a restriction that joins, the fresh ring, the order tests, the conflict list, leaves in no
--- restriction, the marked circles.
+-- The theorems: the form tests, the standard order, the tree text, a restriction that joins, the fresh ring, the order tests, the conflict list,
+-- empty groups, leaves in no restriction, the marked circles.
 pub mod FormTests
 pub mod StandardOrders
 pub mod Digits
@@ -38,5 +38,6 @@ pub mod Joining
 pub mod Fresh
 pub mod Decide
 pub mod Conflicts
+pub mod EmptyGroups
 pub mod Unused
 pub mod Circles

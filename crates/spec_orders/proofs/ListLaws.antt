@@ -1,5 +1,6 @@
 -- Laws of lists: a statement of every element, and parts of a list.
-use mathlib.Core.Path.{_≡_, ap}
+use mathlib.Core.Path.{_≡_, refl, ap}
+use mathlib.Core.Logic.{_↔_}
 use mathlib.Core.List.{List, [], _++_, _∷_}
 use Prim.Native.Nat.{ℕ, zero, suc, _+_, _-_, _<_}
 use native.Mathlib.Omega.{arith}
@@ -19,6 +20,16 @@ module _ {A : Type 0} where
   pub all-right : (P : A → Type 0) (a b : List A) → All P (a ++ b) → All P b
   all-right P [] b h = h
   all-right P (x ∷ a) b h = all-right P a b (h .1)
+
+  pub all-middle : (P : A → Type 0) (a : List A) (x : A) (b : List A) → All P (a ++ (x ∷ b)) ↔ (All P (a ++ b) × P x)
+  all-middle P a x b = (
+    (λ h. let r = all-right P a (x ∷ b) h in (all-append P a b (all-left P a (x ∷ b) h) (r .1), r .0)),
+    (λ h. all-append P a (x ∷ b) (all-left P a b (h .0)) (h .1, all-right P a b (h .0))),
+  )
+
+  pub none-of-length : (l : List A) → length l ≡ 0 → l ≡ []
+  none-of-length [] e = refl
+  none-of-length (x ∷ l) e = absurd (omega arith)
 
   pub all-map : (P Q : A → Type 0) → ((x : A) → P x → Q x) → (l : List A) → All P l → All Q l
   all-map P Q f [] h = tt

@@ -27,6 +27,10 @@ module _ {A : Type 0} where
   in-nonempty x [] h = h
   in-nonempty x (y ∷ l) h = tt
 
+  pub nothing-in : (l : List A) → ((x : A) → In x l → ⊥) → l ≡ []
+  nothing-in [] h = refl
+  nothing-in (y ∷ l) h = absurd (h y (inl refl))
+
   pub nil-not : (a : List A) (x : A) (b : List A) → [] ≡ a ++ (x ∷ b) → ⊥
   nil-not [] x b e = subst NonEmpty (sym e) tt
   nil-not (y ∷ a) x b e = subst NonEmpty (sym e) tt

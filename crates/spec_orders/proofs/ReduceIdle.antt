@@ -62,6 +62,9 @@ pack-one (node-item k i) = refl
 pub pack-two : (f : Forest) → TwoItems (items f) → pack f ≡ node P f nil
 pack-two f h = cond-cases (ltb 1 (length (items f))) (node P f nil) f (λ z. z ≡ node P f nil) (λ y. refl) (λ n. absurd (omega (arith, ltb-false 1 (length (items f)) n)))
 
+empty-not-partial : empty ≡ partial → ⊥
+empty-not-partial e = true≢false (ap (is empty) e)
+
 -- A node with one item that is not empty, and that stays: the node stays.
 module _ (a : List Part) (p : Part) (b : List Part) (ha : Of empty a) (hb : Of empty b) (n : is empty (p .sort) ≡ false) (st : p .reduced ≡ some (one (p .item))) where
   middle-here : middle (p ∷ b) ≡ some (whole (p ∷ b))
@@ -183,7 +186,7 @@ module _ (S : Restriction) where
         go (inr m) a b =
             past q (parts S f) (part-sort (class S (frontier i)) k i (parts S i) ∙ class-out (frontier i) (outside (frontier i) (λ o. apart x (frontier i) (frontier f) d o m) hi)) (b m)
 
-  -- At most one marked leaf; only marked leaves.
+  -- At most one marked leaf; no marked leaf; only marked leaves.
   pub reduce-few : (t : Forest) → Single (items t) → Canonical t → Distinct (frontier t) → (x : ℕ) → ((y : ℕ) → In y (frontier t) → S y ≡ true → y ≡ x) → reduce S t ≡ some t
   unfolding reduce
   reduce-few nil l c d x h = refl
@@ -198,10 +201,14 @@ module _ (S : Restriction) where
           let r = of-some S (frontier i) q in
           let z = hi (r .0) (r .1) (r .2) in
           reduced-back k i (c .0 .0 .0) (c .0 .0 .1) (spot x (subst (λ y. S y ≡ true) z (r .2)) i (c .0 .1) (subst (λ y. In y (frontier i)) z (r .1)) (subst Distinct (append-nil (frontier i)) d) hi)
-      go false q e = absurd (no (sym (ap (λ a. class-by a (some-of (complement S) (frontier i))) q) ∙ e))
-        where
-          no : empty ≡ partial → ⊥
-          no f = true≢false (ap (is empty) f)
+      go false q e = absurd (empty-not-partial (sym (ap (λ a. class-by a (some-of (complement S) (frontier i))) q) ∙ e))
+
+  pub reduce-outside : (t : Forest) → Single (items t) → Outside S (frontier t) → reduce S t ≡ some t
+  unfolding reduce
+  reduce-outside nil l h = refl
+  reduce-outside (leaf b nil) l h = refl
+  reduce-outside (node k i nil) l h =
+      part-stays (class S (frontier i)) k i (λ e. absurd (empty-not-partial (sym (class-out (frontier i) (all-left _ (frontier i) [] h)) ∙ e)))
 
   pub reduce-all : (t : Forest) → Single (items t) → Inside S (frontier t) → reduce S t ≡ some t
   unfolding reduce
@@ -210,5 +217,5 @@ module _ (S : Restriction) where
   reduce-all (node k i nil) l h = part-stays (class S (frontier i)) k i (λ e. absurd (not-partial (frontier i) (all-left _ (frontier i) [] h) e))
     where
       not-partial : (xs : L) → Inside S xs → class S xs ≡ partial → ⊥
-      not-partial [] h e = true≢false (ap (is empty) e)
+      not-partial [] h e = empty-not-partial e
       not-partial (y ∷ xs) h e = subst (Mark S (y ∷ xs)) e (mark S (y ∷ xs) tt) .1 h

@@ -4,7 +4,6 @@ use mathlib.Core.Path.{_≡_}
 use mathlib.Core.Bool.{Bool, true, false}
 use mathlib.Core.List.{List, [], _∷_, _++_}
 use Prim.Native.Nat.{ℕ, zero, suc, _≤_}
-use lib.ListN.{length}
 use Rattle.spec_orders.specs.Lists.{All, Distinct, elem, Rearranged, numbers-from}
 
 -- The leaves of a ring of n but leaf 1: 2 to n.
@@ -23,15 +22,18 @@ pub record CircularOrder (n : ℕ) (ord : List ℕ) : Type 0 where
 abbrev pub Restriction : Type 0
 Restriction = ℕ → Bool
 
--- "A group is a list of 1 to n different bins." (Different leaves from 1 to n are at most n.)
+-- "A group is a list of [...] different bins" (different leaves from 1 to n are at most n). Document 02, No. 2: an empty group "is well formed".
 pub record WellFormed (n : ℕ) (list : List ℕ) : Type 0 where
-  pub some-leaf : 1 ≤ length list
   pub in-range : All (λ b. (1 ≤ b) × (b ≤ n)) list
   pub different : Distinct list
 
 -- The group that a list names in a ring of n leaves.
 abbrev pub group-of : ℕ → List ℕ → Restriction
 group-of n list = elem list
+
+-- A group with no leaf.
+abbrev pub EmptyGroup : Restriction → Type 0
+EmptyGroup G = (x : ℕ) → G x ≡ false
 
 -- All leaves of the list are in the group; none is.
 abbrev pub Inside : Restriction → List ℕ → Type 0

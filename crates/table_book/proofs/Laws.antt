@@ -13,9 +13,9 @@ use lib.Dec.{eqb, ltb, leb}
 use borrow.Rule.Slice.PartMut.{putMid}
 use lib.ListN.{length, getD, take, drop, replicate, length-take, length-drop, length-replicate, List·getD-eq-default}
 use lib.Seq.{getD-take, getD-drop, drop-drop}
-use Rattle.spec_orders.specs.Lists.{numbers-from, same, all-of}
+use Rattle.spec_orders.specs.Lists.{numbers-from, all-of}
 use Rattle.spec_orders.specs.CircularOrder.{Restriction}
-use Rattle.mark_words.specs.Marks.{words-of, leaves-of, no-leaf}
+use Rattle.mark_words.specs.Marks.{words-of, no-mark?, no-leaf}
 use Rattle.mark_words.proofs.Words.{Words, no-words}
 use Rattle.mark_sets.proofs.Steps.{empty-all, empty-not}
 use Rattle.spec_calls.specs.Tables.{Book, over}
@@ -46,14 +46,14 @@ zero-at [] e k l = absurd (omega arith)
 zero-at (w ∷ ws) e zero l = sym (eqb-true 0 w (both Iff·rfl Iff·rfl .0 e .0))
 zero-at (w ∷ ws) e (suc k) l = zero-at ws (both {a = eqb 0 w} Iff·rfl Iff·rfl .0 e .1) k (omega arith)
 
-pub empty-zero : (ws : List ℕ) → Words ws → same (leaves-of ws) [] ≡ all-of (eqb 0) ws
-empty-zero ws v = go (same (leaves-of ws) []) refl
+pub empty-zero : (ws : List ℕ) → Words ws → no-mark? ws ≡ all-of (eqb 0) ws
+empty-zero ws v = go (no-mark? ws) refl
   where
-    zero-word : same (leaves-of ws) [] ≡ true → (k : ℕ) → Dec (getD ws k 0 ≡ 0) → getD ws k 0 ≡ 0
+    zero-word : no-mark? ws ≡ true → (k : ℕ) → Dec (getD ws k 0 ≡ 0) → getD ws k 0 ≡ 0
     zero-word q k (yes e) = e
     zero-word q k (no h) = absurd (true≢false (sym q ∙ empty-not ws k v h))
 
-    go : (b : Bool) → same (leaves-of ws) [] ≡ b → b ≡ all-of (eqb 0) ws
+    go : (b : Bool) → no-mark? ws ≡ b → b ≡ all-of (eqb 0) ws
     go true q = sym (all-zero ws (λ k l. zero-word q k (ℕ-discrete (getD ws k 0) 0)))
     go false q = sym (false-if (all-of (eqb 0) ws) (λ e. true≢false (sym (empty-all ws (zero-at ws e)) ∙ q)))
 

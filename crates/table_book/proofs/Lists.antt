@@ -16,8 +16,8 @@ use Rattle.spec_orders.proofs.ListLaws.{tail, tail-is}
 use Rattle.mark_words.specs.Marks.{marked, words-of, with-leaf, no-leaf}
 use Rattle.mark_words.proofs.Words.{marked-words, words-agree}
 use Rattle.mark_words.proofs.Leaves.{marked-group}
-use Rattle.spec_calls.specs.declared.Refusal.the-variants.{EmptyGroup, OutsideRing, Repeated}
-use Rattle.spec_calls.specs.Refusals.{first-refusal, bad-leaf, list-checks}
+use Rattle.spec_calls.specs.declared.Refusal.the-variants.{OutsideRing, Repeated}
+use Rattle.spec_calls.specs.Refusals.{bad-leaf, bad-list}
 use Rattle.spec_calls.proofs.Demands.{passes-iff}
 use Rattle.table_book.specs.declared.Checked.{Checked}
 use Rattle.table_book.specs.declared.Checked.the-variants.{Fine, Bad}
@@ -79,16 +79,11 @@ leaf-new n s k (b ∷ l) words r h z m e f = go r (rw (← add-one, ← tail-is 
     go Fine f = (rw (ne-eqb b 0 z, le-ltb n b m, e) (f .0), f .1 ∙ words-agree 4 (elem (l ++ (b ∷ s))) (elem ((b ∷ l) ++ s)) (λ x i j. elem-later l s b x))
     go (Bad q) f = rw (ne-eqb b 0 z, le-ltb n b m, e) f
 
--- Checks 4, 5 and 6 together.
-pub checks-empty : (n : ℕ) (l : List ℕ) → length l ≡ 0 → first-refusal (list-checks n l) ≡ some EmptyGroup
-checks-empty n [] e = refl
-checks-empty n (b ∷ l) e = absurd (omega arith)
-
-pub checks-leaves : (n : ℕ) (l words : List ℕ) (r : Checked) → length l ≢ 0 → LeavesChecked n [] 0 l words r → ListChecked n l words r
-checks-leaves n [] words r h f = absurd (h refl)
-checks-leaves n (b ∷ l) words Fine h f = (rw (f .0), f .1 ∙ rw append-nil)
-checks-leaves n (b ∷ l) words (Bad r) h f = rw f
+-- The checks of a whole list are those of its leaves from the first on.
+pub list-checked : (n : ℕ) (l words : List ℕ) (r : Checked) → LeavesChecked n [] 0 l words r → ListChecked n l words r
+list-checked n l words Fine f = (f .0, f .1 ∙ rw append-nil)
+list-checked n l words (Bad r) f = f
 
 -- Four words hold the group of a list that passes.
-pub group-held : (n : ℕ) (l : List ℕ) → n ≤ 256 → first-refusal (list-checks n l) ≡ none → marked (words-of 4 (group-of n l)) ≡ group-of n l
+pub group-held : (n : ℕ) (l : List ℕ) → n ≤ 256 → bad-list n l ≡ none → marked (words-of 4 (group-of n l)) ≡ group-of n l
 group-held n l h e = marked-group 4 n l h (passes-iff n l .0 e)

@@ -7,7 +7,7 @@ use Rattle.spec_orders.specs.Lists.{elem}
 use Rattle.spec_orders.specs.CircularOrder.{group-of}
 use Rattle.mark_words.specs.Marks.{words-of}
 use Rattle.spec_calls.specs.declared.Refusal.{Refusal}
-use Rattle.spec_calls.specs.Refusals.{first-refusal, bad-leaf, list-checks}
+use Rattle.spec_calls.specs.Refusals.{bad-leaf, bad-list}
 use Rattle.table_book.specs.declared.Checked.{Checked}
 use Rattle.table_book.specs.declared.Checked.the-variants.{Fine, Bad}
 
@@ -20,7 +20,7 @@ abbrev pub LeavesChecked : ℕ → List ℕ → ℕ → List ℕ → List ℕ �
 LeavesChecked n earlier k list words Fine = (bad-leaf n earlier k list ≡ none) × (words ≡ words-of 4 (elem (list ++ earlier)))
 LeavesChecked n earlier k list words (Bad r) = bad-leaf n earlier k list ≡ some r
 
--- Checks 4, 5 and 6 on a list: it passes, and the four words mark the group that it names; or why not.
+-- The same of a whole list: it passes, and the four words mark the group that it names; or why not.
 abbrev pub ListChecked : ℕ → List ℕ → List ℕ → Checked → Type 0
-ListChecked n list words Fine = (first-refusal (list-checks n list) ≡ none) × (words ≡ words-of 4 (group-of n list))
-ListChecked n list words (Bad r) = first-refusal (list-checks n list) ≡ some r
+ListChecked n list words Fine = (bad-list n list ≡ none) × (words ≡ words-of 4 (group-of n list))
+ListChecked n list words (Bad r) = bad-list n list ≡ some r

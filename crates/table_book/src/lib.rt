@@ -7,7 +7,7 @@ ghost use Rattle.spec_orders.specs.Lists.{elem};
 ghost use Rattle.spec_orders.specs.CircularOrder.{Restriction};
 ghost use Rattle.mark_words.specs.Marks.{words-of};
 ghost use Rattle.spec_calls.specs.Tables.{lent-book};
-ghost use Rattle.spec_calls.specs.Book.{group-in-form?, book-in-form?, booked, emptied};
+ghost use Rattle.spec_calls.specs.Book.{book-in-form?, booked, emptied};
 ghost use Rattle.table_book.specs.Groups.{groups-in-form?};
 ghost use Rattle.table_book.specs.Lists.{LeavesChecked, ListChecked};
 use spec_calls::Refusal;
@@ -18,17 +18,7 @@ pub enum Checked {
     Bad(Refusal),
 }
 
-// Whether the group of these four words has a mark, and marks of leaves up to n only.
-fn group_in_form(words: &[u64], n: usize) -> bool
-    ensures { λ r. ⌜ r ≡ group-in-form? n (now (words .entry)) ⌝ }
-{
-    if mark_sets::is_empty(words) {
-        return false;
-    }
-    mark_sets::within(words, n)
-}
-
-// Whether the groups from place k up to the count are in form.
+// Whether the groups from place k up to the count are in form: they mark leaves up to n only.
 fn groups_in_form(book: &[u64], n: usize, k: usize, count: usize) -> bool
     requires { ⌜ (count ≤ 96) × (384 ≤ length (now book)) ⌝ }
     ensures { λ r. ⌜ r ≡ groups-in-form? n (lent-book (now (book .entry)) count) k ⌝ }
@@ -38,7 +28,7 @@ fn groups_in_form(book: &[u64], n: usize, k: usize, count: usize) -> bool
     }
     let at = 4 * k;
     let end = at + 4;
-    if !group_in_form(&book[at..end], n) {
+    if !mark_sets::within(&book[at..end], n) {
         return false;
     }
     groups_in_form(book, n, k + 1, count)
@@ -110,14 +100,11 @@ fn bad_leaf(list: &[u16], n: usize, k: usize, seen: &mut [u64]) -> Checked
     bad_leaf(&list[1..], n, k + 1, seen)
 }
 
-// Checks 4, 5 and 6: whether the list is a group of a ring with n leaves. Where it is, the four words get the group's marks.
+// Checks 5 and 6: whether the list is a group of a ring with n leaves. Where it is, the four words get the group's marks.
 pub fn check_list(list: &[u16], n: usize, marks: &mut [u64]) -> Checked
     requires { ⌜ (n ≤ 256) × (length (now marks) ≡ 4) ⌝ }
     ensures { λ r. ⌜ ListChecked n (now (list .entry)) (now (marks .exit)) r ⌝ }
 {
-    if list.len() == 0 {
-        return Checked::Bad(Refusal::EmptyGroup);
-    }
     mark_words::clear(marks);
     bad_leaf(list, n, 0, marks)
 }

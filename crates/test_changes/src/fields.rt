@@ -69,3 +69,48 @@ pub fn tree(line: &[u8], at: usize, n: usize, table: &mut [u16]) -> usize {
     read_text(n, &text[0..k], table);
     changes(line, read.next, table)
 }
+
+// Writes so many words, one a field from a place on, to the start of a table. Answers where the next field begins.
+pub fn words(line: &[u8], at: usize, count: usize, table: &mut [u64]) -> usize {
+    let mut from = at;
+    let mut i = 0;
+    while i < count {
+        let word = number(line, from);
+        test_fields::set_word(table, i, word.value);
+        from = word.next;
+        i += 1;
+    }
+    from
+}
+
+// Writes the words of the book at a place, its count, how many groups and then four words for each, to the start of a table. The value is the
+// count.
+pub fn book(line: &[u8], at: usize, table: &mut [u64]) -> Field {
+    let count = number(line, at);
+    let groups = number(line, count.next);
+    let next = words(line, groups.next, 4 * least(groups.value, 96), table);
+    Field {
+        value: count.value,
+        next,
+    }
+}
+
+// Writes the list at a place, how many numbers and then each, to the start of out. The value is how many.
+pub fn list(line: &[u8], at: usize, out: &mut [u16]) -> Field
+    ensures { λ r. ⌜ r .value ≤ length (now (out .entry)) ⌝ }
+{
+    let many = number(line, at);
+    let count = least(many.value, out.len());
+    let mut from = many.next;
+    let mut i = 0;
+    while i < count {
+        let x = number(line, from);
+        test_fields::set_number(out, i, x.value);
+        from = x.next;
+        i += 1;
+    }
+    Field {
+        value: count,
+        next: from,
+    }
+}

@@ -1,5 +1,7 @@
 // One line of the vectors of No. 1: `I n rack records TREE n rack records TREE records = ANSWER`.
 ghost use Prim.Native.Nat.{_≤_};
+use crate::answers;
+use crate::answers::Compared;
 use crate::fields;
 use crate::fields::Field;
 use spec_calls::Answer;
@@ -58,10 +60,9 @@ fn with_both(
     ensures { λ r. ⌜ r ≤ 3 ⌝ }
 {
     let room = fields::number(line, at);
-    let want = least(room.next, line.len()) + 2;
     let mut third = [7u16; 66049];
     let got = call(n, nodes, have, m, other, had, &mut third, room.value);
-    compared(line, want, got, n, &third)
+    after(line, room.next, got, n, &third)
 }
 
 // Makes the call on as many records of the third table as are lent.
@@ -79,57 +80,35 @@ fn call(
     call_intersection::intersect(n, nodes, have, m, other, had, &mut third[0..end], room)
 }
 
-// 1, 2 or 3, of what the call answered and the third table after it.
-fn compared(line: &[u8], at: usize, got: Answer, n: usize, third: &[u16]) -> usize
+// 1, 2 or 3, of the answer at a place of the line and the third table after the call.
+fn after(line: &[u8], at: usize, got: Answer, n: usize, third: &[u16]) -> usize
     ensures { λ r. ⌜ r ≤ 3 ⌝ }
 {
-    let number = fields::number(line, at);
-    let value = fields::number(line, number.next);
-    match got {
-        Answer::Done(said) => {
-            if number.value != 0 {
+    match answers::compare(line, at, got) {
+        Compared::Done(next) => {
+            if !is_done(line, next, n, third) {
                 return 3;
             }
-            if said != value.value {
-                return 3;
-            }
-            done(line, value.next, n, third)
+            1
         }
-        Answer::Refused(why) => {
-            if spec_calls::number(why) as usize != number.value {
+        Compared::Refused => {
+            if !test_tables::all_are(third, 7) {
                 return 3;
             }
-            if spec_calls::place(why) != value.value {
-                return 3;
-            }
-            kept(third)
+            2
         }
+        Compared::Another => 3,
     }
 }
 
-// 1 where the table holds the tree whose text stands at a place of the line, and still 7 past it; else 3.
-fn done(line: &[u8], at: usize, n: usize, third: &[u16]) -> usize
-    ensures { λ r. ⌜ r ≤ 3 ⌝ }
-{
+// Whether the table holds the tree whose text stands at a place of the line, and still 7 past it.
+fn is_done(line: &[u8], at: usize, n: usize, third: &[u16]) -> bool {
     let mut text = [0u8; 2304];
     let want = fields::bytes(line, at, &mut text);
     let k = want.value;
     if !test_tables::is_text(n, third, &text[0..k]) {
-        return 3;
+        return false;
     }
     let from = least(65792, third.len());
-    if !test_tables::all_are(&third[from..], 7) {
-        return 3;
-    }
-    1
-}
-
-// 2 where the table still holds 7 throughout; else 3.
-fn kept(third: &[u16]) -> usize
-    ensures { λ r. ⌜ r ≤ 3 ⌝ }
-{
-    if !test_tables::all_are(third, 7) {
-        return 3;
-    }
-    2
+    test_tables::all_are(&third[from..], 7)
 }

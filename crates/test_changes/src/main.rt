@@ -1,10 +1,16 @@
 // Runs the vectors of document 02 through the calls, compares each answer with the file's, and counts the cases by n.
+mod aims;
+mod answers;
+mod conflicts;
 mod fields;
 mod intersections;
+mod rings;
+mod updates;
 
 fn main() {
     file(b"01_intersection.txt");
     file(b"01_intersection_large.txt");
+    file(b"02_empty.txt");
 }
 
 // Reads a file, counts the outcome of each line, and prints its name and the counts.
@@ -34,7 +40,11 @@ fn outcome(line: &[u8]) -> usize {
     let n = test_fields::least(fields::number(line, 2).value, 256);
     match test_fields::letter(line) {
         b'#' => 0,
+        b'A' => 4 * n + aims::outcome(line),
+        b'C' => 4 * n + conflicts::outcome(line),
         b'I' => 4 * n + intersections::outcome(line),
+        b'J' => 4 * n + updates::joined(line),
+        b'T' => 4 * n + updates::tried(line),
         _ => 4 * n + 3,
     }
 }

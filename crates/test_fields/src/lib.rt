@@ -59,17 +59,17 @@ fn value(b: u8) -> usize
     16
 }
 
-// A number with one more digit; the largest usize where it is above 18446744073709551609.
+// A number with one more digit; the largest usize where it is above that.
 fn longer(number: usize, digit: usize) -> usize
     requires { ⌜ digit ≤ 9 ⌝ }
 {
-    if number > 1844674407370955160 {
+    if number > (18446744073709551615 - digit) / 10 {
         return 18446744073709551615;
     }
     10 * number + digit
 }
 
-// The number that the text is; the largest usize where it is none, or above 18446744073709551609.
+// The number that the text is; the largest usize where it is none, or above that.
 pub fn number(text: &[u8]) -> usize {
     if text.len() == 0 {
         return 18446744073709551615;

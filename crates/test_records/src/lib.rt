@@ -16,7 +16,8 @@ pub extern "C" fn ring_open(n: usize, nodes: &mut [Node], book: &mut [u64], valu
     spec_calls::code(answer, value)
 }
 
-// Joins the list's group: the node table gets the new tree, and the group takes the book's next place. The value is the new count of groups.
+// Joins the list's group, which may be empty: the node table gets the new tree, and the group takes the book's next place. The value is the new count
+// of groups.
 #[no_mangle]
 pub extern "C" fn ring_join(
     n: usize,
@@ -57,7 +58,7 @@ pub extern "C" fn ring_order(n: usize, nodes: &[Node], order: &mut [u16], value:
     spec_calls::code(answer, value)
 }
 
-// Finds the aim, in the standard order, of the book's group with this number from 1. The value is the leaf.
+// Finds the aim, in the standard order, of the book's group with this number from 1; an empty group has none. The value is the leaf.
 #[no_mangle]
 pub extern "C" fn ring_aim(
     n: usize,

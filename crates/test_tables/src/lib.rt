@@ -1,4 +1,4 @@
-// What the programs of the outside vectors say of a node table.
+// What the programs of the outside vectors say of tables.
 use spec_calls::Answer;
 
 // Whether the table holds a tree of n leaves whose text is this one.
@@ -18,6 +18,21 @@ pub fn all_are(table: &[u16], x: u16) -> bool {
     let mut i = 0;
     while i < table.len() {
         if table[i] != x {
+            return false;
+        }
+        i += 1;
+    }
+    true
+}
+
+// Whether a and b hold the same words.
+pub fn same_words(a: &[u64], b: &[u64]) -> bool {
+    if a.len() != b.len() {
+        return false;
+    }
+    let mut i = 0;
+    while i < a.len() {
+        if a[i] != b[i] {
             return false;
         }
         i += 1;

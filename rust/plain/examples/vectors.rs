@@ -1,7 +1,8 @@
 //! Runs a file of test vectors from standard input: one case a line, a call and its answer with `=` between, as the vectors' README has them. Makes
 //! the calls whose letter it knows, prints each line that this planner answers otherwise, and how many it ran.
 
-use plain::{intersect, read, write, Answer, Node};
+use plain::{aim, conflict, intersect, join, read, trial, write, Answer, Node};
+use std::fmt::Display;
 use std::io;
 use std::process::ExitCode;
 use std::str::Split;
@@ -9,10 +10,25 @@ use std::str::Split;
 const RECORDS: usize = 256;
 /// Numbers of a record.
 const ROW: usize = 257;
+/// Mark words of a book.
+const WORDS: usize = 384;
+/// Places of a conflict list.
+const GROUPS: usize = 96;
 /// What stands in a table that a call fills, and past a table's stated size.
 const OLD: Node = Node { kind: 7, count: 77, items: [777; 255] };
+const OLD_WORD: u64 = 77;
+const OLD_PLACE: u16 = 777;
 
-/// The fields of a call.
+/// The tables of a ring as they are lent.
+#[derive(Clone, PartialEq)]
+struct Ring {
+    n: usize,
+    nodes: Vec<Node>,
+    book: Vec<u64>,
+    count: usize,
+}
+
+/// The fields of a call. Those for racks and days are 0 and not looked at.
 struct Fields<'a>(Split<'a, char>);
 
 impl Fields<'_> {
@@ -24,7 +40,12 @@ impl Fields<'_> {
         self.word().parse().expect("a number")
     }
 
-    /// The bytes of a count and that many pairs of hexadecimal digits.
+    /// LIST: a count and that many numbers.
+    fn list(&mut self) -> Vec<u16> {
+        (0..self.number()).map(|_| self.number() as u16).collect()
+    }
+
+    /// BYTES: a count and that many pairs of hexadecimal digits.
     fn bytes(&mut self) -> Vec<u8> {
         let digit = |&byte: &u8| char::from(byte).to_digit(16).expect("a digit") as u8;
         match self.number() {
@@ -33,13 +54,12 @@ impl Fields<'_> {
         }
     }
 
-    /// n, and a node table of so many records: that of a tree text, with some numbers changed. The field for racks is always 0.
-    fn tree(&mut self) -> (usize, Vec<Node>) {
-        let (n, _, records) = (self.number(), self.number(), self.number());
+    /// TREE: the node table of a tree text for n bins with some numbers changed, lent with so many records.
+    fn tree(&mut self, n: usize, records: usize) -> Vec<Node> {
         let mut nodes = vec![Node::UNUSED; RECORDS];
         let text = self.bytes();
         if !text.is_empty() {
-            read(n, &mut nodes, &mut [0; 384], &text).expect("a tree text");
+            read(n, &mut nodes, &mut [0; WORDS], &text).expect("a tree text");
         }
         for _ in 0..self.number() {
             let (place, value) = (self.number(), self.number() as u16);
@@ -51,7 +71,31 @@ impl Fields<'_> {
             }
         }
         nodes.resize(records, OLD);
-        (n, nodes)
+        nodes
+    }
+
+    /// BOOK and DAYS: the count of groups, and the first ones' mark words, lent as so many words.
+    fn book(&mut self, words: usize) -> (usize, Vec<u64>) {
+        let (count, groups) = (self.number(), self.number());
+        let mut book: Vec<u64> = (0..4 * groups).map(|_| self.number() as u64).collect();
+        book.resize(WORDS, 0);
+        book.resize(words, OLD_WORD);
+        self.list();
+        (count, book)
+    }
+
+    /// n and the node table beside it.
+    fn lent_tree(&mut self) -> (usize, Vec<Node>) {
+        let [n, _rack, records] = std::array::from_fn(|_| self.number());
+        (n, self.tree(n, records))
+    }
+
+    /// n, the node table and the book.
+    fn ring(&mut self) -> Ring {
+        let [n, _rack, records, words, _days] = std::array::from_fn(|_| self.number());
+        let nodes = self.tree(n, records);
+        let (count, book) = self.book(words);
+        Ring { n, nodes, book, count }
     }
 }
 
@@ -61,6 +105,11 @@ fn told(answer: Answer) -> String {
         Ok(value) => format!("0 {value}"),
         Err(refused) => format!("{} {}", refused.number, refused.place),
     }
+}
+
+/// The numbers with a space before each.
+fn spaced<T: Display>(numbers: &[T]) -> String {
+    numbers.iter().map(|number| format!(" {number}")).collect()
 }
 
 /// The fields of the table's tree text.
@@ -73,7 +122,7 @@ fn text(n: usize, nodes: &[Node]) -> String {
 
 /// What this planner answers to an intersection.
 fn intersection(fields: &mut Fields) -> String {
-    let ((n, nodes), (m, other)) = (fields.tree(), fields.tree());
+    let ((n, nodes), (m, other)) = (fields.lent_tree(), fields.lent_tree());
     let mut third = vec![OLD; fields.number()];
     let answer = intersect(n, &nodes, m, &other, &mut third);
     let kept = if answer.is_ok() { RECORDS } else { 0 };
@@ -84,13 +133,60 @@ fn intersection(fields: &mut Fields) -> String {
     }
 }
 
+/// What this planner answers to joining a group.
+fn joining(fields: &mut Fields) -> String {
+    let (lent, list) = (fields.ring(), fields.list());
+    let mut left = lent.clone();
+    let answer = join(lent.n, &mut left.nodes, &mut left.book, lent.count, &list);
+    if answer.is_err() {
+        assert!(left == lent, "a refusal changed a table");
+        return told(answer);
+    }
+    let place = 4 * lent.count;
+    let group = left.book.splice(place..place + 4, [0; 4]).collect::<Vec<_>>();
+    assert!(left.book == lent.book, "words changed that are to stay");
+    assert!(left.nodes[RECORDS..] == lent.nodes[RECORDS..], "records changed that are to stay");
+    format!("{} {}{}", told(answer), text(lent.n, &left.nodes), spaced(&group))
+}
+
+/// What this planner answers to the trial of a group.
+fn trying(fields: &mut Fields) -> String {
+    let (lent, list) = (fields.ring(), fields.list());
+    told(trial(lent.n, &lent.nodes, &lent.book, lent.count, &list))
+}
+
+/// What this planner answers to the aim of a group.
+fn aiming(fields: &mut Fields) -> String {
+    let (lent, group) = (fields.ring(), fields.number());
+    told(aim(lent.n, &lent.nodes, &lent.book, lent.count, group))
+}
+
+/// What this planner answers to the conflicts of a group.
+fn conflicting(fields: &mut Fields) -> String {
+    let [n, _rack, words, _days, places] = std::array::from_fn(|_| fields.number());
+    let ((count, book), list) = (fields.book(words), fields.list());
+    let mut conflicts = vec![OLD_PLACE; places];
+    let answer = conflict(n, &book, count, &list, &mut conflicts);
+    let kept = if answer.is_ok() { GROUPS } else { 0 };
+    assert!(conflicts[kept..].iter().all(|place| *place == OLD_PLACE), "places changed that are to stay");
+    let Ok(size) = answer else { return told(answer) };
+    assert!(conflicts[size..GROUPS].iter().all(|place| *place == 0), "a place past the list is not zero");
+    format!("{} {size}{}", told(answer), spaced(&conflicts[..size]))
+}
+
 /// What this planner answers to a call; none to one with another letter.
 fn answered(call: &str) -> Option<String> {
     let mut fields = Fields(call.split(' '));
-    match fields.word() {
-        "I" => Some(intersection(&mut fields)),
-        _ => None,
-    }
+    let made = match fields.word() {
+        "I" => intersection(&mut fields),
+        "J" => joining(&mut fields),
+        "T" => trying(&mut fields),
+        "A" => aiming(&mut fields),
+        "C" => conflicting(&mut fields),
+        _ => return None,
+    };
+    assert!(fields.0.next().is_none(), "a field too many: {call}");
+    Some(made)
 }
 
 fn main() -> io::Result<ExitCode> {

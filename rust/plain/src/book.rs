@@ -14,17 +14,15 @@ pub struct Book<'a> {
 }
 
 impl<'a> Book<'a> {
-    /// Returns the book if it is in form for n: at most 96 groups, each with a mark and with marks of 1 to n only,
-    /// and zeros after them. `book` has 384 words.
+    /// Returns the book if it is in form for n: at most 96 groups with marks of 1 to n only, and zeros after them.
+    /// `book` has 384 words.
     pub fn checked(n: usize, book: &'a [u64], count: usize) -> Option<Book<'a>> {
         if count > GROUPS {
             return None;
         }
         let (words, rest) = book.split_at(4 * count);
         let others = marks::complement(256, &marks::all(n));
-        let fits = |group: &[u64]| {
-            group.iter().any(|&word| word != 0) && group.iter().zip(&others).all(|(word, other)| word & other == 0)
-        };
+        let fits = |group: &[u64]| group.iter().zip(&others).all(|(word, other)| word & other == 0);
         (words.chunks_exact(4).all(fits) && rest.iter().all(|&word| word == 0)).then(|| Book::of(words))
     }
 

@@ -47,9 +47,8 @@ fn check_book(n: usize, book: &[u64], count: usize) -> Result<Book<'_>, Refused>
     Book::checked(n, &book[..WORDS], count).ok_or(Refused { number: 3, place: 0 })
 }
 
-/// Makes checks 4 to 6 of a list; returns its marks.
+/// Makes checks 5 and 6 of a list, which may be empty; returns its marks.
 fn check_list(n: usize, list: &[u16]) -> Result<Marks, Refused> {
-    check(4, !list.is_empty())?;
     let mut group = [0; 4];
     for (place, &bin) in list.iter().enumerate() {
         let bin = usize::from(bin);
@@ -108,12 +107,14 @@ pub fn aim(n: usize, nodes: &[Node], book: &[u64], count: usize, group: usize) -
     let tree = check_tree(n, nodes)?;
     let book = check_book(n, book, count)?;
     check(9, (1..=count).contains(&group))?;
+    let group = book.group(group - 1);
+    check(14, marks::size(&group) > 0)?;
     let mut order = [0; 256];
     tree.frontier(&mut order[..n]);
-    aim_in(&order[..n], &book.group(group - 1)).ok_or(Refused { number: 10, place: 0 })
+    aim_in(&order[..n], &group).ok_or(Refused { number: 10, place: 0 })
 }
 
-/// Returns the bin at which a group, which has a mark, has its aim in an order, none if it is not consecutive.
+/// Returns the bin at which a group has its aim in an order, none if it is empty or not consecutive.
 pub(crate) fn aim_in(order: &[u16], group: &Marks) -> Option<usize> {
     let n = order.len();
     let size = marks::size(group);

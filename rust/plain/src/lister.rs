@@ -11,7 +11,6 @@ use crate::tree::Tree;
 enum Line {
     Kept(Marks),
     Refused(Vec<usize>),
-    Empty,
     Full,
 }
 
@@ -61,9 +60,6 @@ fn join_lines(file: &[u8], scanned: File, tree: &mut Tree) -> Vec<Line> {
             marks::set(&mut group, usize::from(bin) - 1);
         }
         let count = line_of.len();
-        if size == 0 {
-            return Line::Empty;
-        }
         if count == GROUPS {
             return Line::Full;
         }
@@ -91,7 +87,6 @@ fn print_line(out: &mut Vec<u8>, line: &Line, order: &[u16], names: &[&[u8]]) {
             let lines: Vec<String> = lines.iter().map(usize::to_string).collect();
             out.extend(format!("refused - {}\n", lines.join(",")).bytes());
         }
-        Line::Empty => out.extend(b"empty - -\n"),
         Line::Full => out.extend(b"full - -\n"),
     }
 }

@@ -80,3 +80,13 @@ fn sample_file() {
     assert_eq!(list[..2], [3, 5]);
     assert_eq!(plain::group_of(file, 5, 10, 1, &mut list[..4]), 0);
 }
+
+/// A line with no bins is kept without an aim and takes a place of the book.
+#[test]
+fn lines_with_no_bins() {
+    let list =
+        |lines: usize| String::from_utf8(plain::list_file(&[b"A B\n", &b"0 -\n".repeat(lines)[..]].concat())).unwrap();
+    assert_eq!(list(1), "line answer aim conflict\n1 kept - -\norder\nA B\ntree\n1 2\n");
+    let listed = list(97);
+    assert!(listed.contains("\n96 kept - -\n97 full - -\norder\n"));
+}

@@ -31,7 +31,7 @@ fn grown(random: &mut Random, n: usize) -> Ring {
     let mut ring = Ring::new(n);
     let hidden = random.shuffled(n);
     for _ in 0..random.below(12) {
-        let (start, size) = (random.below(n), 1 + random.below(n));
+        let (start, size) = (random.below(n), random.below(n + 1));
         let list: Vec<u16> = (start..start + size).map(|place| hidden[place % n]).collect();
         ring.join(&list).unwrap();
     }

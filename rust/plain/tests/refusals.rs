@@ -83,7 +83,7 @@ fn books_not_in_form() {
         assert_eq!(aim(5, &ring.nodes, book, count, 0), refused(3, 0));
         assert_eq!(conflict(5, book, count, &[], &mut [0; 96]), refused(3, 0));
     };
-    for count in [0, 1, 3, 96, 97, usize::MAX] {
+    for count in [0, 1, 97, usize::MAX] {
         refuses(&ring.book, count);
     }
     for (word, mark) in [(0, 32), (1, 1), (383, 1 << 63)] {
@@ -93,19 +93,45 @@ fn books_not_in_form() {
     }
 }
 
+/// A group without marks is in form wherever it stands.
+#[test]
+fn books_with_empty_groups() {
+    let ring = Ring::with(5, &[&[], &[1, 3], &[], &[3, 5], &[]]);
+    assert_eq!(ring.count, 5);
+    assert_eq!(ring.text(), Ring::with(5, &[&[1, 3], &[3, 5]]).text());
+    for count in [4, 6, 95] {
+        assert_eq!(trial(5, &ring.nodes, &ring.book, count, &[2, 4]), Ok(count + 1));
+        assert_eq!(conflict(5, &ring.book, count, &[1, 5], &mut [0; 96]), Ok(2));
+        assert_eq!(aim(5, &ring.nodes, &ring.book, count, 4), Ok(5));
+    }
+    assert_eq!(trial(5, &ring.nodes, &ring.book, 96, &[2, 4]), refused(7, 0));
+    assert_eq!(ring.conflict(&[1, 5]), [2, 4]);
+}
+
+/// The list of an empty group is empty where the book is possible, and no list names an empty group.
+#[test]
+fn conflicts_of_an_empty_group() {
+    let mut ring = Ring::with(5, &[&[], &[1, 3], &[], &[3, 5]]);
+    assert_eq!(ring.conflict(&[]), []);
+    ring.book[16..20].copy_from_slice(&[0b10001, 0, 0, 0]);
+    ring.count = 6;
+    assert_eq!(ring.conflict(&[]), [2, 4, 5]);
+}
+
 #[test]
 fn lists() {
     let mut ring = Ring::new(5);
-    assert_eq!(ring.join(&[]), refused(4, 0));
+    assert_eq!(ring.join(&[]), Ok(1));
     assert_eq!(ring.join(&[1, 0, 1]), refused(5, 1));
     assert_eq!(ring.join(&[2, 3, 6]), refused(5, 2));
     assert_eq!(ring.join(&[2, 3, 2, 6]), refused(6, 2));
     assert_eq!(ring.join(&[1, 2, 3, 4, 5, 1]), refused(6, 5));
     let mut places = [777; 96];
-    assert_eq!(conflict(5, &ring.book, 0, &[], &mut places), refused(4, 0));
     assert_eq!(conflict(5, &ring.book, 0, &[6], &mut places), refused(5, 0));
     assert_eq!(conflict(5, &ring.book, 0, &[3, 3], &mut places), refused(6, 1));
     assert_eq!(places, [777; 96]);
+    assert_eq!(conflict(5, &ring.book, 0, &[], &mut places), Ok(0));
+    assert_eq!(places, [0; 96]);
 }
 
 #[test]
@@ -115,7 +141,7 @@ fn full_book_before_impossible() {
         ring.join(&[1]).unwrap();
     }
     assert_eq!(ring.join(&[1, 5]), refused(7, 0));
-    assert_eq!(ring.join(&[]), refused(4, 0));
+    assert_eq!(ring.join(&[]), refused(7, 0));
     assert_eq!(ring.join(&[1, 1]), refused(6, 1));
 }
 
@@ -129,6 +155,10 @@ fn aims() {
     let fresh = Ring::new(5);
     assert_eq!(aim(5, &fresh.nodes, &ring.book, 2, 1), refused(10, 0));
     assert_eq!(aim(5, &fresh.nodes, &ring.book, 2, 2), Ok(3));
+    assert_eq!(aim(5, &fresh.nodes, &ring.book, 3, 3), refused(14, 0));
+    assert_eq!(aim(5, &fresh.nodes, &ring.book, 3, 4), refused(9, 0));
+    assert_eq!(aim(5, &fresh.nodes, &[0; 383], 1, 1), refused(2, 0));
+    assert_eq!(aim(5, &[PAST; 256], &[0; 384], 1, 1), refused(3, 0));
 }
 
 #[test]

@@ -75,13 +75,25 @@ fn refusals_of_joining_and_trial() {
     refuses(|t| t.book[0] = 0b100000, 2, &[2, 4], (3, 0));
     refuses(|_| {}, 1, &[2, 4], (3, 0));
     refuses(|_| {}, 97, &[2, 4], (3, 0));
-    refuses(|_| {}, 2, &[], (4, 0));
     refuses(|_| {}, 2, &[2, 0, 6], (5, 1));
     refuses(|_| {}, 2, &[2, 4, 6], (5, 2));
     refuses(|_| {}, 2, &[2, 4, 2, 6], (6, 2));
     refuses(|t| t.book[..384].fill_with(|| 0b11111), 96, &[1, 5], (3, 0));
     refuses(|t| (0..96).for_each(|group| t.book[4 * group] = 0b11111), 96, &[1, 5], (7, 0));
+    refuses(|t| (0..96).for_each(|group| t.book[4 * group] = 0b11111), 96, &[], (7, 0));
     refuses(|_| {}, 2, &[1, 5], (8, 0));
+}
+
+/// An empty group takes a place of the book, changes no tree, and has no aim.
+#[test]
+fn empty_groups_on_records() {
+    let Tables { mut nodes, mut book } = circle_e(257);
+    assert_eq!(trial(5, &nodes, &book, 2, &[]), Ok(3));
+    assert_eq!(join(5, &mut nodes, &mut book, 2, &[]), Ok(3));
+    assert!(Tables { nodes: nodes.clone(), book: book.clone() } == circle_e(257));
+    assert_eq!(join(5, &mut nodes, &mut book, 3, &[2, 4]), Ok(4));
+    assert_eq!(aim(5, &nodes, &book, 4, 3), Err((14, 0)));
+    assert_eq!(aim(5, &nodes, &book, 4, 4), Ok(2));
 }
 
 #[test]

@@ -58,11 +58,14 @@ fn conflict(orders: &[Vec<u16>], book: &[Set], new: Set) -> Vec<u16> {
     kept
 }
 
-/// The leaf at which the group is aimed in this order.
-fn aim(group: Set, order: &[u16]) -> usize {
+/// The leaf at which the group is aimed in this order; an empty group has no aim.
+fn aim(group: Set, order: &[u16]) -> Result<usize, Refusal> {
+    if group == 0 {
+        return Err(Refusal::NoAim);
+    }
     let start = starts(group, order).first().copied().unwrap_or(0);
     let size = group.count_ones() as usize;
-    order[(start + (size - 1) / 2) % order.len()] as usize
+    Ok(order[(start + (size - 1) / 2) % order.len()] as usize)
 }
 
 /// Every sequence of these entries.
@@ -156,7 +159,7 @@ impl Watched {
         assert_eq!(tokuwhape::order(self.n, &self.nodes, &mut order), Ok(self.n));
         assert_eq!(order, self.left[0]);
         for (i, &group) in self.groups.iter().enumerate() {
-            assert_eq!(tokuwhape::aim(self.n, &self.nodes, &self.book, self.groups.len(), i + 1), Ok(aim(group, &order)));
+            assert_eq!(tokuwhape::aim(self.n, &self.nodes, &self.book, self.groups.len(), i + 1), aim(group, &order));
         }
         let wanted = conflict(all, &self.groups, set(list));
         assert_eq!(tokuwhape::conflict(self.n, &self.book, self.groups.len(), list, &mut conflicts), Ok(wanted.len()));
@@ -205,7 +208,7 @@ fn small_trees_allow_what_all_orders_say() {
 /// Every set of two groups of a ring of 5 leaves, in both sequences.
 #[test]
 fn every_two_groups_of_five_leaves() {
-    let groups: Vec<Vec<u16>> = (1..32u16).map(|marks| (1..=5).filter(|leaf| marks >> (leaf - 1) & 1 == 1).collect()).collect();
+    let groups: Vec<Vec<u16>> = (0..32u16).map(|marks| (1..=5).filter(|leaf| marks >> (leaf - 1) & 1 == 1).collect()).collect();
     for first in &groups {
         for second in &groups {
             let mut ring = Watched::fresh(5);

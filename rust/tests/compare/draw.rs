@@ -59,25 +59,33 @@ impl Draw {
         self.pick(&[0, 257, 258, 65_535, 65_536, usize::MAX, n - 1, n + 1])
     }
 
-    /// A group that is a run of the circular order `hidden`.
+    /// How many leaves a group has: 1 to `most`, now and then none.
+    fn group_size(&mut self, most: usize) -> usize {
+        if self.one_in(12) {
+            return 0;
+        }
+        1 + self.below(most)
+    }
+
+    /// A group that is a run of the circular order `hidden`, now and then an empty one.
     pub fn run(&mut self, hidden: &[u16]) -> Vec<u16> {
         let n = hidden.len();
         let most = if self.one_in(2) { n } else { n.min(5) };
-        let (start, length) = (self.below(n), 1 + self.below(most));
+        let (start, length) = (self.below(n), self.group_size(most));
         let mut group: Vec<u16> = (start..start + length).map(|i| hidden[i % n]).collect();
         self.shuffle(&mut group);
         group
     }
 
-    /// A group of any leaves.
+    /// A group of any leaves, now and then of none.
     pub fn group(&mut self, n: usize) -> Vec<u16> {
         let mut leaves = self.leaves(n);
         let most = if self.one_in(2) { n } else { n.min(4) };
-        leaves.truncate(1 + self.below(most));
+        leaves.truncate(self.group_size(most));
         leaves
     }
 
-    /// A list that may be no group: empty, with a number outside 1 to n, with a leaf twice, or several of these.
+    /// A list that may be no group: with a number outside 1 to n, with a leaf twice, or several of these. It may be empty.
     pub fn list(&mut self, n: usize) -> Vec<u16> {
         let mut list = self.group(n.clamp(1, 300));
         for _ in 0..1 + self.below(2) {

@@ -15,11 +15,11 @@ use tables::{Call, Sides, Tally};
 /// The answers that each call can give: 0 for done, else the refusal's number.
 const ANSWERS: [(&str, &[u8]); 10] = [
     ("open", &[0, 1, 2]),
-    ("join", &[0, 1, 2, 3, 4, 5, 6, 7, 8]),
-    ("trial", &[0, 1, 2, 3, 4, 5, 6, 7, 8]),
+    ("join", &[0, 1, 2, 3, 5, 6, 7, 8]),
+    ("trial", &[0, 1, 2, 3, 5, 6, 7, 8]),
     ("order", &[0, 1, 2, 3]),
-    ("aim", &[0, 1, 2, 3, 9, 10]),
-    ("conflict", &[0, 1, 2, 3, 4, 5, 6]),
+    ("aim", &[0, 1, 2, 3, 9, 10, 14]),
+    ("conflict", &[0, 1, 2, 3, 5, 6]),
     ("write", &[0, 1, 2, 3]),
     ("read", &[0, 1, 2, 12]),
     ("intersect", &[0, 1, 2, 3, 8, 13]),

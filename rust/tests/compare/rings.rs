@@ -193,7 +193,7 @@ fn any_call(tally: &mut Tally, draw: &mut Draw, sides: &mut Sides, n: usize, cou
     let _ = sides.call(tally, n, call);
 }
 
-/// A conflict call on a book of any groups, which may be impossible together, repeat and be a part of the ring each.
+/// A conflict call on a book of any groups, empty ones too, which may be impossible together, repeat and be a part of the ring each.
 pub fn conflict(tally: &mut Tally, draw: &mut Draw, n: usize, count: usize) {
     let hidden = draw.leaves(n);
     let wild = draw.pick(&[1, 3, 10, 1000]);

@@ -1,0 +1,143 @@
+-- An empty group joins a ring: the book's words and the node table's rows stay. The place after the count of a book in form is zero, as are the
+-- words of an empty group, and a tree's records written over themselves change nothing. (`Leaves.no-mark`: a group is empty iff its words have
+-- no mark.)
+use mathlib.Core.Path.{_≡_, refl, sym, ap, ap₂, subst, _∙_}
+use mathlib.Core.Logic.{_↔_}
+use mathlib.Core.Bool.{Bool, true, false, not, true≢false}
+use mathlib.Core.List.{List, [], _∷_, _++_}
+use Prim.Native.Nat.{ℕ, zero, suc, _+_, _-_, _*_, _≤_, _<_}
+use native.Mathlib.Omega.{arith}
+use borrow.Author.Tests.{eq-eqb, ne-eqb, eqb-true, le-ltb}
+use lib.Dec.{eqb}
+use lib.ListN.{length, take, drop, replicate, length-take, length-drop, take-append-drop}
+use lib.Seq.{take-take, drop-drop}
+use Rattle.spec_orders.specs.Lists.{all-of}
+use Rattle.spec_orders.specs.CircularOrder.{Restriction, group-of, EmptyGroup}
+use Rattle.spec_orders.specs.Tree.{Forest}
+use Rattle.spec_orders.specs.Form.{standard}
+use Rattle.spec_orders.specs.Conflict.{consecutive?, ring-conflicts}
+use Rattle.spec_orders.proofs.Joining.{empty-joins}
+use Rattle.spec_orders.proofs.EmptyGroups.{conflicts-joined}
+use Rattle.spec_orders.proofs.Tests.{and-both}
+use Rattle.mark_words.specs.Marks.{marked, no-leaf, no-mark?}
+use Rattle.mark_words.proofs.Words.{no-words, empty-words}
+use Rattle.mark_words.proofs.Leaves.{marked-list, no-mark}
+use Rattle.spec_calls.specs.Tables.{Nodes, leaves, Book, lent-book, over}
+use Rattle.spec_calls.specs.Book.{group-words, booked}
+use Rattle.spec_calls.specs.NodeTable.{table-of}
+use Rattle.spec_calls.specs.declared.Refusal.the-variants.{BookFull, NoAim, NotConsecutive}
+use Rattle.spec_calls.specs.Refusals.{Reply, reply, refuse, first-refusal}
+use Rattle.spec_calls.specs.Calls.{ring, unchanged, join-refusal, joined, join-call, group-numbered, answered, aim-refusal, aim-call, conflict-refusal, conflicts-of, conflict-call}
+use Rattle.spec_calls.specs.Demands.{LentTree, LentBook}
+use Rattle.spec_calls.proofs.NodeTables.{table-length}
+use Rattle.spec_calls.proofs.Books.{form-parts, booked-form}
+use Rattle.spec_calls.proofs.Demands.{empty-well-formed, well-formed-passes, size-fine, nodes-fine, lent-held, the-joined, the-refusal}
+
+zeros-first : (k : ℕ) (l : List ℕ) → all-of (eqb 0) l ≡ true → k ≤ length l → take k l ≡ replicate k 0
+zeros-first zero l e h = refl
+zeros-first (suc k) [] e h = absurd (omega arith)
+zeros-first (suc k) (w ∷ l) e h =
+    let b = and-both (eqb 0 w) (all-of (eqb 0) l) e in
+    ap₂ _∷_ (sym (eqb-true 0 w (b .0))) (zeros-first k l (b .1) (omega arith))
+
+-- The next place is zero, a group with no leaf.
+next-zero : (n : ℕ) (book : Book) → LentBook n book → book .count < 96 → group-words (book .words) (book .count) ≡ replicate 4 0
+next-zero n book lent place-left =
+    let c = book .count in
+    let past = drop (4 * c) (book .words) in
+    sym (take-take 4 (384 - 4 * c) past (omega arith))
+    ∙ zeros-first 4 (take (384 - 4 * c) past) (form-parts n book lent .1) (omega (arith, length-take (384 - 4 * c) past, length-drop (4 * c) (book .words), lent .all-words))
+
+-- So the words stay when an empty group takes it.
+booked-empty : (n : ℕ) (book : Book) (G : Restriction) → LentBook n book → book .count < 96 → EmptyGroup G → booked (book .words) (book .count) G ≡ book .words
+unfolding booked
+booked-empty n book G lent place-left e =
+    let c = book .count in
+    let past = drop (4 * c) (book .words) in
+    ap (λ (l : List ℕ). take (4 * c) (book .words) ++ l)
+    (ap₂ _++_ (empty-words 4 G e ∙ sym (next-zero n book lent place-left)) (sym (drop-drop 4 (4 * c) (book .words))) ∙ take-append-drop 4 past)
+    ∙ take-append-drop (4 * c) (book .words)
+
+-- The group with the number after the count is empty.
+pub next-empty : (n : ℕ) (book : Book) → LentBook n book → book .count < 96 → EmptyGroup (group-numbered (book .words) (book .count + 1))
+next-empty n book lent place-left x =
+    let e : book .count + 1 - 1 ≡ book .count = omega arith in
+    ap (λ (k : ℕ). marked (group-words (book .words) k) x) e
+    ∙ ap (λ (ws : List ℕ). marked ws x) (next-zero n book lent place-left ∙ sym (no-words 4))
+    ∙ ap (λ (G : Restriction). G x) (marked-list 4 [] tt)
+
+-- The book is in form with it.
+pub next-in-form : (n : ℕ) (book : Book) → LentBook n book → book .count < 96 → LentBook n (lent-book (book .words) (book .count + 1))
+next-in-form n book lent place-left =
+    subst (λ (words : List ℕ). LentBook n (lent-book words (book .count + 1))) (booked-empty n book no-leaf lent place-left (λ x. refl))
+    (booked-form n book no-leaf lent place-left (λ x e. absurd (true≢false (sym e))))
+
+-- A tree's records written over the rows that hold it.
+over-same : (nodes : Nodes) (t : Forest) → LentTree nodes t → over (table-of t) (nodes .rows) ≡ nodes .rows
+over-same nodes t lent =
+    ap₂ (λ (l : List ℕ) (k : ℕ). l ++ drop k (nodes .rows)) (sym (lent .tree .records)) (table-length (leaves nodes) t (lent .tree .in-form) (lent .few-leaves))
+    ∙ take-append-drop 65792 (nodes .rows)
+
+-- What joining an empty group returns, and leaves: the count rises, and the tables are as they were.
+pub join-empty : (nodes : Nodes) (book : Book) (t : Forest) → LentTree nodes t → LentBook (nodes .bins) book → book .count < 96
+    → join-call nodes book [] ≡ ring (reply 0 (book .count + 1)) (nodes .rows) book
+unfolding join-call joined
+join-empty nodes book t h b place-left =
+    let none : EmptyGroup (group-of (nodes .bins) []) = λ x. refl in
+    rw (the-refusal nodes book [] t h b place-left (empty-well-formed (nodes .bins)), the-joined nodes book [] t h b place-left (empty-well-formed (nodes .bins)), empty-joins (group-of (nodes .bins) []) t none (h .tree .in-form .single))
+    (ap₂ (λ (rows words : List ℕ). ring (reply 0 (book .count + 1)) rows (lent-book words (book .count))) (over-same nodes t h) (booked-empty (nodes .bins) book (group-of (nodes .bins) []) b place-left none))
+
+-- Where there is no place, 7 is the answer.
+pub join-empty-full : (nodes : Nodes) (book : Book) (t : Forest) → LentTree nodes t → LentBook (nodes .bins) book → book .count ≡ 96
+    → join-call nodes book [] ≡ unchanged BookFull nodes book
+unfolding join-call join-refusal joined
+join-empty-full nodes book t h b full =
+    rw (
+      size-fine (nodes .bins) (h .some-leaf) (h .few-leaves),
+      nodes-fine nodes (h .all-records) (h .all-rows),
+      le-ltb (length (book .words)) 384 (b .all-words),
+      lent-held nodes t h,
+      b .in-form,
+      well-formed-passes (nodes .bins) [] (empty-well-formed (nodes .bins)),
+      eq-eqb (book .count) 96 full,
+    )
+
+-- One in the book's next place changes no conflict list, and no conflict call.
+list-joined : (n : ℕ) (book : Book) (new : Restriction) → EmptyGroup (group-numbered (book .words) (book .count + 1))
+    → conflicts-of n (lent-book (book .words) (book .count + 1)) new ≡ conflicts-of n book new
+unfolding conflicts-of
+list-joined n book new h =
+    let e : book .count + 1 ≡ suc (book .count) = omega arith in
+    ap (λ (k : ℕ). ring-conflicts n (group-numbered (book .words)) k new) e
+    ∙ conflicts-joined n (group-numbered (book .words)) (book .count) new (subst (λ (k : ℕ). EmptyGroup (group-numbered (book .words) k)) e h)
+
+pub conflict-joined : (n : ℕ) (book : Book) → LentBook n book → book .count < 96 → (list conflicts : List ℕ)
+    → conflict-call n (lent-book (book .words) (book .count + 1)) list conflicts ≡ conflict-call n book list conflicts
+unfolding conflict-call conflict-refusal
+conflict-joined n book lent place-left list conflicts =
+    rw (lent .in-form, next-in-form n book lent place-left .in-form, list-joined n book (group-of n list) (next-empty n book lent place-left))
+
+-- 14 is the answer to the aim of a group of the book iff it is empty.
+pub aim-empty : (nodes : Nodes) (book : Book) (t : Forest) → LentTree nodes t → LentBook (nodes .bins) book → (k : ℕ) → 1 ≤ k → k ≤ book .count
+    → (aim-call nodes book k ≡ reply 14 0) ↔ EmptyGroup (group-numbered (book .words) k)
+unfolding aim-call aim-refusal
+aim-empty nodes book t h b k l m =
+    rw (
+      size-fine (nodes .bins) (h .some-leaf) (h .few-leaves),
+      nodes-fine nodes (h .all-records) (h .all-rows),
+      le-ltb (length (book .words)) 384 (b .all-words),
+      lent-held nodes t h,
+      b .in-form,
+      ne-eqb k 0 (λ e. omega arith),
+      le-ltb (book .count) k m,
+    )
+    (by-marks (no-mark? (group-words (book .words) (k - 1))) refl (not (consecutive? (group-numbered (book .words) k) (standard t))) _)
+  where
+    by-marks : (e : Bool) → no-mark? (group-words (book .words) (k - 1)) ≡ e → (c : Bool) (v : ℕ)
+        → (answered (first-refusal (refuse e NoAim ∷ refuse c NotConsecutive ∷ [])) v ≡ reply 14 0) ↔ EmptyGroup (group-numbered (book .words) k)
+    by-marks true q c v = (λ p. no-mark (group-words (book .words) (k - 1)) .0 q, λ e. refl)
+    by-marks false q c v = (λ p. absurd (not-14 c v p), λ e. absurd (true≢false (sym (no-mark (group-words (book .words) (k - 1)) .1 e) ∙ q)))
+      where
+        not-14 : (c : Bool) (v : ℕ) → answered (first-refusal (refuse c NotConsecutive ∷ [])) v ≡ reply 14 0 → ⊥
+        not-14 true v p = omega (arith, ap (λ (r : Reply). r .number) p)
+        not-14 false v p = omega (arith, ap (λ (r : Reply). r .number) p)
