@@ -76,7 +76,8 @@ uint8_t tokuwhape_trial(size_t n, const tokuwhape_node *nodes, size_t numbers, c
 /* Writes the standard order, from bin 1, to the first n places of order. *value: n. */
 uint8_t tokuwhape_order(size_t n, const tokuwhape_node *nodes, size_t numbers, uint16_t *order, size_t places, size_t *value);
 
-/* Finds the aim, in the standard order, of the book's group with this number from 1; an empty group has none. *value: the bin. */
+/* Finds the aim of the book's group with this number from 1, the middle of its run in the standard order: of two middle places, counted
+ * from 0, the even one; of the last place and place 0, place 0. An empty group has none. *value: the bin. */
 uint8_t tokuwhape_aim(size_t n, const tokuwhape_node *nodes, size_t numbers, const uint64_t *book, size_t words, size_t count, size_t group,
                       size_t *value);
 

@@ -74,7 +74,8 @@ static void reading(void) {
     EXPECT(tokuwhape_order(5, nodes, NUMBERS, order, 4, &value), TOKUWHAPE_SHORT_TABLE, 0);
     EXPECT(tokuwhape_order(5, nodes, NUMBERS, order, 6, &value), TOKUWHAPE_DONE, 5);
     HOLDS(order[0] == 1 && order[1] == 2 && order[2] == 4 && order[3] == 5 && order[4] == 3 && order[5] == 43947);
-    EXPECT(tokuwhape_aim(5, nodes, NUMBERS, book, WORDS, 2, 1, &value), TOKUWHAPE_DONE, 3);
+    EXPECT(tokuwhape_aim(5, nodes, NUMBERS, book, WORDS, 2, 1, &value), TOKUWHAPE_DONE, 1);
+    EXPECT(tokuwhape_aim(5, nodes, NUMBERS, book, WORDS, 2, 2, &value), TOKUWHAPE_DONE, 3);
     EXPECT(tokuwhape_aim(5, nodes, NUMBERS, book, WORDS, 2, 3, &value), TOKUWHAPE_NO_SUCH_GROUP, 0);
     EXPECT(tokuwhape_aim(5, nodes, NUMBERS, book, WORDS, 3, 3, &value), TOKUWHAPE_NO_AIM, 0);
     EXPECT(tokuwhape_conflict(5, book, WORDS, 3, order, 0, conflicts, GROUPS + 1, &value), TOKUWHAPE_DONE, 0);

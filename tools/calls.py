@@ -142,7 +142,8 @@ RING = [
         rows="call_order",
         promise="AimPromise",
         lent="n nodes book count group",
-        does="Finds the aim, in the standard order, of the book's group with this number from 1; an empty group has none.",
+        does="Finds the aim of the book's group with this number from 1, the middle of its run in the standard order: of two middle places, "
+        "counted from 0, the even one; of the last place and place 0, place 0. An empty group has none.",
         value="the leaf",
         refuses="1 to 3, 9, 14, 10",
     ),

@@ -106,7 +106,8 @@ pub fn order(n: usize, nodes: &[Node], order: &mut [u16]) -> Result<usize, Refus
     answer(|value| unsafe { symbols::tokuwhape_order(n, nodes.as_ptr(), numbers(nodes), order.as_mut_ptr(), order.len(), value) })
 }
 
-/// Returns the leaf that is the aim, in the standard order, of the book's group with this number from 1; an empty group has none.
+/// Returns the aim of the book's group with this number from 1, the leaf in the middle of its run in the standard order: of two middle
+/// places, counted from 0, the even one; of the last place and place 0, place 0. An empty group has none.
 pub fn aim(n: usize, nodes: &[Node], book: &[u64], count: usize, group: usize) -> Result<usize, Refusal> {
     answer(|value| unsafe { symbols::tokuwhape_aim(n, nodes.as_ptr(), numbers(nodes), book.as_ptr(), book.len(), count, group, value) })
 }

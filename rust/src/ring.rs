@@ -10,7 +10,9 @@ const IN_FORM: &str = "a ring's tables are in form";
 ///
 /// let mut ring = Ring::new(5)?;
 /// assert_eq!(ring.join(&[1, 3]), Ok(1));
-/// assert_eq!(ring.aim(1), Ok(3));
+/// assert_eq!(ring.order(), [1, 2, 4, 5, 3]);
+/// // bin 3 stands at the last place, next to bin 1 at place 0: of these two the aim is the bin at place 0
+/// assert_eq!(ring.aim(1), Ok(1));
 /// // a group with no bins takes a place of the book and has no aim
 /// assert_eq!(ring.join(&[]), Ok(2));
 /// assert_eq!(ring.aim(2), Err(Refusal::NoAim));
@@ -81,7 +83,8 @@ impl Ring {
         order
     }
 
-    /// The leaf that is the aim, in the standard order, of the book's group with this number from 1; an empty group has none.
+    /// The aim of the book's group with this number from 1, the leaf in the middle of its run in the standard order: of two middle places,
+    /// counted from 0, the even one; of the last place and place 0, place 0. An empty group has none.
     pub fn aim(&self, group: usize) -> Result<usize, Refusal> {
         crate::aim(self.n, &self.nodes, &self.book, self.count, group)
     }

@@ -45,7 +45,7 @@ module _ (nodes : Nodes) (other : Bool) where
     tables-pass q e = rw (size-fine (nodes .bins) l m, q, e)
 
   -- Where none of them refuses.
-  pub holds-lent : first-refusal (table-checks nodes other) ≡ none → (t : Forest) → Holds (leaves nodes) (nodes .rows) t → LentTree nodes t
+  holds-lent : first-refusal (table-checks nodes other) ≡ none → (t : Forest) → Holds (leaves nodes) (nodes .rows) t → LentTree nodes t
   holds-lent e t h = let w = tables-whole nodes other e in record { some-leaf = w .0; few-leaves = w .1; all-records = w .2; all-rows = w .3; tree = h }
 
 -- Of a ring that is to be made: room for its tree and its book.

@@ -2,14 +2,15 @@
 use mathlib.Core.Path.{_≡_, refl, ap, _∙_}
 use mathlib.Core.Bool.{Bool, true, false, not, _&&_}
 use mathlib.Core.List.{List, [], _∷_}
-use Prim.Native.Nat.{ℕ, suc, _+_, _-_, _/_, _%_, _<_}
+use Prim.Native.Nat.{ℕ, suc, _+_, _-_, _<_}
 use native.Mathlib.Omega.{arith}
 use native.Mathlib.Numerals.{add-one}
 use lib.Dec.{leb}
 use lib.ListN.{length, getD}
+use Rattle.spec_orders.specs.Lists.{count}
 use Rattle.spec_orders.specs.CircularOrder.{Restriction}
 use Rattle.spec_orders.specs.Conflict.{consecutive?}
-use Rattle.spec_orders.specs.Aim.{count-in, last-of, start-after, run-start, aim-of}
+use Rattle.spec_orders.specs.Aim.{last-of, start-after, run-start, aim-place, aim-of}
 use Rattle.spec_orders.proofs.ListLaws.{tail, tail-is}
 use Rattle.spec_calls.specs.declared.Refusal.the-variants.{NotConsecutive}
 use Rattle.spec_calls.specs.declared.Answer.the-variants.{Done, Refused}
@@ -67,8 +68,8 @@ after-outside true b e = rw e
 after-outside false b e = refl
 
 -- The aim, from where the run starts and its size.
-pub aim-is : (G : Restriction) (l : List ℕ) (start size : ℕ) → 0 < length l → start ≡ start-after G (getD l (length l - 1) 0) 0 l → size ≡ count-in G l
-    → getD l ((start + (size - 1) / 2) % length l) 0 ≡ aim-of G l
+pub aim-is : (G : Restriction) (l : List ℕ) (start size : ℕ) → 0 < length l → start ≡ start-after G (getD l (length l - 1) 0) 0 l → size ≡ count G l
+    → getD l (aim-place (length l) start size) 0 ≡ aim-of G l
 unfolding aim-of run-start
 aim-is G l start size h s m = rw (s, m, last-is l h)
 

@@ -4,5 +4,3 @@ pub mod Laws
 pub mod Sizes
 pub mod Orders
 pub mod Calls
-pub mod Runs
-pub mod Aims

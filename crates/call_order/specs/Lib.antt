@@ -1,3 +1,2 @@
 pub mod Starts
 pub mod Rings
-pub mod Aims

@@ -4,9 +4,10 @@ use mathlib.Core.Bool.{Bool, cond, not, _&&_}
 use mathlib.Core.List.{List, [], _∷_}
 use Prim.Native.Nat.{ℕ, suc, _≤_, _<_}
 use lib.ListN.{length}
+use Rattle.spec_orders.specs.Lists.{count}
 use Rattle.spec_orders.specs.CircularOrder.{Restriction}
 use Rattle.spec_orders.specs.Conflict.{consecutive?}
-use Rattle.spec_orders.specs.Aim.{count-in, aim-of}
+use Rattle.spec_orders.specs.Aim.{aim-of}
 use Rattle.mark_words.specs.Marks.{marked, leaves-of}
 use Rattle.spec_calls.specs.declared.Refusal.the-variants.{NotConsecutive}
 use Rattle.spec_calls.specs.declared.Answer.{Answer}
@@ -25,7 +26,7 @@ starts G b (x ∷ xs) = cond (enters G b x) (suc (starts G x xs)) (starts G x xs
 pub record GroupWithin (words order : List ℕ) : Type 0 where
   pub four : length words ≡ 4
   pub some-leaf : 1 ≤ length (leaves-of words)
-  pub all-leaves : count-in (marked words) order ≡ length (leaves-of words)
+  pub all-leaves : count (marked words) order ≡ length (leaves-of words)
   pub some-place : 0 < length order
   pub few-places : length order ≤ 256
 

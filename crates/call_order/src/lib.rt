@@ -6,7 +6,7 @@ ghost use lib.ListN.{length};
 ghost use Rattle.tree_tokens.specs.Tokens.{flat};
 ghost use Rattle.spec_orders.specs.Tree.{Forest};
 ghost use Rattle.spec_orders.specs.Conflict.{consecutive?};
-ghost use Rattle.spec_orders.specs.Aim.{start-after, aim-of};
+ghost use Rattle.spec_orders.specs.Aim.{start-after, rounded, aim-of};
 ghost use Rattle.mark_words.specs.Marks.{marked, leaves-of};
 ghost use Rattle.spec_calls.specs.Tables.{lent-nodes, lent-book};
 ghost use Rattle.spec_calls.specs.Refusals.{report};
@@ -85,15 +85,31 @@ fn size(words: &[u64]) -> usize
     mark_sets::size(words[0], words[1], words[2], words[3])
 }
 
-// The leaf in the middle of the run of marked leaves, the first one of two.
+// The place that the middle between two neighbouring places is rounded to: the even one, or 0 where the upper one is 0. Of one place twice, that place.
+fn rounded(lower: usize, upper: usize) -> usize
+    ensures { λ r. ⌜ r ≡ rounded lower upper ⌝ }
+{
+    if upper == 0 {
+        return 0;
+    }
+    if lower % 2 == 0 {
+        return lower;
+    }
+    upper
+}
+
+// The leaf in the middle of the run of marked leaves; of two, the one at the rounded place.
 pub fn middle(words: &[u64], order: &[u16]) -> usize
     requires { ⌜ GroupWithin (now words) (now order) ⌝ }
     ensures { λ r. ⌜ r ≡ aim-of (marked (now (words .entry))) (now (order .entry)) ⌝ }
 {
-    let last = order[order.len() - 1];
+    let n = order.len();
+    let last = order[n - 1];
     let start = first_start(words, last, 0, order);
     let size = size(words);
-    order[(start + (size - 1) / 2) % order.len()] as usize
+    let lower = (start + (size - 1) / 2) % n;
+    let upper = (start + size / 2) % n;
+    order[rounded(lower, upper)] as usize
 }
 
 // The aim of the group with these marks, or that it is not consecutive.
@@ -128,7 +144,7 @@ fn group_aim(toks: &[u16], book: &[u64], count: usize, group: usize) -> Answer
     aim_in(&book[at..end], &order[0..m])
 }
 
-// The leaf at which the group with this number is aimed (document 01's aim), in the standard order; or refuses (1 to 3, 9, 14, 10).
+// The leaf at which the group with this number is aimed (the middle of its run), in the standard order; or refuses (1 to 3, 9, 14, 10).
 pub fn aim(n: usize, nodes: &[u16], have: usize, book: &[u64], count: usize, group: usize) -> Answer
     ensures { λ r. ⌜ AimPromise (lent-nodes n have (now (nodes .entry))) (lent-book (now (book .entry)) count) group (report r) ⌝ }
 {

@@ -2,19 +2,19 @@
 use mathlib.Core.Path.{_≡_, refl, sym, ap, _∙_}
 use mathlib.Core.Logic.{_≢_}
 use mathlib.Core.List.{List, [], _∷_, _++_}
-use Prim.Native.Nat.{ℕ, _+_, _-_, _/_, _%_, _≤_}
-use native.Mathlib.Nat.{mod-lt}
+use Prim.Native.Nat.{ℕ, _≤_}
 use native.Mathlib.Omega.{arith}
 use lib.ListN.{length}
-use Rattle.spec_orders.specs.Lists.{All, elem, numbers-from}
+use Rattle.spec_orders.specs.Lists.{All, count, elem, numbers-from}
 use Rattle.spec_orders.specs.CircularOrder.{Restriction, WellFormed, group-of}
-use Rattle.spec_orders.specs.Form.{standard}
-use Rattle.spec_orders.specs.Aim.{count-in, run-start, aim-of}
+use Rattle.spec_orders.specs.Aim.{run-start, aim-place, aim-of}
 use Rattle.spec_orders.specs.Circles.{bytes}
 use Rattle.spec_orders.proofs.ListLaws.{all-map, all-at}
 use Rattle.spec_orders.proofs.Members.{in-all}
 use Rattle.spec_orders.proofs.Rearranged.{perm-all}
-use Rattle.spec_orders.proofs.Numbers.{in-range, count-elem}
+use Rattle.spec_orders.proofs.Numbers.{in-range, perm-count, count-elem}
+use Rattle.spec_orders.proofs.StandardOrders.{all-standard}
+use Rattle.spec_orders.proofs.Aims.{aim-place-in}
 use Rattle.spec_orders.proofs.TextTree.{form-length}
 use Rattle.mark_words.specs.Marks.{marked, words-of, leaves-of}
 use Rattle.mark_words.proofs.Words.{length-words}
@@ -25,7 +25,6 @@ use Rattle.table_book.specs.declared.Checked.the-variants.{Fine, Bad}
 use Rattle.table_book.specs.Lists.{ListChecked}
 use Rattle.spec_listing.specs.Listing.{name, aim-field}
 use Rattle.call_order.specs.Starts.{GroupWithin}
-use Rattle.call_order.proofs.Sizes.{count-in-is, perm-count, all-standard}
 use Rattle.list_fields.specs.Ordered.{Ordered}
 
 -- A well-formed list passes the checks.
@@ -55,8 +54,8 @@ module _ {n : ℕ} {order : List ℕ} (o : Ordered n order) where
   pub aim-range : (G : Restriction) → (1 ≤ aim-of G order) × (aim-of G order ≤ n)
   unfolding aim-of
   aim-range G =
-      all-at (λ b. (1 ≤ b) × (b ≤ n)) 0 order ((run-start G order + (count-in G order - 1) / 2) % length order) order-all
-      (mod-lt (run-start G order + (count-in G order - 1) / 2) (omega (arith, order-length, o .some-leaf)))
+      all-at (λ b. (1 ≤ b) × (b ≤ n)) 0 order (aim-place (length order) (run-start G order) (count G order)) order-all
+      (aim-place-in (length order) (run-start G order) (count G order) (omega (arith, order-length, o .some-leaf)))
 
   module _ (list words : List ℕ) (g : WellFormed n list) (w : words ≡ words-of 4 (elem list)) where
     pub same-group : marked words ≡ elem list
@@ -67,10 +66,9 @@ module _ {n : ℕ} {order : List ℕ} (o : Ordered n order) where
         ap (λ (ws : List ℕ). length (leaves-of ws)) w
         ∙ size-of-list 4 list (g .different) (all-map (λ b. (1 ≤ b) × (b ≤ n)) (λ b. (1 ≤ b) × (b ≤ 256)) (λ b r. (r .0, omega (arith, r .1, o .few-leaves))) list (g .in-range))
 
-    counted : count-in (elem list) order ≡ length list
+    counted : count (elem list) order ≡ length list
     counted =
-        ap (count-in (elem list)) (o .is)
-        ∙ count-in-is (elem list) (standard (o .tree))
+        ap (count (elem list)) (o .is)
         ∙ sym (perm-count (elem list) (all-standard n (o .tree) (o .form) (o .some-leaf)))
         ∙ count-elem n list (g .different) (g .in-range)
 
@@ -78,7 +76,7 @@ module _ {n : ℕ} {order : List ℕ} (o : Ordered n order) where
     kept-within some = record {
       four = ap length w ∙ length-words 4 (elem list);
       some-leaf = omega (arith, size, some);
-      all-leaves = ap (λ (G : Restriction). count-in G order) same-group ∙ counted ∙ sym size;
+      all-leaves = ap (λ (G : Restriction). count G order) same-group ∙ counted ∙ sym size;
       some-place = omega (arith, order-length, o .some-leaf);
       few-places = omega (arith, order-length, o .few-leaves);
     }

@@ -2,17 +2,21 @@
 use mathlib.Core.Path.{_≡_, refl, ap, _∙_}
 use mathlib.Core.Bool.{cond}
 use mathlib.Core.List.{List, [], _∷_, _++_}
-use Prim.Native.Nat.{ℕ, zero, suc, _+_, _<_}
+use Prim.Native.Nat.{ℕ, zero, suc, _+_, _≤_, _<_}
 use native.Mathlib.Omega.{arith}
 use native.Mathlib.Numerals.{add-one}
 use lib.Dec.{eqb}
 use lib.ListN.{length, getD, take, length-append, List·getD-append}
 use lib.Seq.{getD-append-add}
+use Rattle.spec_orders.specs.Lists.{elem}
+use Rattle.spec_orders.specs.Tree.{Forest}
 use Rattle.spec_orders.specs.Form.{standard}
 use Rattle.spec_orders.specs.TreeText.{digits}
+use Rattle.spec_orders.specs.Aim.{aim-of, Aimed}
 use Rattle.spec_orders.specs.Circles.{bytes}
-use Rattle.spec_listing.specs.Listing.{RingState, opened, outcome, next, run, state-at, fields, group-lines, listing}
+use Rattle.spec_listing.specs.Listing.{RingState, opened, Outcome, kept, outcome, next, run, state-at, name, fields, group-lines, listing}
 use Rattle.spec_listing.proofs.EmptyLines.{state-form, empty-fields}
+use Rattle.spec_listing.proofs.KeptLines.{kept-aimed}
 use Rattle.list_line.specs.Printing.{group-line, final, ending}
 
 -- The group lines.
@@ -82,6 +86,20 @@ module _ (names lists : List (List ℕ)) where
       middle-line l h
       ∙ ap (λ (list : List ℕ). digits (l + 1) ++ fields names ord s list (outcome (length names) s list)) e
       ∙ ap (λ (told : List ℕ). digits (l + 1) ++ told) (empty-fields (length names) names ord s (state-form (length names) lists l))
+
+  -- One that is kept, and has a leaf, names the leaf in the middle of its group's run in the order that is printed.
+  pub kept-line : (l : ℕ) → l < length lists → (t : Forest) → outcome (length names) (state-at (length names) lists l) (getD lists l []) ≡ kept t
+      → (b : ℕ) (list : List ℕ) → getD lists l [] ≡ b ∷ list → 1 ≤ b → b ≤ length names
+      → (leaf : ℕ) × Aimed (elem (b ∷ list)) ord leaf × (getD (listing names lists) (l + 1) [] ≡ digits (l + 1) ++ (bytes " kept " ++ (name names leaf ++ bytes " -")))
+  unfolding group-line final fields
+  kept-line l h t e b list q some-leaf few =
+      let s = state-at (length names) lists l in (
+        aim-of (elem (b ∷ list)) ord,
+        kept-aimed (length names) lists l h t e b list q some-leaf few,
+        middle-line l h
+            ∙ ap (λ (o : Outcome). digits (l + 1) ++ fields names ord s (getD lists l []) o) e
+            ∙ ap (λ (x : List ℕ). digits (l + 1) ++ fields names ord s x (kept t)) q,
+      )
 
   pub end-line : (j : ℕ) → getD (listing names lists) (length lists + 1 + j) [] ≡ getD (ending names (final names lists)) j []
   end-line j =

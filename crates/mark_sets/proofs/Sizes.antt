@@ -10,9 +10,9 @@ use lib.ListN.{length, getD}
 use lib.Arith.{lt-one}
 use lib.Pow.{shr-lt}
 use lib.Count.{ones, ones-step, ones-ones}
-use Rattle.spec_orders.specs.Lists.{numbers-from}
+use Rattle.spec_orders.specs.Lists.{count, numbers-from}
 use Rattle.mark_words.specs.Marks.{bit, marked, leaves-of}
-use Rattle.spec_orders.proofs.Numbers.{numbers-append, count, count-cons, count-append}
+use Rattle.spec_orders.proofs.Numbers.{numbers-append, count-cons, count-append}
 use Rattle.mark_words.proofs.Word.{digit-times, bit-zero, bit-half}
 use Rattle.mark_words.proofs.Words.{Words, marked-at}
 

@@ -1,14 +1,14 @@
 -- The list of marks, and how many there are.
-use mathlib.Core.Path.{_≡_, sym, ap, _∙_}
-use mathlib.Core.Logic.{_↔_}
+use mathlib.Core.Path.{_≡_, refl, sym, ap, _∙_}
+use mathlib.Core.Logic.{_↔_, inl}
 use mathlib.Core.Bool.{true, false, true≢false}
-use mathlib.Core.List.{List, []}
+use mathlib.Core.List.{List, [], _∷_}
 use Prim.Native.Nat.{ℕ, zero, suc, _+_, _*_, _/_, _%_, _≤_, _<_}
 use native.Mathlib.Nat.{mod-lt}
 use native.Mathlib.Decide.{decLe}
 use native.Mathlib.Omega.{arith}
 use lib.ListN.{length, getD}
-use Rattle.spec_orders.specs.Lists.{All, Distinct, In, those-of, elem, numbers-from}
+use Rattle.spec_orders.specs.Lists.{All, Distinct, In, those-of, elem, numbers-from, same}
 use Rattle.spec_orders.specs.CircularOrder.{Restriction, WellFormed, EmptyGroup}
 use Rattle.mark_words.specs.Marks.{bit, marked, words-of, leaves-of, no-mark?}
 use Rattle.spec_orders.proofs.ListLaws.{all-map}
@@ -45,6 +45,13 @@ no-mark words = (
   (λ e x. false-if (marked words x) (λ m. rw (same-decides (leaves-of words) [] .0 e) at (marked-leaf words x m))),
   (λ e. same-decides (leaves-of words) [] .1 (nothing-in (leaves-of words) (λ x i. true≢false (sym (leaf-marked words x i) ∙ e x)))),
 )
+
+pub some-mark : (words : List ℕ) → no-mark? words ≡ false → (x : ℕ) × In x (leaves-of words)
+some-mark words = go (leaves-of words)
+  where
+    go : (l : List ℕ) → same l [] ≡ false → (x : ℕ) × In x l
+    go [] e = absurd (true≢false e)
+    go (x ∷ l) e = (x, inl refl)
 
 -- So the list is one of different leaves, and the words are those of the list.
 pub leaves-different : (ws : List ℕ) → Distinct (leaves-of ws)

@@ -15,8 +15,8 @@ pub fn order(n: usize, nodes: &[Node], order: &mut [u16]) -> Answer
     call_order::order(n, &flat, have, order)
 }
 
-// Finds the aim, in the standard order, of the book's group with this number from 1; an empty group has none. Answers the leaf; or refuses (1 to 3,
-// 9, 14, 10).
+// Finds the aim of the book's group with this number from 1, the middle of its run in the standard order: of two middle places, counted from 0, the
+// even one; of the last place and place 0, place 0. An empty group has none. Answers the leaf; or refuses (1 to 3, 9, 14, 10).
 pub fn aim(n: usize, nodes: &[Node], book: &[u64], count: usize, group: usize) -> Answer
     ensures { λ r. ⌜ AimPromise (lent-records n (now (nodes .entry))) (lent-book (now (book .entry)) count) group (report r) ⌝ }
 {

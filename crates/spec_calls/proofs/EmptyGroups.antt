@@ -2,32 +2,30 @@
 -- words of an empty group, and a tree's records written over themselves change nothing. (`Leaves.no-mark`: a group is empty iff its words have
 -- no mark.)
 use mathlib.Core.Path.{_≡_, refl, sym, ap, ap₂, subst, _∙_}
-use mathlib.Core.Logic.{_↔_}
-use mathlib.Core.Bool.{Bool, true, false, not, true≢false}
+use mathlib.Core.Bool.{true, true≢false}
 use mathlib.Core.List.{List, [], _∷_, _++_}
 use Prim.Native.Nat.{ℕ, zero, suc, _+_, _-_, _*_, _≤_, _<_}
 use native.Mathlib.Omega.{arith}
-use borrow.Author.Tests.{eq-eqb, ne-eqb, eqb-true, le-ltb}
+use borrow.Author.Tests.{eq-eqb, eqb-true, le-ltb}
 use lib.Dec.{eqb}
 use lib.ListN.{length, take, drop, replicate, length-take, length-drop, take-append-drop}
 use lib.Seq.{take-take, drop-drop}
 use Rattle.spec_orders.specs.Lists.{all-of}
 use Rattle.spec_orders.specs.CircularOrder.{Restriction, group-of, EmptyGroup}
 use Rattle.spec_orders.specs.Tree.{Forest}
-use Rattle.spec_orders.specs.Form.{standard}
-use Rattle.spec_orders.specs.Conflict.{consecutive?, ring-conflicts}
+use Rattle.spec_orders.specs.Conflict.{ring-conflicts}
 use Rattle.spec_orders.proofs.Joining.{empty-joins}
 use Rattle.spec_orders.proofs.EmptyGroups.{conflicts-joined}
 use Rattle.spec_orders.proofs.Tests.{and-both}
-use Rattle.mark_words.specs.Marks.{marked, no-leaf, no-mark?}
+use Rattle.mark_words.specs.Marks.{marked, no-leaf}
 use Rattle.mark_words.proofs.Words.{no-words, empty-words}
-use Rattle.mark_words.proofs.Leaves.{marked-list, no-mark}
+use Rattle.mark_words.proofs.Leaves.{marked-list}
 use Rattle.spec_calls.specs.Tables.{Nodes, leaves, Book, lent-book, over}
 use Rattle.spec_calls.specs.Book.{group-words, booked}
 use Rattle.spec_calls.specs.NodeTable.{table-of}
-use Rattle.spec_calls.specs.declared.Refusal.the-variants.{BookFull, NoAim, NotConsecutive}
-use Rattle.spec_calls.specs.Refusals.{Reply, reply, refuse, first-refusal}
-use Rattle.spec_calls.specs.Calls.{ring, unchanged, join-refusal, joined, join-call, group-numbered, answered, aim-refusal, aim-call, conflict-refusal, conflicts-of, conflict-call}
+use Rattle.spec_calls.specs.declared.Refusal.the-variants.{BookFull}
+use Rattle.spec_calls.specs.Refusals.{reply}
+use Rattle.spec_calls.specs.Calls.{ring, unchanged, join-refusal, joined, join-call, group-numbered, conflict-refusal, conflicts-of, conflict-call}
 use Rattle.spec_calls.specs.Demands.{LentTree, LentBook}
 use Rattle.spec_calls.proofs.NodeTables.{table-length}
 use Rattle.spec_calls.proofs.Books.{form-parts, booked-form}
@@ -116,28 +114,3 @@ pub conflict-joined : (n : ℕ) (book : Book) → LentBook n book → book .coun
 unfolding conflict-call conflict-refusal
 conflict-joined n book lent place-left list conflicts =
     rw (lent .in-form, next-in-form n book lent place-left .in-form, list-joined n book (group-of n list) (next-empty n book lent place-left))
-
--- 14 is the answer to the aim of a group of the book iff it is empty.
-pub aim-empty : (nodes : Nodes) (book : Book) (t : Forest) → LentTree nodes t → LentBook (nodes .bins) book → (k : ℕ) → 1 ≤ k → k ≤ book .count
-    → (aim-call nodes book k ≡ reply 14 0) ↔ EmptyGroup (group-numbered (book .words) k)
-unfolding aim-call aim-refusal
-aim-empty nodes book t h b k l m =
-    rw (
-      size-fine (nodes .bins) (h .some-leaf) (h .few-leaves),
-      nodes-fine nodes (h .all-records) (h .all-rows),
-      le-ltb (length (book .words)) 384 (b .all-words),
-      lent-held nodes t h,
-      b .in-form,
-      ne-eqb k 0 (λ e. omega arith),
-      le-ltb (book .count) k m,
-    )
-    (by-marks (no-mark? (group-words (book .words) (k - 1))) refl (not (consecutive? (group-numbered (book .words) k) (standard t))) _)
-  where
-    by-marks : (e : Bool) → no-mark? (group-words (book .words) (k - 1)) ≡ e → (c : Bool) (v : ℕ)
-        → (answered (first-refusal (refuse e NoAim ∷ refuse c NotConsecutive ∷ [])) v ≡ reply 14 0) ↔ EmptyGroup (group-numbered (book .words) k)
-    by-marks true q c v = (λ p. no-mark (group-words (book .words) (k - 1)) .0 q, λ e. refl)
-    by-marks false q c v = (λ p. absurd (not-14 c v p), λ e. absurd (true≢false (sym (no-mark (group-words (book .words) (k - 1)) .1 e) ∙ q)))
-      where
-        not-14 : (c : Bool) (v : ℕ) → answered (first-refusal (refuse c NotConsecutive ∷ [])) v ≡ reply 14 0 → ⊥
-        not-14 true v p = omega (arith, ap (λ (r : Reply). r .number) p)
-        not-14 false v p = omega (arith, ap (λ (r : Reply). r .number) p)

@@ -1,5 +1,5 @@
--- The three demands and document 02's Nos. 1 and 2, proved by citing: the refusals and what they keep, the promises' own demands on joining, trial,
--- order, conflict and intersection, the round trip of a text, and the laws of empty groups.
+-- The three demands and document 02's Nos. 1 to 3, proved by citing: the refusals and what they keep, the promises' own demands on joining, trial,
+-- order, conflict and intersection, the round trip of a text, and the laws of empty groups and of the aim.
 use mathlib.Core.Path.{_≡_, refl, sym, _∙_, ap, subst}
 use mathlib.Core.Logic.{_↔_, _≢_}
 use mathlib.Core.List.{List}
@@ -7,9 +7,12 @@ use Prim.Native.Nat.{ℕ, _+_, _≤_}
 use lib.ListN.{length, take, drop}
 use Rattle.spec_orders.specs.Tree.{Forest}
 use Rattle.spec_orders.specs.Form.{StandardOrder}
-use Rattle.spec_orders.specs.CircularOrder.{group-of, EmptyGroup}
+use Rattle.spec_orders.specs.CircularOrder.{group-of, EmptyGroup, Consecutive}
+use Rattle.spec_orders.specs.Aim.{aim-of, Aimed}
 use Rattle.spec_orders.proofs.Members.{elem-in, all-in}
 use Rattle.spec_orders.proofs.EmptyGroups.{empty-consecutive}
+use Rattle.spec_orders.proofs.Numbers.{count-some}
+use Rattle.spec_orders.proofs.Aims.{aimed, aimed-only, aimed-inside}
 use Rattle.spec_calls.specs.Tables.{lent-nodes, same-ring, Nodes, Book, lent-book, padded}
 use Rattle.spec_calls.specs.Refusals.{Reply, reply}
 use Rattle.spec_calls.specs.Calls.{Ring, Filled, ring, filled-as, open-refusal, open-call, joined-tree, join-refusal, join-call, trial-call, order-call, aim-call, write-call, group-numbered, conflicts-of, conflict-refusal, conflict-call, intersect-refusal, intersect-call}
@@ -18,10 +21,11 @@ use Rattle.spec_calls.specs.Promises.{JoinPromise, OrderPromise, IntersectPromi
 use Rattle.spec_calls.proofs.Demands.{empty-well-formed, join-done, order-done, first-among}
 use Rattle.spec_calls.proofs.Intersect.{intersect-done, intersect-either, intersect-past}
 use Rattle.spec_calls.proofs.Books.{booked-form}
-use Rattle.spec_calls.proofs.EmptyGroups.{next-empty, next-in-form, join-empty, join-empty-full, conflict-joined, aim-empty}
+use Rattle.spec_calls.proofs.EmptyGroups.{next-empty, next-in-form, join-empty, join-empty-full, conflict-joined}
+use Rattle.spec_calls.proofs.Aims.{aim-empty, aim-middle, aim-apart}
 use Rattle.spec_calls.proofs.Reports.{never-4}
 use Rattle.spec_calls.proofs.Refused.{open-keeps, join-keeps, read-call-keeps}
-use Rattle.spec_demands.specs.Demands.{FirstDemand, Asked, NewRing, SecondDemand, ThirdDemand, AskedBoth, OneRing, TwoTrees, EmptyGroups}
+use Rattle.spec_demands.specs.Demands.{FirstDemand, Asked, NewRing, SecondDemand, ThirdDemand, AskedBoth, OneRing, TwoTrees, EmptyGroups, EvenRuns}
 use Rattle.spec_demands.proofs.Refusals.{by-the-table, ring-by-the-table, filled-by-the-table, open-answer, join-answer, read-answer, some-refusal}
 use Rattle.spec_demands.proofs.Places.{same-numbers, filled-done}
 use Rattle.spec_demands.proofs.RoundTrip.{lent-again, written-read, read-written}
@@ -143,4 +147,14 @@ empty-groups = record {
       (ap (λ (x : Filled). x .answer) same, ap (λ (x : Filled). x .table) same);
   never-named = λ n book list conflicts l m b w places conflicts′ said e. places-never-name n book list said conflicts′ (e .1 l m b places w);
   as-new = λ n book conflicts l m b places conflicts′ said e. empty-list n book said conflicts′ (e .1 l m b places (empty-well-formed n));
+}
+
+pub even-runs : EvenRuns
+even-runs = record {
+  any = λ G ord h x g i. (aim-of G ord, aimed G ord h (count-some G ord x g i));
+  only = λ G ord one two a b. sym (aimed-only G ord one a) ∙ aimed-only G ord two b;
+  inside = λ G ord leaf a. aimed-inside a;
+  aiming = λ nodes book t h b k l m ord s said e.
+      subst (λ (r : Reply). ((leaf : ℕ) → (r ≡ reply 0 leaf) ↔ Aimed (group-numbered (book .words) k) ord leaf) × ((r ≡ reply 10 0) ↔ (Consecutive (group-numbered (book .words) k) ord → ⊥)))
+      (sym e) (aim-middle nodes book t h b k l m ord s, aim-apart nodes book t h b k l m ord s);
 }

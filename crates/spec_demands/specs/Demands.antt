@@ -4,16 +4,18 @@
 -- `Left` (record_left/specs/Records): a refusal leaves the records themselves as they were.
 use mathlib.Core.Path.{_≡_}
 use mathlib.Core.Logic.{_↔_, _≢_}
+use mathlib.Core.Bool.{true}
 use mathlib.Core.Option.{Option, none, some}
 use mathlib.Core.List.{List, [], _∷_, _++_, map}
 use Prim.Native.Nat.{ℕ, _+_, _≤_, _<_}
 use lib.ListN.{length, getD, take, drop}
-use Rattle.spec_orders.specs.Lists.{numbers-from}
+use Rattle.spec_orders.specs.Lists.{In, numbers-from}
 use Rattle.spec_orders.specs.CircularOrder.{Restriction, WellFormed, group-of, EmptyGroup, Consecutive, Possible}
 use Rattle.spec_orders.specs.Tree.{Forest, Allowed}
 use Rattle.spec_orders.specs.Form.{FirstOf, StandardOrder}
 use Rattle.spec_orders.specs.TreeText.{tree, refused, Reads}
 use Rattle.spec_orders.specs.Conflict.{Numbers}
+use Rattle.spec_orders.specs.Aim.{Aimed}
 use Rattle.spec_calls.specs.declared.Refusal.{Refusal}
 use Rattle.spec_calls.specs.declared.Refusal.the-variants.{TreeText}
 use Rattle.spec_calls.specs.Tables.{Nodes, lent-nodes, leaves, same-ring, Book, lent-book, padded}
@@ -215,3 +217,18 @@ pub record EmptyGroups : Type 0 where
   pub as-new : (n : ℕ) (book : Book) (conflicts : List ℕ) → 1 ≤ n → n ≤ 256 → LentBook n book → 96 ≤ length conflicts
       → (conflicts′ : List ℕ) (said : Reply) → ConflictPromise n book [] conflicts conflicts′ said
       → (said ≡ reply 0 0) ↔ Possible n (groups-numbered book (all-numbers book))
+
+-- ==== Document 02, No. 3: middle of an even run
+
+-- `Aimed` (spec_orders/specs/Aim) says where a leaf stands that is aimed at: in the middle of its group's run, and which of two middles it is.
+pub record EvenRuns : Type 0 where
+  -- A group that is consecutive in an order and has a leaf there has one such leaf, and that is one of the group.
+  pub any : (G : Restriction) (ord : List ℕ) → Consecutive G ord → (x : ℕ) → G x ≡ true → In x ord → (leaf : ℕ) × Aimed G ord leaf
+  pub only : (G : Restriction) (ord : List ℕ) (one two : ℕ) → Aimed G ord one → Aimed G ord two → one ≡ two
+  pub inside : (G : Restriction) (ord : List ℕ) (leaf : ℕ) → Aimed G ord leaf → G leaf ≡ true
+  -- For a group of the book, the call answers with a leaf iff the leaf is aimed at in the standard order, and 10 iff the group is not consecutive
+  -- there. (14: `EmptyGroups`.)
+  pub aiming : (nodes : Nodes) (book : Book) (t : Forest) → LentTree nodes t → LentBook (nodes .bins) book → (k : ℕ) → 1 ≤ k → k ≤ book .count
+      → (ord : List ℕ) → StandardOrder t ord → (said : Reply) → AimPromise nodes book k said
+      → ((leaf : ℕ) → (said ≡ reply 0 leaf) ↔ Aimed (group-numbered (book .words) k) ord leaf)
+      × ((said ≡ reply 10 0) ↔ (Consecutive (group-numbered (book .words) k) ord → ⊥))

@@ -22,7 +22,7 @@ module _ (n : ℕ) where
   joined-form s k list f (some t) e = join-some n (elem list) (s .tree) t f e .form
   joined-form s k list f none e = f
 
-  next-form : (s : RingState) (k : ℕ) (list : List ℕ) → InForm n (s .tree) → InForm n (next s k list (outcome n s list) .tree)
+  pub next-form : (s : RingState) (k : ℕ) (list : List ℕ) → InForm n (s .tree) → InForm n (next s k list (outcome n s list) .tree)
   unfolding outcome
   next-form s k list f = go (eqb (length (s .groups)) 96)
     where
@@ -30,7 +30,7 @@ module _ (n : ℕ) where
       go true = f
       go false = joined-form s k list f (join (elem list) (s .tree)) refl
 
-  run-form : (s : RingState) (k : ℕ) (lists : List (List ℕ)) → InForm n (s .tree) → InForm n (run n s k lists .tree)
+  pub run-form : (s : RingState) (k : ℕ) (lists : List (List ℕ)) → InForm n (s .tree) → InForm n (run n s k lists .tree)
   unfolding run
   run-form s k [] f = f
   run-form s k (list ∷ lists) f = run-form (next s k list (outcome n s list)) (suc k) lists (next-form s k list f)

@@ -27,7 +27,7 @@ pub mod ReduceOrders
 pub mod ReduceForm
 pub mod ReduceIdle
 -- The theorems: the form tests, the standard order, the tree text, a restriction that joins, the fresh ring, the order tests, the conflict list,
--- empty groups, leaves in no restriction, the marked circles.
+-- empty groups, the aim, leaves in no restriction, the marked circles.
 pub mod FormTests
 pub mod StandardOrders
 pub mod Digits
@@ -39,5 +39,7 @@ pub mod Fresh
 pub mod Decide
 pub mod Conflicts
 pub mod EmptyGroups
+pub mod Runs
+pub mod Aims
 pub mod Unused
 pub mod Circles

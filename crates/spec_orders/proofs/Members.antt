@@ -27,6 +27,10 @@ module _ {A : Type 0} where
   in-nonempty x [] h = h
   in-nonempty x (y ∷ l) h = tt
 
+  pub in-length : (x : A) (l : List A) → In x l → 1 ≤ length l
+  in-length x [] i = absurd i
+  in-length x (y ∷ l) i = omega arith
+
   pub nothing-in : (l : List A) → ((x : A) → In x l → ⊥) → l ≡ []
   nothing-in [] h = refl
   nothing-in (y ∷ l) h = absurd (h y (inl refl))

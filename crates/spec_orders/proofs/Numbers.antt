@@ -9,8 +9,8 @@ use native.Mathlib.Decide.{ℕ-discrete}
 use native.Mathlib.Omega.{arith}
 use lib.ListN.{length}
 use borrow.Author.Tests.{eq-eqb, ne-eqb}
-use Rattle.spec_orders.specs.Lists.{All, Distinct, In, those-of, elem, numbers-from}
-use Rattle.spec_orders.proofs.Members.{all-in, in-all}
+use Rattle.spec_orders.specs.Lists.{All, Distinct, In, those-of, count, elem, Pick, here, there, Rearranged, done, next, numbers-from}
+use Rattle.spec_orders.proofs.Members.{all-in, in-all, in-length}
 
 pub numbers-length : (a n : ℕ) → length (numbers-from a n) ≡ n
 numbers-length a zero = refl
@@ -82,9 +82,6 @@ pub those-different : (p : ℕ → Bool) (a k : ℕ) → Distinct (those-of p (n
 those-different p a k = those-distinct p (numbers-from a k) (numbers-distinct a k)
 
 -- How many elements pass a test.
-abbrev pub count : (ℕ → Bool) → List ℕ → ℕ
-count p l = length (those-of p l)
-
 pub count-cons : (p : ℕ → Bool) (x : ℕ) (l : List ℕ) → count p (x ∷ l) ≡ cond (p x) 1 0 + count p l
 count-cons p x l = go (p x)
   where
@@ -104,9 +101,31 @@ count-most p (x ∷ l) = go (p x) (count-most p l)
     go true h = omega arith
     go false h = omega arith
 
-count-none : (l : List ℕ) → count (λ x. false) l ≡ 0
-count-none [] = refl
-count-none (x ∷ l) = count-none l
+-- Where all do, and where none does, and where some do.
+pub count-inside : (p : ℕ → Bool) (l : List ℕ) → All (λ x. p x ≡ true) l → count p l ≡ length l
+count-inside p [] h = refl
+count-inside p (x ∷ l) h =
+    let first : _≡_ {A = ℕ} (cond (p x) 1 0) 1 = rw (h .0) in
+    omega (arith, count-cons p x l, count-inside p l (h .1))
+
+pub count-outside : (p : ℕ → Bool) (l : List ℕ) → All (λ x. p x ≡ false) l → count p l ≡ 0
+count-outside p [] h = refl
+count-outside p (x ∷ l) h =
+    let first : _≡_ {A = ℕ} (cond (p x) 1 0) 0 = rw (h .0) in
+    omega (arith, count-cons p x l, count-outside p l (h .1))
+
+pub count-some : (p : ℕ → Bool) (l : List ℕ) (x : ℕ) → p x ≡ true → In x l → 1 ≤ count p l
+count-some p l x h i = in-length x (those-of p l) (those-in p l x h i)
+
+-- As many in another sequence.
+module _ (p : ℕ → Bool) where
+  pick-count : {x : ℕ} {l k : List ℕ} → Pick x l k → count p l ≡ cond (p x) 1 0 + count p k
+  pick-count (here {x = x} {l = l}) = count-cons p x l
+  pick-count (there {x = x} {y = y} {l = l} {m = m} h) = omega (arith, count-cons p y l, count-cons p y m, pick-count h)
+
+  pub perm-count : {l m : List ℕ} → Rearranged l m → count p l ≡ count p m
+  perm-count done = refl
+  perm-count (next {x = x} {m = m} h q) = omega (arith, pick-count h, count-cons p x m, perm-count q)
 
 -- One element more passes: it is counted once in numbers that have it, and not in those that begin after it.
 module _ (p q : ℕ → Bool) (x : ℕ) (at : q x ≡ true) (was : p x ≡ false) (other : (y : ℕ) → y ≢ x → q y ≡ p y) where
@@ -136,7 +155,7 @@ not-elem x (y ∷ l) h = rw (ne-eqb x y (h .0)) (not-elem x l (h .1))
 
 -- A list of different numbers from 1 to k has as many as pass the test of standing in it.
 pub count-elem : (k : ℕ) (l : List ℕ) → Distinct l → All (λ b. (1 ≤ b) × (b ≤ k)) l → count (elem l) (numbers-from 1 k) ≡ length l
-count-elem k [] d h = count-none (numbers-from 1 k)
+count-elem k [] d h = count-outside (λ x. false) (numbers-from 1 k) (in-all (λ x. false ≡ false) (numbers-from 1 k) (λ x i. refl))
 count-elem k (x ∷ l) d h =
     count-more (elem l) (elem (x ∷ l)) x (rw (eq-eqb x x refl)) (not-elem x l (d .0)) (λ y n. rw (ne-eqb y x n)) 1 k (h .0 .0) (omega (arith, h .0 .1))
     ∙ ap suc (count-elem k l (d .1) (h .1))

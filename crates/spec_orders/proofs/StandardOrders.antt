@@ -2,15 +2,22 @@
 use mathlib.Core.Path.{_≡_, refl, subst, sym}
 use mathlib.Core.Logic.{_↔_, inr}
 use mathlib.Core.List.{List}
-use Prim.Native.Nat.{ℕ}
-use Rattle.spec_orders.specs.Lists.{NotAfter}
+use Prim.Native.Nat.{ℕ, zero, suc, _≤_}
+use native.Mathlib.Omega.{arith}
+use Rattle.spec_orders.specs.Lists.{NotAfter, Rearranged, numbers-from}
 use Rattle.spec_orders.specs.Tree.{Forest, frontier, Allowed}
 use Rattle.spec_orders.specs.Form.{InForm, StandardOrder, standard}
+use Rattle.spec_orders.proofs.Rearranged.{perm-skip}
 use Rattle.spec_orders.proofs.NotAfter.{not-after-antisym}
 use Rattle.spec_orders.proofs.First.{frontier-allowed, frontier-first}
 
 pub standard-allowed : (t : Forest) → Allowed t (standard t)
 standard-allowed t = record { after = frontier t; one-first = refl; order = frontier-allowed t }
+
+-- It has the leaves 1 to n.
+pub all-standard : (n : ℕ) (t : Forest) → InForm n t → 1 ≤ n → Rearranged (numbers-from 1 n) (standard t)
+all-standard zero t f h = absurd (omega arith)
+all-standard (suc n) t f h = perm-skip 1 (f .all-leaves)
 
 pub standard-is : (n : ℕ) (t : Forest) → InForm n t → StandardOrder t (standard t)
 standard-is n t f = record {

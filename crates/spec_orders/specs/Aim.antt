@@ -1,14 +1,13 @@
 -- Document 01, "Aim": "Places run from 0 along the standard order."
+use mathlib.Core.Path.{_≡_}
+use mathlib.Core.Logic.{_≢_}
 use mathlib.Core.Bool.{cond, not, _&&_}
-use mathlib.Core.List.{List, [], _∷_}
-use Prim.Native.Nat.{ℕ, suc, _+_, _-_, _/_, _%_}
+use mathlib.Core.List.{List, [], _∷_, _++_}
+use Prim.Native.Nat.{ℕ, suc, _+_, _-_, _/_, _%_, _<_}
+use lib.Dec.{eqb}
 use lib.ListN.{length, getD}
-use Rattle.spec_orders.specs.CircularOrder.{Restriction}
-
--- How many leaves of the list are in the group.
-abbrev pub count-in : Restriction → List ℕ → ℕ
-count-in G [] = 0
-count-in G (x ∷ xs) = cond (G x) (suc (count-in G xs)) (count-in G xs)
+use Rattle.spec_orders.specs.Lists.{count}
+use Rattle.spec_orders.specs.CircularOrder.{Restriction, Consecutive}
 
 abbrev pub last-of : ℕ → List ℕ → ℕ
 last-of b [] = b
@@ -23,7 +22,46 @@ start-after G b p (x ∷ xs) = cond (G x && not (G b)) p (start-after G x (suc p
 unfoldable pub run-start : Restriction → List ℕ → ℕ
 run-start G ord = start-after G (last-of 0 ord) 0 ord
 
--- "A run that starts at place s and has m bins has its aim at the bin on place s + (m − 1) / 2, the quotient rounded down, the sum taken
--- modulo n."
+-- The two places in the middle of "a run that starts at place s and has m bins", counted on past the last place. (`/` here rounds down.) They are side
+-- by side where m is even, and "s + (m − 1) / 2" lies half way between them; where m is odd they are one, the exact middle.
+abbrev pub lower-middle : ℕ → ℕ → ℕ
+lower-middle s m = s + (m - 1) / 2
+
+abbrev pub upper-middle : ℕ → ℕ → ℕ
+upper-middle s m = s + m / 2
+
+-- Document 02, No. 3: "Where s + (m − 1) / 2 lies, taken modulo n, half way between two places, the one with the even number is taken. Between the
+-- last place and place 0, it is 0. An exact middle is taken as before, modulo n." Here b is the place after a, or both are the exact middle.
+unfoldable pub rounded : ℕ → ℕ → ℕ
+rounded a b = cond (eqb b 0) 0 (cond (eqb (a % 2) 0) a b)
+
+-- The place of the aim, round n places, of a run that starts at place s and has m leaves.
+abbrev pub aim-place : ℕ → ℕ → ℕ → ℕ
+aim-place n s m = rounded (lower-middle s m % n) (upper-middle s m % n)
+
+-- The aim of a group that hangs together in the order: the leaf at that place.
 unfoldable pub aim-of : Restriction → List ℕ → ℕ
-aim-of G ord = getD ord ((run-start G ord + (count-in G ord - 1) / 2) % length ord) 0
+aim-of G ord = getD ord (aim-place (length ord) (run-start G ord) (count G ord)) 0
+
+-- The middle without a formula, for a leaf at this place; `next` is the place after it. `before` and `after` count the run's leaves on either side of
+-- it. They are equal; or one is one more, and then the place is even, and not the last one where the other middle is place 0.
+pub data Middle (place next before after : ℕ) : Type 0 where
+  exact : before ≡ after → Middle place next before after
+  lower : suc before ≡ after → place % 2 ≡ 0 → next ≢ 0 → Middle place next before after
+  upper : before ≡ suc after → place % 2 ≡ 0 → Middle place next before after
+
+-- The run of a group that is consecutive in the order. It starts at a place of the order; "the whole ring starts at 0".
+pub record GroupRun (G : Restriction) (ord : List ℕ) : Type 0 where
+  pub turn : Consecutive G ord
+  pub starts : length (turn .before) < length ord
+  pub whole : turn .rest ≡ [] → turn .before ≡ []
+
+-- The leaf b, at this place, stands in the middle of the group's run; `left` and `right` are the run's leaves before it and after it.
+pub record Aimed (G : Restriction) (ord : List ℕ) (b : ℕ) : Type 0 where
+  pub run : GroupRun G ord
+  pub left : List ℕ
+  pub right : List ℕ
+  pub leaves : run .turn .run ≡ left ++ (b ∷ right)
+  pub place : ℕ
+  pub at : place ≡ (length (run .turn .before) + length left) % length ord
+  pub middle : Middle place ((place + 1) % length ord) (length left) (length right)

@@ -12,7 +12,7 @@ use Rattle.spec_orders.specs.TreeText.{digits-in, digits, tree-text}
 use Rattle.spec_orders.specs.Reduce.{reduce}
 use Rattle.spec_orders.specs.Join.{fresh, side, join}
 use Rattle.spec_orders.specs.Conflict.{consecutive?, possible?, leave-out, conflict-list}
-use Rattle.spec_orders.specs.Aim.{run-start, aim-of}
+use Rattle.spec_orders.specs.Aim.{run-start, rounded, aim-of}
 use Rattle.spec_orders.specs.Circles.{bytes}
 use Rattle.mark_words.specs.Marks.{marked, word-of, words-of, leaves-of}
 use Rattle.spec_calls.specs.Tables.{Nodes, lent-nodes, Book, lent-book}
@@ -44,7 +44,7 @@ right-e e =
     && (says (trial-call (nodes-of e) (book-of e 2) (2 ∷ 4 ∷ [])) 0 3
     && (same (conflict-call 5 (book-of e 2) (1 ∷ 5 ∷ []) (replicate 97 7) .table) (1 ∷ 2 ∷ (replicate 94 0 ++ (7 ∷ [])))
     && (same (order-call (nodes-of e) (replicate 6 7) .table) (1 ∷ 2 ∷ 4 ∷ 5 ∷ 3 ∷ 7 ∷ [])
-    && (says (aim-call (nodes-of e) (book-of e 2) 1) 0 3
+    && (says (aim-call (nodes-of e) (book-of e 2) 1) 0 1
     && same (take 16 (write-call (nodes-of e) (replicate 2049 7) .table)) (bytes "1 C(P(2 4) 5 3)" ++ (0 ∷ [])))))))))))
 
 abbrev then-e : Ring → Bool
@@ -54,5 +54,5 @@ abbrev then-d : Ring → Bool
 then-d r = then-e (join-call (nodes-of r) (book-of r 0) (1 ∷ 3 ∷ []))
 
 pub calls-right : then-d (open-call (lent-nodes 5 256 (replicate 65793 7)) (lent-book (replicate 385 7) 0)) ≡ true
-unfolding in-form? reduce fresh side join marked word-of words-of leaves-of book-in-form? booked emptied table-of spelled spelled-tree tree-in bad-leaf open-refusal opened open-call joined-tree join-refusal joined join-call trial-call consecutive? possible? leave-out conflict-list conflict-refusal conflicts-of conflict-call order-refusal order-call aim-refusal aim-call run-start aim-of digits-in digits tree-text write-refusal write-call
+unfolding in-form? reduce fresh side join marked word-of words-of leaves-of book-in-form? booked emptied table-of spelled spelled-tree tree-in bad-leaf open-refusal opened open-call joined-tree join-refusal joined join-call trial-call consecutive? possible? leave-out conflict-list conflict-refusal conflicts-of conflict-call order-refusal order-call aim-refusal aim-call run-start rounded aim-of digits-in digits tree-text write-refusal write-call
 calls-right = refl

@@ -121,7 +121,21 @@ pub(crate) fn aim_in(order: &[u16], group: &Marks) -> Option<usize> {
     let member = |place: usize| marks::has(group, usize::from(order[place % n]) - 1);
     let start = if size == n { 0 } else { (0..n).find(|&place| member(place) && !member(place + n - 1))? };
     let run = (start..start + size).all(member);
-    run.then(|| usize::from(order[(start + (size - 1) / 2) % n]))
+    run.then(|| usize::from(order[middle(n, start, size)]))
+}
+
+/// Returns the place, round n places, of the middle of a run: half way between two places it is the even one, and
+/// place 0 between the last place and that.
+fn middle(n: usize, start: usize, size: usize) -> usize {
+    let halves = 2 * start + size - 1;
+    let place = halves / 2 % n;
+    let next = (place + 1) % n;
+    let to_next = halves % 2 == 1 && (next == 0 || place % 2 == 1);
+    if to_next {
+        next
+    } else {
+        place
+    }
 }
 
 /// Writes the numbers, rising, of the book's groups that are in conflict with the group in the list, then zeros to

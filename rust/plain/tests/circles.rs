@@ -18,8 +18,8 @@ fn circles_d_to_g() {
     assert_eq!(ring.join(&[3, 5]), Ok(2));
     assert_eq!(ring.text(), "1 C(P(2 4) 5 3)");
     assert_eq!(ring.order(), [1, 2, 4, 5, 3]);
-    assert_eq!(ring.aim(1), Ok(3));
-    assert_eq!(ring.aim(2), Ok(5));
+    assert_eq!(ring.aim(1), Ok(1));
+    assert_eq!(ring.aim(2), Ok(3));
     assert_eq!(ring.join(&[1, 5]), refused(8, 0));
     assert_eq!(ring.conflict(&[1, 5]), [1, 2]);
     assert_eq!(ring.conflict(&[2, 4]), []);
@@ -53,7 +53,7 @@ fn largest_ring_and_full_book() {
         assert_eq!(ring.join(&whole), Ok(count));
     }
     assert_eq!(ring.join(&whole), refused(7, 0));
-    assert_eq!(ring.aim(96), Ok(128));
+    assert_eq!(ring.aim(96), Ok(129));
     assert_eq!(ring.order(), whole);
 }
 
@@ -69,7 +69,7 @@ fn node_table_of_circle_e() {
 #[test]
 fn sample_file() {
     let file = b"A B C D E\n1 0 1 0 0\n0 0 1 0 1\n1 0 0 0 1\n0 1 0 1 0\n";
-    let listed = "line answer aim conflict\n1 kept C -\n2 kept E -\n3 refused - 1,2\n4 kept B -\n\
+    let listed = "line answer aim conflict\n1 kept A -\n2 kept C -\n3 refused - 1,2\n4 kept D -\n\
                   order\nA B D E C\ntree\n1 C(P(2 4) 5 3)\n";
     assert_eq!(String::from_utf8(plain::list_file(file)).unwrap(), listed);
     let scanned = plain::scan(file).unwrap();

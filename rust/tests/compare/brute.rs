@@ -65,7 +65,15 @@ fn aim(group: Set, order: &[u16]) -> Result<usize, Refusal> {
     }
     let start = starts(group, order).first().copied().unwrap_or(0);
     let size = group.count_ones() as usize;
-    Ok(order[(start + (size - 1) / 2) % order.len()] as usize)
+    let run: Vec<usize> = (start..start + size).map(|place| place % order.len()).collect();
+    let place = match run[(size - 1) / 2..=size / 2] {
+        [middle] => middle,
+        [_, 0] => 0,
+        [lower, _] if lower % 2 == 0 => lower,
+        [_, upper] => upper,
+        _ => unreachable!("one middle or two"),
+    };
+    Ok(order[place] as usize)
 }
 
 /// Every sequence of these entries.

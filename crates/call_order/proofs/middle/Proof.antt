@@ -1,29 +1,29 @@
--- The place of the run's middle, modulo n.
-use mathlib.Core.Path.{sym, _∙_}
-use Prim.Native.Nat.{_+_, _-_, _/_, _%_, _<_}
+-- The places on both sides of the run's middle, modulo n, and the one that it is rounded to.
+use mathlib.Core.Path.{sym, ap, subst, _∙_}
+use Prim.Native.Nat.{ℕ, _<_}
 use native.Mathlib.Omega.{arith}
-use native.Mathlib.Nat.{mod-lt}
 use borrow.Author.Needs.{needs}
 use denote.Ref.{now}
-use lib.ListN.{length}
+use lib.ListN.{length, getD}
+use Rattle.spec_orders.proofs.Aims.{aim-place-in}
 use Rattle.call_order.proofs.Laws.{aim-is}
 use Rattle.call_order.proofs.middle.Statement.{statement}
 use Rattle.call_order.proofs.middle.Tie as tie
 
-place : (c : tie.After-size) → (c .before .first-start .result + (c .size .result - 1) / 2) % length (c .before .before .before .before .before .args .order .now) < length (c .before .before .before .before .before .args .order .now)
-place c = mod-lt _ (c .before .before .before .before .before .pre .some-place)
+place : (c : tie.After-rounded) → c .rounded .result < length (now (c .before .before .before .before .before .before .args .order))
+place c = subst (λ (p : ℕ). p < length (now (c .before .before .before .before .before .before .args .order))) (sym (c .rounded .ensures)) (aim-place-in (length (now (c .before .before .before .before .before .before .args .order))) (c .before .before .first-start .result) (c .before .size .result) (c .before .before .before .before .before .before .pre .some-place))
 
 mul-result : tie.Need-mul-result
-mul-result c = omega (arith, place c, c .before .before .before .before .before .pre .few-places)
+mul-result c = omega (arith, place c, c .before .before .before .before .before .before .pre .few-places)
 
 shared-slice-read-result : tie.Need-shared-slice-read-result
 shared-slice-read-result c = place (c .before)
 
 cast-result : tie.Need-cast-result
-cast-result c = omega (arith, c .shared-slice-known4 .given ((c .before .before .first-start .result + (c .before .size .result - 1) / 2) % length (c .before .before .before .before .before .before .args .order .now)))
+cast-result c = omega (arith, c .shared-slice-known4 .given (c .before .rounded .result))
 
 returns : tie.Need-returns
-returns c = aim-is _ _ _ _ (c .before .before .before .before .before .before .pre .some-place) (c .before .before .first-start .ensures .1) (c .before .size .ensures ∙ sym (c .before .before .before .before .before .before .pre .all-leaves))
+returns c = ap (λ (p : ℕ). getD (now (c .before .before .before .before .before .before .before .args .order)) p 0) (c .before .rounded .ensures) ∙ aim-is _ _ _ _ (c .before .before .before .before .before .before .before .pre .some-place) (c .before .before .before .first-start .ensures .1) (c .before .before .size .ensures ∙ sym (c .before .before .before .before .before .before .before .pre .all-leaves))
 
 pub middle-spec : {M : Type 1} → statement M
 middle-spec =
@@ -37,6 +37,9 @@ middle-spec =
     (λ c. search needs)
     (λ c. search needs)
     (λ c. search needs)
+    (λ c. search needs)
+    (λ c. search needs)
+    (λ c κs. search needs)
     mul-result
     shared-slice-read-result
     cast-result
