@@ -41,8 +41,11 @@ rounded-either Q a b p q = go (ℕ-discrete b 0) (ℕ-discrete (a % 2) 0)
     go (no h) (yes e) = subst Q (sym (rounded-even a b h e)) p
     go (no h) (no e) = subst Q (sym (rounded-odd a b h e)) q
 
+pub rounded-in : (n a b : ℕ) → a < n → b < n → rounded a b < n
+rounded-in n a b = rounded-either (λ p. p < n) a b
+
 pub aim-place-in : (n s m : ℕ) → 0 < n → aim-place n s m < n
-aim-place-in n s m l = rounded-either (λ p. p < n) (lower-middle s m % n) (upper-middle s m % n) (mod-lt (lower-middle s m) l) (mod-lt (upper-middle s m) l)
+aim-place-in n s m l = rounded-in n (lower-middle s m % n) (upper-middle s m % n) (mod-lt (lower-middle s m) l) (mod-lt (upper-middle s m) l)
 
 rounded-one : (a : ℕ) → rounded a a ≡ a
 rounded-one a = rounded-either (λ p. p ≡ a) a a refl refl

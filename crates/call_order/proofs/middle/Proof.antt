@@ -1,17 +1,18 @@
 -- The places on both sides of the run's middle, modulo n, and the one that it is rounded to.
 use mathlib.Core.Path.{sym, ap, subst, _∙_}
 use Prim.Native.Nat.{ℕ, _<_}
+use native.Mathlib.Nat.{mod-lt}
 use native.Mathlib.Omega.{arith}
 use borrow.Author.Needs.{needs}
 use denote.Ref.{now}
 use lib.ListN.{length, getD}
-use Rattle.spec_orders.proofs.Aims.{aim-place-in}
+use Rattle.spec_orders.proofs.Aims.{rounded-in}
 use Rattle.call_order.proofs.Laws.{aim-is}
 use Rattle.call_order.proofs.middle.Statement.{statement}
 use Rattle.call_order.proofs.middle.Tie as tie
 
 place : (c : tie.After-rounded) → c .rounded .result < length (now (c .before .before .before .before .before .before .args .order))
-place c = subst (λ (p : ℕ). p < length (now (c .before .before .before .before .before .before .args .order))) (sym (c .rounded .ensures)) (aim-place-in (length (now (c .before .before .before .before .before .before .args .order))) (c .before .before .first-start .result) (c .before .size .result) (c .before .before .before .before .before .before .pre .some-place))
+place c = subst (λ (p : ℕ). p < length (now (c .before .before .before .before .before .before .args .order))) (sym (c .rounded .ensures)) (rounded-in _ _ _ (mod-lt _ (c .before .before .before .before .before .before .pre .some-place)) (mod-lt _ (c .before .before .before .before .before .before .pre .some-place)))
 
 mul-result : tie.Need-mul-result
 mul-result c = omega (arith, place c, c .before .before .before .before .before .before .pre .few-places)
