@@ -58,6 +58,7 @@ class Call(NamedTuple):
     does: str
     value: str = ""  # what it answers, where `does` does not tell it
     refuses: str = ""
+    by_hand: str = ""  # the crate that has it on node records, where that is written by hand
 
 
 class FileCall(NamedTuple):
@@ -125,6 +126,7 @@ RING = [
         promise="TrialPromise",
         lent="n nodes book count list",
         does="Answers as joining the list's group would, and changes nothing.",
+        by_hand="record_trial",
     ),
     Call(
         name="order",

@@ -5,7 +5,7 @@
 These are: the calls for C and Rust (c_update, c_order, c_conflict, c_text, c_intersection), the calls on node records (record_update, record_order,
 record_text, record_intersection) and those on records for tests (test_records), with their proofs; the refusals and the declarations in
 include/tokuwhape.h, rust/src/refusal.rs, rust/src/symbols.rs and rust/ring_records/src/symbols.rs. Of what is written by hand these are compared: in
-c_file the heads of its functions, and in spec_calls the numbers of the refusals."""
+c_file the heads of its functions, in a call on node records its head and its contract, and in spec_calls the numbers of the refusals."""
 import sys
 from pathlib import Path
 
@@ -13,9 +13,9 @@ import calls
 from layers.coded import Coded
 from layers.declarations import exported, header, symbols
 from layers.on_records import OnRecords
-from layers.rattle import c_proof, c_source, file_heads, records_source, tests_source
+from layers.rattle import c_proof, c_source, file_heads, on_records_head, records_source, tests_source
 from layers.refusals import rust as refusals, specified
-from layers.table import functions, of_crate, with_nodes
+from layers.table import functions, of_crate, records_crate, with_nodes
 
 ROOT = Path(__file__).resolve().parent.parent
 
@@ -28,10 +28,11 @@ def files():
         for call in of_crate(crate):
             made[f"crates/c_{crate}/proofs/tokuwhape_{call.name}/Proof.antt"] = c_proof(call)
     for call in with_nodes():
-        crate = f"record_{call.crate}"
-        made[f"crates/{crate}/src/lib.rt"] = records_source(call.crate)
-        for function in functions(call):
-            made[f"crates/{crate}/proofs/{function.name}/Proof.antt"] = OnRecords(function).proof()
+        crate = records_crate(call)
+        if not call.by_hand:
+            made[f"crates/{crate}/src/lib.rt"] = records_source(call.crate)
+            for function in functions(call):
+                made[f"crates/{crate}/proofs/{function.name}/Proof.antt"] = OnRecords(function).proof()
         made[f"crates/test_records/proofs/ring_{call.name}/Proof.antt"] = Coded(call, crate).proof()
     made["crates/test_records/src/lib.rt"] = tests_source()
     made["include/tokuwhape.h"] = header((ROOT / "include/tokuwhape.h").read_text())
@@ -58,6 +59,7 @@ def main(words):
     lost = sorted({str(x.relative_to(ROOT)) for folder in folders for x in folder.glob("*/Proof.antt")} - made.keys())
     differ += [f"{path} (of no call)" for path in lost]
     by_hand = {"crates/c_file/src/lib.rt": file_heads(), "crates/spec_calls/specs/Refusals.antt": ["\n".join(specified())]}
+    by_hand |= {f"crates/{call.by_hand}/src/lib.rt": on_records_head(call) for call in with_nodes() if call.by_hand}
     wrong = [f"{path} (by hand)" for path, parts in by_hand.items() if not all(part in (ROOT / path).read_text() for part in parts)]
     print(*differ, *wrong, sep="\n", end="\n" if differ or wrong else "")
     return 1 if lost or wrong or (check and differ) else 0

@@ -88,7 +88,7 @@ macro_rules! planner {
                 black_box($planner::write(self.n, &self.nodes, &mut self.bytes).expect("in form"));
             }
             fn read(&mut self, text: &[u8]) {
-                black_box($planner::read(self.n, &mut self.nodes, &mut self.book, text).expect("a text"));
+                self.count = $planner::read(self.n, &mut self.nodes, &mut self.book, text).expect("a text");
             }
             fn conflict(&mut self, list: &[u16]) -> usize {
                 $planner::conflict(self.n, &self.book, self.count, list, &mut self.conflicts).expect("in form")
@@ -347,12 +347,24 @@ fn intersection_rows(n: usize) -> Vec<Row> {
     ]
 }
 
-/// The calls on the deepest tree of n leaves: a trial of the innermost pair, and one of the pair with all nodes between.
+/// One join, each to the tree of a text that is read before it.
+fn read_and_joined(n: usize, text: &[u8], group: &[u16]) -> [f64; 2] {
+    both(CALLS, opened(n), |ring| {
+        ring.read(text);
+        vec![timed(|| ring.join(black_box(group)))]
+    })
+}
+
+/// The calls on the deepest tree of n leaves: the innermost pair, which it keeps together already; the next one, which changes the nodes at its end;
+/// and the pair with all nodes between.
 fn deep_rows(n: usize) -> Vec<Row> {
     let text = deepest(n);
     let deep = || changed(n, |ring| ring.read(&text));
-    let (inner, ends) = ([2, 3], [2, n as u16]);
+    let (inner, next, ends) = ([2, 3], [3, 4], [2, n as u16]);
     vec![
+        ("join, deepest tree, inner pair", read_and_joined(n, &text, &inner)),
+        ("join, deepest tree, next pair", read_and_joined(n, &text, &next)),
+        ("join, deepest tree, outer pair", read_and_joined(n, &text, &ends)),
         ("trial, deepest tree, inner pair", short(deep(), |ring| ring.trial(black_box(&inner)))),
         ("trial, deepest tree, outer pair", short(deep(), |ring| ring.trial(black_box(&ends)))),
         ("order, deepest tree", short(deep(), |ring| ring.order())),
@@ -381,7 +393,7 @@ fn main() {
     for call in 0..tables[0].len() {
         for (n, table) in SIZES.iter().zip(&tables) {
             let (name, [ours, theirs]) = table[call];
-            println!("| {name} | {n} | {ours:.0} | {theirs:.0} | {:.1} |", ours / theirs);
+            println!("| {name} | {n} | {ours:.0} | {theirs:.0} | {:.2} |", ours / theirs);
         }
     }
     println!("\n| call | proved, 256 over 64 | plain, 256 over 64 |\n|---|---|---|");

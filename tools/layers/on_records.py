@@ -141,10 +141,10 @@ class OnRecords(Walk):
     def filled(self):
         """The array is made, the other slices put together (X), and the records loaded."""
         c, l, t = self.c, f"l{sub(self.array)}", self.table
-        c.say(f"assigns ! (rep ! 65792 (lit ! tt)) (from ! (stop !)) (init ! {self.place(self.array)} refl (rep-typed 𝓤 H A W 65792 {l})) $")
+        c.say(f"assigns ! (rep ! 65792 (lit ! tt)) (from ! (stop !)) (init ! {self.place(self.array)} refl (rep-typed 𝓤 H A W w16 65792 {l})) $")
         c.move(f"L{self.array}")
         c.items[0] = "array"
-        c.say(f"use1 W (some (λ (ys : List ℕ). ‵ (Flat 65792 {l} ys) ⊛ raw (fact 𝓤 (ys ≡ zero-rows 65792)))) (rep-in 𝓤 H A W 65792 {l}) $ pick ! (λ ys. split ! $ move ! (1 ∷ []) $ heard ! (ys ≡ zero-rows 65792) (λ zeros. fsplit ! $ feqL ! (λ long. feqI ! ℕ (length ys) 65792 long $ fjoin ! $")
+        c.say(f"use1 W (some (λ (ys : List ℕ). ‵ (Flat w16 65792 {l} ys) ⊛ raw (fact 𝓤 (ys ≡ zero-rows 65792)))) (rep-in 𝓤 H A W w16 65792 {l}) $ pick ! (λ ys. split ! $ move ! (1 ∷ []) $ heard ! (ys ≡ zero-rows 65792) (λ zeros. fsplit ! $ feqL ! (λ long. feqI ! ℕ (length ys) 65792 long $ fjoin ! $")
         yield c.line()
         c.drained("toks", "split", ["t-" + s.name for s in self.tables])
         for s in self.slots:
@@ -181,7 +181,7 @@ class OnRecords(Walk):
             else:
                 reads.append(1 + s.i)
         c.move("array", "X", *self.head)
-        yield c.line() + f" {'works' if self.nodes.mut else 'asks'} ! fm (named {self.nodes.j}) (Core 𝓤 H A mem run) known-core (Said (node-rows {t})) Others Rest {l} (node-rows {t}) (to-core {l} (node-rows {t})) (goes-core {l} (node-rows {t}) m₁) (said {l} (node-rows {t})) (λ ν δ i j. {operands([self.place(k) for k in reads])}) (λ r′ w₂{' fs' * self.nodes.mut} h′."
+        yield c.line() + f" {'works' if self.nodes.mut else 'asks'} ! fm w16 65792 rows-room (named {self.nodes.j}) (Core 𝓤 H A mem run) known-core (Said (node-rows {t})) Others Rest {l} (node-rows {t}) (to-core {l} (node-rows {t})) (goes-core {l} (node-rows {t}) m₁) (said {l} (node-rows {t})) (λ ν δ i j. {operands([self.place(k) for k in reads])}) (λ r′ w₂{' fs' * self.nodes.mut} h′."
         yield f"land ! (from ! (stop !)) (init ! {self.place(self.result)} refl ({LAWFUL} .typed (r′ .0) _ (h′ .0) .0)) $"
         if self.nodes.mut:
             yield from self.lend_array("array-out")
@@ -190,7 +190,7 @@ class OnRecords(Walk):
             yield c.line() + f" stores mem run (named {self.nodes.j}) ! fm known-store κ-{t} q-{t} s-{t} {l} fs (h′ .1 .0 ∙ m₁) (λ i j k. {operands([self.second('array-out'), self.second('nodes-out')])}) (λ w₃ m₃ is₃. land ! (from ! (stop !)) (init ! {self.place(self.unit)} refl (nothing-lawful 𝓤 H A W .typed tt _ is₃ .0)) $"
             yield f"assigns ! (of-opd ! {load(self.place(self.result))}) (from ! (stop !)) (init ! {self.place(0)} refl ({LAWFUL} .typed (r′ .0) _ (h′ .0) .0)) $"
         c.move("array")
-        c.say(f"use1 W (‵ (froom (tyArray (tyInt w16) 65792) {l} 0)) (flat-out 𝓤 H A W 65792 {l} {'fs' if self.nodes.mut else f'(node-rows {t})'}) $")
+        c.say(f"use1 W (‵ (froom (tyArray (tyInt w16) 65792) {l} 0)) (flat-out 𝓤 H A W w16 65792 {l} {'fs' if self.nodes.mut else f'(node-rows {t})'}) $")
         c.items[0] = f"L{self.array}"
         c.say(f"returns ! (look ! {self.place(0)} refl) $")
         for k in range(self.locals - 1, -1, -1):
@@ -233,7 +233,7 @@ class OnRecords(Walk):
         yield f"use Rattle.record_left.proofs.Left.{{{self.name}-left}}"
         yield copy + ".Lit.{big-lit}"
         yield copy + ".Local.{Flat, rep-typed, rep-in, flat-out}"
-        yield copy + ".Steps.{Load, Store, recs, nums, numsVal, loads, loads-shr, works, asks, stores}"
+        yield copy + ".Steps.{rows-room, Load, Store, recs, nums, numsVal, loads, loads-shr, works, asks, stores}"
         for x in ("load", "store"):
             yield f"{copy}.{x}.Symbol as {x}-def\n{copy}.{x}.Met as {x}-thm"
         yield "use Rattle.record_left.specs.Records.{lent-records}"

@@ -127,9 +127,15 @@ def records_uses(made, reply, in_rows=False):
     yield "use record_copy::Node;"
 
 
+def on_records_head(call):
+    """The comment, the head and the contract of the call on node records."""
+    return [comment(with_answer(call)), head(f"pub fn {call.name}", params(call.lent), "Answer", "Node"), f"⌜ {on_records(call, at_entry, at_exit, '(report r)')} ⌝"]
+
+
 def records_source(crate):
-    made = of_crate(crate)
-    yield comment(f"{calls.CRATES[crate]}, {on_tables(made)} of records. {MADE}")
+    made = [call for call in of_crate(crate) if not call.by_hand]
+    apart = "".join(f", but for `{call.name}`, which stands in {call.by_hand}" for call in of_crate(crate) if call.by_hand)
+    yield comment(f"{calls.CRATES[crate]}, {on_tables(made)} of records{apart}. {MADE}")
     yield from records_uses(made, "report", any(f.in_rows for call in made for f in functions(call)))
     yield "use spec_calls::Answer;"
     for call in made:

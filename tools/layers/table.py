@@ -35,6 +35,11 @@ def of_crate(crate):
     return [call for call in calls.RING if call.crate == crate]
 
 
+def records_crate(call):
+    """The crate that has the call on node records."""
+    return call.by_hand or f"record_{call.crate}"
+
+
 def node_tables(call):
     """The names of the node tables that the call is lent."""
     return [p.name for p in params(call.lent) if p.nodes]

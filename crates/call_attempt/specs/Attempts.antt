@@ -3,20 +3,17 @@ use mathlib.Core.Path.{_≡_}
 use mathlib.Core.Logic.{_≢_}
 use mathlib.Core.Option.{Option, none, some}
 use mathlib.Core.List.{List, [], _∷_}
-use Prim.Native.Nat.{ℕ, _<_}
+use Prim.Native.Nat.{ℕ}
 use lib.Dec.{eqb}
 use Rattle.spec_orders.specs.CircularOrder.{group-of}
 use Rattle.spec_orders.specs.Tree.{Forest}
-use Rattle.spec_orders.specs.Form.{InForm}
 use Rattle.spec_orders.specs.Join.{join}
 use Rattle.mark_words.specs.Marks.{words-of}
 use Rattle.tree_tokens.specs.Tokens.{Wrote, flat}
 use Rattle.spec_calls.specs.declared.Refusal.{Refusal}
 use Rattle.spec_calls.specs.declared.Refusal.the-variants.{BookFull, Impossible}
-use Rattle.spec_calls.specs.Tables.{Nodes, leaves, Book}
 use Rattle.spec_calls.specs.Refusals.{refuse, first-refusal, bad-list}
-use Rattle.spec_calls.specs.Calls.{is-none, joined-tree, join-refusal}
-use Rattle.spec_calls.specs.Demands.{LentTree, LentBook}
+use Rattle.spec_calls.specs.Calls.{is-none}
 use Rattle.call_attempt.specs.declared.Tried.{Tried}
 use Rattle.call_attempt.specs.declared.Tried.the-variants.{Joined, Refused}
 
@@ -34,23 +31,6 @@ pub record JoinedTree (t : Forest) (n count : ℕ) (list marks old new : List �
   pub is : join (group-of n list) t ≡ some tree
   pub wrote : Wrote (flat tree) old new k
 
-abbrev pub AttemptsOn : Forest → ℕ → ℕ → List ℕ → List ℕ → List ℕ → List ℕ → Tried → Type 0
-AttemptsOn t n count list marks old new (Joined k) = JoinedTree t n count list marks old new k
-AttemptsOn t n count list marks old new (Refused r) = group-refusal t n count list ≡ some r
-
--- On lent tables.
-pub record JoinedRing (nodes : Nodes) (book : Book) (list marks old new : List ℕ) (k : ℕ) : Type 0 where
-  pub passes : join-refusal nodes book list ≡ none
-  pub held : Forest
-  pub lent : LentTree nodes held
-  pub groups : LentBook (nodes .bins) book
-  pub place-left : book .count < 96
-  pub group : marks ≡ words-of 4 (group-of (nodes .bins) list)
-  pub tree : Forest
-  pub in-form : InForm (leaves nodes) tree
-  pub is : joined-tree nodes list ≡ some tree
-  pub wrote : Wrote (flat tree) old new k
-
-abbrev pub Attempts : Nodes → Book → List ℕ → List ℕ → List ℕ → List ℕ → Tried → Type 0
-Attempts nodes book list marks old new (Joined k) = JoinedRing nodes book list marks old new k
-Attempts nodes book list marks old new (Refused r) = join-refusal nodes book list ≡ some r
+abbrev pub Attempts : Forest → ℕ → ℕ → List ℕ → List ℕ → List ℕ → List ℕ → Tried → Type 0
+Attempts t n count list marks old new (Joined k) = JoinedTree t n count list marks old new k
+Attempts t n count list marks old new (Refused r) = group-refusal t n count list ≡ some r

@@ -20,7 +20,7 @@ use Rattle.spec_calls.specs.Demands.{LentTree, LentBook}
 use Rattle.spec_calls.proofs.NodeTables.{tree-in-holds}
 use Rattle.spec_calls.proofs.Checks.{first-refusal-some, first-refusal-none, first-refusal-passed}
 use Rattle.spec_calls.proofs.Demands.{size-fine, size-whole, tables-whole}
-use Rattle.table_walk.specs.declared.Walked.the-variants.{Found}
+use Rattle.table_walk.specs.declared.Loaded.the-variants.{Tree}
 use Rattle.table_walk.specs.Walks.{Loads}
 use Rattle.call_checks.specs.declared.Lent.{Lent}
 use Rattle.call_checks.specs.declared.Lent.the-variants.{Refused}
@@ -65,7 +65,7 @@ module _ (nodes : Nodes) (other : Bool) where
     pub no-tree : held-tree nodes ≡ none → first-refusal (tree-checks nodes other) ≡ some NotInForm
     no-tree t = first-refusal-none (table-checks nodes other) of-tree e ∙ rw t
 
-    pub tree-lent : {old new : List ℕ} {k : ℕ} → Loads (leaves nodes) (nodes .rows) old new (Found k) → TreeLent nodes other old new k
+    pub tree-lent : {old new : List ℕ} {k : ℕ} → Loads (leaves nodes) (nodes .rows) old new (Tree k) → TreeLent nodes other old new k
     tree-lent h =
         let w = tables-whole nodes other e in
         record {

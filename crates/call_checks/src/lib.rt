@@ -9,7 +9,7 @@ ghost use Rattle.table_book.specs.Lists.{refusal-in};
 ghost use Rattle.call_checks.specs.Lent.{book-checks, LendsTree, LendsRing};
 use spec_calls::Refusal;
 use table_book::Checked;
-use table_walk::Walked;
+use table_walk::Loaded;
 
 // The lent tree, in this many tokens; or why the call is refused.
 pub enum Lent {
@@ -54,7 +54,7 @@ pub fn lent_tree(n: usize, nodes: &[u16], have: usize, other: bool, toks: &mut [
     if let Checked::Bad(refusal) = check_tables(n, nodes, have, other) {
         return Lent::Refused(refusal);
     }
-    let Walked::Found(k) = table_store::load(nodes, n, toks) else {
+    let Loaded::Tree(k) = table_walk::load(nodes, n, toks) else {
         return Lent::Refused(Refusal::NotInForm);
     };
     Lent::Tree(k)

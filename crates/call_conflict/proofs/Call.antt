@@ -2,11 +2,12 @@
 use mathlib.Core.Path.{_≡_, refl, sym, ap, subst, _∙_}
 use mathlib.Core.Option.{none, some}
 use mathlib.Core.List.{List, [], _∷_, _++_}
-use Prim.Native.Nat.{ℕ, zero, suc, _-_, _≤_}
+use Prim.Native.Nat.{ℕ, _≤_}
 use native.Mathlib.Omega.{arith}
 use borrow.Author.Tests.{le-ltb}
 use lib.ListN.{length, take, drop, replicate}
 use lib.Seq.{take-append-seam}
+use Rattle.spec_orders.proofs.ListLaws.{drop-zeros}
 use Rattle.spec_orders.specs.CircularOrder.{Restriction, WellFormed, group-of}
 use Rattle.spec_orders.proofs.Conflicts.{sublist-length, book-numbers, ring-demand-3}
 use Rattle.spec_calls.specs.declared.Refusal.{Refusal}
@@ -69,11 +70,6 @@ conflict-meets n book list table l m h places w =
     })
 
 -- What the code answers: a refusal; the numbers, which were written to zeros and copied.
-drop-zeros : (w k : ℕ) → _≡_ {A = List ℕ} (drop k (replicate w 0)) (replicate (w - k) 0)
-drop-zeros w zero = let e : w - 0 ≡ w = omega arith in rw e
-drop-zeros zero (suc k) = let e : 0 - suc k ≡ 0 = omega arith in rw e
-drop-zeros (suc w) (suc k) = let e : suc w - suc k ≡ w - k = omega arith in rw e (drop-zeros w k)
-
 module _ (n : ℕ) (book : Book) (list table : List ℕ) where
   promised : {said : Reply} {new : List ℕ} → filled-as said new ≡ conflict-call n book list table → ConflictPromise n book list table new said
   promised e = (e, λ l m h places w. subst (λ (c : Filled). Named n book list (c .answer) (c .table)) (sym e) (conflict-meets n book list table l m h places w))
@@ -88,5 +84,5 @@ module _ (n : ℕ) (book : Book) (list table : List ℕ) where
   unfolding conflict-call
   call-found {numbers} h a b =
       let xs = conflicts-of n book (group-of n list) in
-      let e : numbers ≡ padded 96 xs = a .text ∙ ap (λ (l : List ℕ). xs ++ l) (drop-zeros 96 (length xs)) in
+      let e : numbers ≡ padded 96 xs = a .text ∙ ap (λ (l : List ℕ). xs ++ l) (drop-zeros (length xs) 96) in
       promised (rw (h, a .many, b .text, e))

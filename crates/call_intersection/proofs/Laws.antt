@@ -3,7 +3,7 @@ use mathlib.Core.Path.{_≡_, refl, sym, _∙_, ap, ap₂, subst}
 use mathlib.Core.Bool.{Bool, true, false, not, _||_}
 use mathlib.Core.Option.{Option, none, some}
 use mathlib.Core.List.{List, [], _∷_}
-use Prim.Native.Nat.{ℕ}
+use Prim.Native.Nat.{ℕ, _≤_}
 use native.Mathlib.Omega.{arith}
 use lib.Dec.{eqb}
 use Rattle.spec_orders.specs.Tree.{Forest}
@@ -18,6 +18,7 @@ use Rattle.spec_calls.specs.Refusals.{Reply, reply, reported, refuse, first-ref
 use Rattle.spec_calls.specs.Calls.{filled-as, filled, is-none, of-tree, table-checks, common-tree, pair-checks, common-checks, intersect-refusal, intersect-call}
 use Rattle.spec_calls.specs.Demands.{Intersects, IntersectDemand}
 use Rattle.spec_calls.proofs.Intersect.{common-of, intersect-meets}
+use Rattle.spec_calls.proofs.Demands.{size-whole}
 use Rattle.spec_calls.proofs.Checks.{first-refusal-some, first-refusal-none}
 use Rattle.call_intersection.specs.Common.{CommonLent}
 
@@ -30,6 +31,15 @@ module _ (nodes other third : Nodes) where
 
   abbrev checks : Bool → Bool → Bool → Bool → Bool → Option Refusal
   checks a b c d e = first-refusal (refuse (a || b) RingSize ∷ refuse (c || d) ShortTable ∷ refuse (not e) BinCounts ∷ [])
+
+  -- Where none of them refuses, there is a leaf.
+  pub some-leaf : first-refusal (pair-checks nodes other third) ≡ none → 1 ≤ nodes .bins
+  some-leaf e =
+      size-whole (nodes .bins) (go (bad-size (nodes .bins)) (bad-size (other .bins)) (short-nodes nodes || short-nodes other) (short-nodes third) (eqb (nodes .bins) (other .bins)) e) .0
+    where
+      go : (a b c d f : Bool) → checks a b c d f ≡ none → a ≡ false
+      go true b c d f e = absurd (let z : _≡_ {A = ℕ} 0 1 = cc in omega arith)
+      go false b c d f e = refl
 
   pub bad-other : bad-size (other .bins) ≡ true → some RingSize ≡ first-refusal (pair-checks nodes other third)
   bad-other e = go (bad-size (nodes .bins)) ∙ ap (λ b. checks (bad-size (nodes .bins)) b (short-nodes nodes || short-nodes other) (short-nodes third) (eqb (nodes .bins) (other .bins))) (sym e)

@@ -13,7 +13,7 @@ use call_checks::Lent;
 use spec_calls::Answer;
 use spec_calls::Refusal;
 use table_book::Checked;
-use table_walk::Walked;
+use table_walk::Loaded;
 use tree_update::Updated;
 
 // Checks 1, 2 and 13.
@@ -51,15 +51,15 @@ fn check_pair(
 // Checks 3 and 8 on two whole node tables of n leaves. Writes the tree that allows the orders allowed by both trees to the start of out, and says how
 // many tokens it has; or why there is none.
 fn common(n: usize, nodes: &[u16], other: &[u16], out: &mut [u16]) -> Lent
-    requires { ⌜ (n ≤ 256) × (65792 ≤ length (now nodes)) × (65792 ≤ length (now other)) × (512 ≤ length (now out)) ⌝ }
+    requires { ⌜ (1 ≤ n) × (n ≤ 256) × (65792 ≤ length (now nodes)) × (65792 ≤ length (now other)) × (512 ≤ length (now out)) ⌝ }
     ensures { λ r. ⌜ ((have had : ℕ) → LendsCommon (lent-nodes n have (now (nodes .entry))) (lent-nodes n had (now (other .entry))) (now (out .entry)) (now (out .exit)) r) ⌝ }
 {
     let mut first = [0u16; 512];
-    let Walked::Found(j) = table_store::load(nodes, n, &mut first) else {
+    let Loaded::Tree(j) = table_walk::load(nodes, n, &mut first) else {
         return Lent::Refused(Refusal::NotInForm);
     };
     let mut second = [0u16; 512];
-    let Walked::Found(k) = table_store::load(other, n, &mut second) else {
+    let Loaded::Tree(k) = table_walk::load(other, n, &mut second) else {
         return Lent::Refused(Refusal::NotInForm);
     };
     let found = tree_intersection::intersect(&first[0..j], &second[0..k], n, out);

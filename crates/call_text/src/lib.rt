@@ -15,7 +15,7 @@ use spec_calls::Refusal;
 use table_book::Checked;
 use text_read::Read;
 
-// Writes k zeros, and says so.
+// Writes k zeros, and says how many.
 fn zeros(k: usize, out: &mut [u8]) -> usize
     requires { ⌜ k ≤ length (now out) ⌝ }
     ensures { λ m. ⌜ Wrote (replicate k 0) (now (out .entry)) (now (out .exit)) m ⌝ }

@@ -4,6 +4,7 @@ ghost use Rattle.spec_calls.specs.Tables.{lent-nodes, lent-book};
 ghost use Rattle.spec_calls.specs.Refusals.{report};
 ghost use Rattle.spec_calls.specs.Promises.{OpenPromise, JoinPromise, TrialPromise};
 use call_attempt::Tried;
+use call_checks::Lent;
 use spec_calls::Answer;
 use table_book::Checked;
 
@@ -33,17 +34,20 @@ pub fn join(
 ) -> Answer
     ensures { λ r. ⌜ JoinPromise (lent-nodes n have (now (nodes .entry))) (lent-book (now (book .entry)) count) (now (list .entry)) (now (nodes .exit)) (lent-book (now (book .exit)) count) (report r) ⌝ }
 {
-    let mut marks = [0u64; 4];
     let mut toks = [0u16; 512];
-    let tried = call_attempt::attempt(n, nodes, have, book, count, list, &mut marks, &mut toks);
-    match tried {
-        Tried::Refused(refusal) => Answer::Refused(refusal),
-        Tried::Joined(k) => {
-            table_store::store(&toks[0..k], nodes);
-            table_book::put(book, count, &marks);
-            Answer::Done(count + 1)
-        }
-    }
+    let k = match call_checks::lent_ring(n, nodes, have, book, count, &mut toks) {
+        Lent::Refused(refusal) => return Answer::Refused(refusal),
+        Lent::Tree(k) => k,
+    };
+    let mut marks = [0u64; 4];
+    let mut out = [0u16; 512];
+    let m = match call_attempt::attempt(&toks[0..k], n, count, list, &mut marks, &mut out) {
+        Tried::Refused(refusal) => return Answer::Refused(refusal),
+        Tried::Joined(m) => m,
+    };
+    table_store::replace(&toks[0..k], &out[0..m], nodes);
+    table_book::put(book, count, &marks);
+    Answer::Done(count + 1)
 }
 
 // Answers as joining the list's group would, and changes nothing.
@@ -57,11 +61,12 @@ pub fn trial(
 ) -> Answer
     ensures { λ r. ⌜ TrialPromise (lent-nodes n have (now (nodes .entry))) (lent-book (now (book .entry)) count) (now (list .entry)) (report r) ⌝ }
 {
-    let mut marks = [0u64; 4];
-    let mut spare = [0u16; 512];
-    let tried = call_attempt::attempt(n, nodes, have, book, count, list, &mut marks, &mut spare);
-    match tried {
-        Tried::Refused(refusal) => Answer::Refused(refusal),
-        Tried::Joined(_) => Answer::Done(count + 1),
+    let mut work = [0u64; 265];
+    let short = call_checks::short(nodes, have);
+    let waiting = call_trial::ready(n, short, book, count, list, &mut work);
+    if short {
+        return waiting;
     }
+    table_sweep::sweep(nodes, n, &mut work);
+    call_trial::conclude(n, &work, waiting)
 }

@@ -44,7 +44,7 @@ pub fn advance(
     let count = ring.count;
     let mut marks = [0u64; 4];
     let mut tree = [0u16; 512];
-    let tried = call_attempt::attempt_on(&toks[0..m], n, count, list, &mut marks, &mut tree);
+    let tried = call_attempt::attempt(&toks[0..m], n, count, list, &mut marks, &mut tree);
     let Tried::Joined(k) = tried else {
         return ring;
     };

@@ -11,6 +11,6 @@ pub use record_order::aim;
 pub use record_order::order;
 pub use record_text::read;
 pub use record_text::write;
+pub use record_trial::trial;
 pub use record_update::join;
 pub use record_update::open;
-pub use record_update::trial;

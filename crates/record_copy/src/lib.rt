@@ -65,7 +65,7 @@ fn row_at(flat: &[u16], at: usize) -> Node
 }
 
 // How many records of n are copied: at most 256.
-fn cap(n: usize) -> usize
+pub fn cap(n: usize) -> usize
     ensures { λ r. ⌜ (r ≤ 256) × ((r ≤ n) × ((r ≡ n) ⊎ (r ≡ 256))) ⌝ }
 {
     if n < 256 {

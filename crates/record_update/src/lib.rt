@@ -1,7 +1,8 @@
-// The calls that open a ring, join a group and try one, on a node table of records. Written by tools/outer.py.
+// The calls that open a ring, join a group and try one, on a node table of records, but for `trial`, which stands in record_trial. Written by
+// tools/outer.py.
 ghost use Rattle.spec_calls.specs.Tables.{lent-book};
 ghost use Rattle.spec_calls.specs.Refusals.{report};
-ghost use Rattle.spec_calls.specs.Promises.{OpenPromise, JoinPromise, TrialPromise};
+ghost use Rattle.spec_calls.specs.Promises.{OpenPromise, JoinPromise};
 ghost use Rattle.record_copy.specs.Rows.{node-rows};
 ghost use Rattle.record_left.specs.Records.{lent-records, Left};
 use record_copy::Node;
@@ -29,13 +30,4 @@ pub fn join(n: usize, nodes: &mut [Node], book: &mut [u64], count: usize, list: 
     let r = call_update::join(n, &mut flat, have, book, count, list);
     record_copy::store(&flat, nodes);
     r
-}
-
-// Answers as joining the list's group would, and changes nothing.
-pub fn trial(n: usize, nodes: &[Node], book: &[u64], count: usize, list: &[u16]) -> Answer
-    ensures { λ r. ⌜ TrialPromise (lent-records n (now (nodes .entry))) (lent-book (now (book .entry)) count) (now (list .entry)) (report r) ⌝ }
-{
-    let mut flat = [0u16; 65792];
-    let have = record_copy::load(nodes, &mut flat);
-    call_update::trial(n, &flat, have, book, count, list)
 }

@@ -20,14 +20,13 @@ use Rattle.spec_orders.proofs.Tests.{and-both}
 use Rattle.mark_words.specs.Marks.{marked, no-leaf}
 use Rattle.mark_words.proofs.Words.{no-words, empty-words}
 use Rattle.mark_words.proofs.Leaves.{marked-list}
-use Rattle.spec_calls.specs.Tables.{Nodes, leaves, Book, lent-book, over}
+use Rattle.spec_calls.specs.Tables.{Nodes, Book, lent-book}
 use Rattle.spec_calls.specs.Book.{group-words, booked}
-use Rattle.spec_calls.specs.NodeTable.{table-of}
 use Rattle.spec_calls.specs.declared.Refusal.the-variants.{BookFull}
 use Rattle.spec_calls.specs.Refusals.{reply}
 use Rattle.spec_calls.specs.Calls.{ring, unchanged, join-refusal, joined, join-call, group-numbered, conflict-refusal, conflicts-of, conflict-call}
 use Rattle.spec_calls.specs.Demands.{LentTree, LentBook}
-use Rattle.spec_calls.proofs.NodeTables.{table-length}
+use Rattle.spec_calls.proofs.NodeTables.{over-same}
 use Rattle.spec_calls.proofs.Books.{form-parts, booked-form}
 use Rattle.spec_calls.proofs.Demands.{empty-well-formed, well-formed-passes, size-fine, nodes-fine, lent-held, the-joined, the-refusal}
 
@@ -70,12 +69,6 @@ next-in-form n book lent place-left =
     subst (λ (words : List ℕ). LentBook n (lent-book words (book .count + 1))) (booked-empty n book no-leaf lent place-left (λ x. refl))
     (booked-form n book no-leaf lent place-left (λ x e. absurd (true≢false (sym e))))
 
--- A tree's records written over the rows that hold it.
-over-same : (nodes : Nodes) (t : Forest) → LentTree nodes t → over (table-of t) (nodes .rows) ≡ nodes .rows
-over-same nodes t lent =
-    ap₂ (λ (l : List ℕ) (k : ℕ). l ++ drop k (nodes .rows)) (sym (lent .tree .records)) (table-length (leaves nodes) t (lent .tree .in-form) (lent .few-leaves))
-    ∙ take-append-drop 65792 (nodes .rows)
-
 -- What joining an empty group returns, and leaves: the count rises, and the tables are as they were.
 pub join-empty : (nodes : Nodes) (book : Book) (t : Forest) → LentTree nodes t → LentBook (nodes .bins) book → book .count < 96
     → join-call nodes book [] ≡ ring (reply 0 (book .count + 1)) (nodes .rows) book
@@ -83,7 +76,7 @@ unfolding join-call joined
 join-empty nodes book t h b place-left =
     let none : EmptyGroup (group-of (nodes .bins) []) = λ x. refl in
     rw (the-refusal nodes book [] t h b place-left (empty-well-formed (nodes .bins)), the-joined nodes book [] t h b place-left (empty-well-formed (nodes .bins)), empty-joins (group-of (nodes .bins) []) t none (h .tree .in-form .single))
-    (ap₂ (λ (rows words : List ℕ). ring (reply 0 (book .count + 1)) rows (lent-book words (book .count))) (over-same nodes t h) (booked-empty (nodes .bins) book (group-of (nodes .bins) []) b place-left none))
+    (ap₂ (λ (rows words : List ℕ). ring (reply 0 (book .count + 1)) rows (lent-book words (book .count))) (over-same (nodes .bins) t (nodes .rows) (h .few-leaves) (h .tree)) (booked-empty (nodes .bins) book (group-of (nodes .bins) []) b place-left none))
 
 -- Where there is no place, 7 is the answer.
 pub join-empty-full : (nodes : Nodes) (book : Book) (t : Forest) → LentTree nodes t → LentBook (nodes .bins) book → book .count ≡ 96

@@ -1,5 +1,5 @@
 -- The node table and the tree determine each other: what the records of a tree in form spell is that tree.
-use mathlib.Core.Path.{_≡_, refl, sym, _∙_, ap, subst}
+use mathlib.Core.Path.{_≡_, refl, sym, _∙_, ap, ap₂, subst}
 use mathlib.Core.Logic.{_↔_}
 use mathlib.Core.Bool.{Bool, true, false, cond, _&&_}
 use mathlib.Core.Option.{Option, none, some}
@@ -246,3 +246,7 @@ over-holds n t nodes f l = record {
   in-form = f;
   records = subst (λ k. take k (table-of t ++ drop (length (table-of t)) nodes) ≡ table-of t) (table-length n t f l) (take-append-seam (table-of t) (drop (length (table-of t)) nodes));
 }
+
+-- A tree's table written over one that holds it changes nothing.
+pub over-same : (n : ℕ) (t : Forest) (nodes : List ℕ) → n ≤ 256 → Holds n nodes t → over (table-of t) nodes ≡ nodes
+over-same n t nodes l h = ap₂ (λ (xs : List ℕ) (k : ℕ). xs ++ drop k nodes) (sym (h .records)) (table-length n t (h .in-form) l) ∙ take-append-drop 65792 nodes

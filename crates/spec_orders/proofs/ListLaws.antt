@@ -1,10 +1,10 @@
 -- Laws of lists: a statement of every element, and parts of a list.
-use mathlib.Core.Path.{_≡_, refl, ap}
+use mathlib.Core.Path.{_≡_, refl, ap, _∙_}
 use mathlib.Core.Logic.{_↔_}
 use mathlib.Core.List.{List, [], _++_, _∷_}
 use Prim.Native.Nat.{ℕ, zero, suc, _+_, _-_, _<_}
 use native.Mathlib.Omega.{arith}
-use lib.ListN.{length, getD, take, drop, length-drop}
+use lib.ListN.{length, getD, take, drop, replicate, length-drop}
 use lib.Seq.{take-all}
 use Rattle.spec_orders.specs.Lists.{All}
 
@@ -53,3 +53,20 @@ module _ {A : Type 0} where
 
   pub tail-is : (x : A) (l : List A) → tail (x ∷ l) ≡ l
   tail-is x l = part-to-end (x ∷ l) 1
+
+-- Zeros, some of them dropped.
+pub drop-zeros : (k n : ℕ) → drop {A = ℕ} k (replicate n 0) ≡ replicate (n - k) 0
+drop-zeros zero n = let e : n - 0 ≡ n = omega arith in rw e
+drop-zeros (suc k) zero = let e : 0 - suc k ≡ 0 = omega arith in rw e
+drop-zeros (suc k) (suc n) = let e : suc n - suc k ≡ n - k = omega arith in rw e (drop-zeros k n)
+
+-- Of a part, what stands behind its first elements.
+pub drop-taken : (a b : ℕ) (l : List ℕ) → drop a (take b l) ≡ take (b - a) (drop a l)
+drop-taken zero b l = let e : b ≡ b - 0 = omega arith in ap (λ (m : ℕ). take m l) e
+drop-taken (suc a) zero l = let e : 0 ≡ 0 - suc a = omega arith in ap (λ (m : ℕ). take m (drop (suc a) l)) e
+drop-taken (suc a) (suc b) [] = none (suc b - suc a)
+  where
+    none : (m : ℕ) → _≡_ {A = List ℕ} [] (take m [])
+    none zero = refl
+    none (suc m) = refl
+drop-taken (suc a) (suc b) (x ∷ l) = let e : b - a ≡ suc b - suc a = omega arith in drop-taken a b l ∙ ap (λ (m : ℕ). take m (drop a l)) e

@@ -149,7 +149,7 @@ module _ (p q : ℕ → Bool) (x : ℕ) (at : q x ≡ true) (was : p x ≡ false
             ih n,
           )
 
-not-elem : (x : ℕ) (l : List ℕ) → All (λ y. x ≢ y) l → elem l x ≡ false
+pub not-elem : (x : ℕ) (l : List ℕ) → All (λ y. x ≢ y) l → elem l x ≡ false
 not-elem x [] h = refl
 not-elem x (y ∷ l) h = rw (ne-eqb x y (h .0)) (not-elem x l (h .1))
 

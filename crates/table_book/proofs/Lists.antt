@@ -1,7 +1,7 @@
 -- The check of a group's list, leaf by leaf, and the marks that it makes.
 use mathlib.Core.Path.{_≡_, refl, _∙_, ap}
 use mathlib.Core.Logic.{_≢_}
-use mathlib.Core.Bool.{Bool, true, false, cond, _||_}
+use mathlib.Core.Bool.{Bool, true, false, cond}
 use mathlib.Core.Option.{none, some}
 use mathlib.Core.List.{List, [], _∷_, _++_, append-nil}
 use Prim.Native.Nat.{ℕ, suc, _+_, _≤_, _<_}
@@ -10,6 +10,7 @@ use native.Mathlib.Numerals.{add-one}
 use borrow.Author.Tests.{eq-eqb, ne-eqb, lt-ltb, le-ltb}
 use lib.Dec.{eqb}
 use lib.ListN.{length, getD}
+use Rattle.spec_orders.proofs.Tests.{or-cond}
 use Rattle.spec_orders.specs.Lists.{elem}
 use Rattle.spec_orders.specs.CircularOrder.{group-of}
 use Rattle.spec_orders.proofs.ListLaws.{tail, tail-is}
@@ -28,11 +29,7 @@ pub seen-is : (words s : List ℕ) (b : ℕ) → words ≡ words-of 4 (elem s) �
 seen-is words s b e l m = ap (λ (w : List ℕ). marked w b) e ∙ marked-words 4 (elem s) b l m
 
 pub seen-more : (words s : List ℕ) (b : ℕ) → words ≡ words-of 4 (elem s) → words-of 4 (with-leaf b (marked words)) ≡ words-of 4 (elem (b ∷ s))
-seen-more words s b e = words-agree 4 (with-leaf b (marked words)) (elem (b ∷ s)) (λ x l m. or-elem (eqb x b) (marked words x) ∙ ap (cond (eqb x b) true) (seen-is words s x e l m))
-  where
-    or-elem : (b a : Bool) → (b || a) ≡ cond b true a
-    or-elem true a = refl
-    or-elem false a = refl
+seen-more words s b e = words-agree 4 (with-leaf b (marked words)) (elem (b ∷ s)) (λ x l m. or-cond (eqb x b) (marked words x) ∙ ap (cond (eqb x b) true) (seen-is words s x e l m))
 
 pub seen-none : words-of 4 no-leaf ≡ words-of 4 (elem [])
 seen-none = words-agree 4 no-leaf (elem []) (λ x l m. refl)

@@ -1,3 +1,4 @@
 pub mod Rows
+pub mod Records
 pub mod Writing
 pub mod Entering

@@ -1,7 +1,7 @@
 -- The places and rows of a sequence, item by item.
 use mathlib.Core.Path.{_≡_, refl, sym, ap, _∙_}
 use mathlib.Core.List.{List, _∷_, _++_, append-assoc}
-use Prim.Native.Nat.{ℕ, suc, _+_, _-_, _*_, _/_, _%_, _≤_, _<_}
+use Prim.Native.Nat.{ℕ, suc, _+_, _-_, _/_, _%_, _≤_, _<_}
 use native.Mathlib.Omega.{arith}
 use native.Mathlib.Numerals.{add-one}
 use lib.ListN.{length, getD}
@@ -13,12 +13,12 @@ use Rattle.spec_calls.proofs.NodeTables.{Narrow, entries-length, padded-length}
 use Rattle.tree_tokens.specs.Tokens.{Judged, j-nil, j-leaf, j-node, tree, encode}
 use Rattle.tree_tokens.specs.Views.{shape-of, leaf-of, first-of, items-of, rest-of}
 use Rattle.tree_tokens.proofs.Laws.{leaf-even, shape-leaf, first-leaf-is}
-use Rattle.tree_tokens.proofs.Sequences.{tree-append, encode-injective}
+use Rattle.tree_tokens.proofs.Sequences.{tree-append}
 use Rattle.tree_tokens.proofs.Steps.{Here, opened}
-use Rattle.table_row.specs.Rows.{row, Placed, Rowed}
+use Rattle.table_row.specs.Rows.{row}
 
 -- The first item, by the token at index i.
-even-leaf : (k : Judged) → shape-of k ≡ 1 → getD (encode k) 0 0 / 8 % 2 ≡ 0
+pub even-leaf : (k : Judged) → shape-of k ≡ 1 → getD (encode k) 0 0 / 8 % 2 ≡ 0
 unfolding encode shape-of
 even-leaf j-nil h = absurd (omega arith)
 even-leaf (j-leaf s b k) h = leaf-even s b
@@ -34,17 +34,13 @@ node-here {k = k} p h s = h (rw (← p .head) (even-leaf k s))
 pub leaf-number-here : {l : List ℕ} {i : ℕ} {k : Judged} → Here l i k → getD l i 0 / 8 % 2 ≡ 0 → leaf-of k ≡ getD l i 0 / 16
 leaf-number-here {k = k} p h = rw (← p .head) (sym (first-leaf-is k refl (leaf-here p h)))
 
-pub first-some : (j : Judged) → 0 < length (encode j) → 0 < length (encode (first-of j))
-unfolding encode first-of
-first-some j-nil ne = absurd (omega arith)
-first-some (j-leaf s b j) ne = omega arith
-first-some (j-node s k i j) ne = omega arith
-
 -- The place of the first item, and what comes after it.
-pub entries-leaf : (r : ℕ) (j : Judged) → shape-of j ≡ 1 → entries r (tree j) ≡ leaf-of j ∷ entries r (tree (opened j))
-unfolding shape-of leaf-of items-of rest-of
+pub entries-leaf : (r : ℕ) (j : Judged) → shape-of j ≡ 1 → entries r (tree j) ≡ leaf-of j ∷ entries (r + nodes (tree (first-of j))) (tree (rest-of j))
+unfolding shape-of leaf-of first-of rest-of
 entries-leaf r j-nil h = absurd (omega arith)
-entries-leaf r (j-leaf s b j) h = refl
+entries-leaf r (j-leaf s b j) h =
+    let e : r + 0 ≡ r = omega arith in
+    rw e
 entries-leaf r (j-node s P i j) h = absurd (omega arith)
 entries-leaf r (j-node s C i j) h = absurd (omega arith)
 
@@ -81,13 +77,6 @@ rows-leaf r j-nil h = refl
 rows-leaf r (j-leaf s b j) h = refl
 rows-leaf r (j-node s P i j) h = absurd (omega arith)
 rows-leaf r (j-node s C i j) h = absurd (omega arith)
-
-pub nodes-leaf : (j : Judged) → shape-of j ≡ 1 → nodes (tree j) ≡ nodes (tree (opened j))
-unfolding shape-of items-of rest-of
-nodes-leaf j-nil h = refl
-nodes-leaf (j-leaf s b j) h = refl
-nodes-leaf (j-node s P i j) h = absurd (omega arith)
-nodes-leaf (j-node s C i j) h = absurd (omega arith)
 
 -- A node first: its row, then the rows of what follows its token.
 rows-open : (r : ℕ) (i j : Judged) → rows (suc r) (tree i) ++ rows (suc r + nodes (tree i)) (tree j) ≡ rows (r + 1) (append (tree i) (tree j))
@@ -136,20 +125,6 @@ row-length k r i h =
     let e = entries-length r (tree i) in
     omega (arith, padded-length 255 (entries r (tree i)) (omega arith))
 
--- From j to h, the nodes before h are in the records from r on, and those of h in the records from next on.
-pub record Onward (r next : ℕ) (j h : Judged) : Type 0 where
-  pub count : r + nodes (tree j) ≡ next + nodes (tree h)
-  pub narrow : Narrow (tree j) → Narrow (tree h)
-
-pub onward-start : (r : ℕ) (j : Judged) → Onward r r j j
-onward-start r j = record { count = refl; narrow = λ n. n }
-
-pub onward-leaf : {r next : ℕ} {j h : Judged} → shape-of h ≡ 1 → Onward r next j h → Onward r next j (opened h)
-onward-leaf {h = h} s g = record { count = omega (arith, g .count, nodes-leaf h s); narrow = λ n. narrow-open h (g .narrow n) }
-
-pub onward-node : {r next : ℕ} {j h : Judged} → 0 < length (encode h) → (shape-of h ≡ 1 → ⊥) → Onward r next j h → Onward r (next + 1) j (opened h)
-onward-node {h = h} ne k g = record { count = omega (arith, g .count, nodes-node h ne k); narrow = λ n. narrow-open h (g .narrow n) }
-
 -- The row of the first item, a node of shape s, and the rows after it.
 abbrev pub here-row : ℕ → ℕ → Judged → List ℕ
 here-row s next h = row (s - 1) (entries (next + 1) (tree (items-of h)))
@@ -160,23 +135,3 @@ here-long s next h n = row-length (s - 1) (next + 1) (items-of h) (narrow-items 
 pub rows-first : (next s : ℕ) (h : Judged) → 0 < length (encode h) → s ≡ shape-of h → (s ≡ 1 → ⊥)
     → rows next (tree h) ≡ here-row s next h ++ rows (next + 1) (tree (opened h))
 rows-first next s h ne e k = rw e (rows-node next h ne (λ x. k (e ∙ x)))
-
--- What the bounds say of the items of a node that is next.
-pub narrow-all : {toks : List ℕ} {r room : ℕ} → Rowed toks r room → (j : Judged) → toks ≡ encode j → Narrow (tree j)
-narrow-all p j e = rw (encode-injective j (p .seq) (sym e ∙ p .is)) (p .narrow)
-
-pub next-room : {toks : List ℕ} {r room next : ℕ} {h : Judged} (p : Rowed toks r room) → Onward r next (p .seq) h → r ≤ next → 0 < length (encode h) → (shape-of h ≡ 1 → ⊥)
-    → (257 * (next - r) + 257 ≤ room) × (next + 1 ≤ 256)
-next-room {h = h} p g l ne k = (
-  omega (arith, p .few, g .count, nodes-node h ne k),
-  omega (arith, p .last, g .count, nodes-node h ne k),
-)
-
-pub next-items : {toks l : List ℕ} {r room next : ℕ} {h : Judged} (p : Rowed toks r room) → Onward r next (p .seq) h → 0 < length (encode h) → (shape-of h ≡ 1 → ⊥)
-    → l ≡ encode (items-of h) → Placed l (next + 1) 255
-next-items {h = h} p g ne k e = record {
-  seq = items-of h;
-  is = e;
-  last = omega (arith, p .last, g .count, nodes-node h ne k, nodes-items h);
-  few = narrow-items h (g .narrow (p .narrow));
-}

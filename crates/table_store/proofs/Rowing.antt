@@ -1,31 +1,85 @@
 -- Writing the rows of the nodes, one after the other.
-use mathlib.Core.Path.{_≡_, _∙_}
-use mathlib.Core.List.{List}
-use Prim.Native.Nat.{ℕ, _+_, _-_, _<_}
+use mathlib.Core.Path.{_≡_, sym, ap, subst, _∙_}
+use mathlib.Core.List.{List, _++_}
+use Prim.Native.Nat.{ℕ, _+_, _-_, _≤_, _<_}
+use native.Mathlib.Omega.{arith}
 use lib.ListN.{length, take, drop}
+use lib.Seq.{drop-append-seam}
 use borrow.Rule.Slice.PartMut.{putMid}
+use Rattle.spec_orders.proofs.ListLaws.{part-to-end}
 use Rattle.spec_calls.specs.NodeTable.{rows}
+use Rattle.spec_calls.proofs.NodeTables.{Narrow, rows-length}
 use Rattle.tree_tokens.specs.Tokens.{Judged, tree, encode, Wrote}
-use Rattle.tree_tokens.specs.Views.{shape-of}
-use Rattle.tree_tokens.proofs.Steps.{opened}
-use Rattle.tree_tokens.proofs.Writes.{Written, written-start, written-same, written-then}
-use Rattle.table_row.proofs.Rows.{rows-leaf, Onward, onward-start, onward-leaf, onward-node, here-row, rows-first}
+use Rattle.tree_tokens.specs.Views.{shape-of, items-of}
+use Rattle.tree_tokens.proofs.Steps.{Here, opened}
+use Rattle.tree_tokens.proofs.Writes.{Written, written-start, written-same, written-then, written-length}
+use Rattle.table_row.specs.Rows.{Placed, Rowed, Blank}
+use Rattle.table_row.proofs.Writing.{blank-first, blank-from}
+use Rattle.table_row.proofs.Rows.{rows-leaf, here-row, rows-first, nodes-node, nodes-items, narrow-open, narrow-items}
+use Rattle.table_row.proofs.Records.{before, before-leaf, before-node, before-here, records-length, records-items}
 
--- Of the rows of j, k numbers were written; those of h are left, their first record being next.
-pub record Rowing (r : ℕ) (old new : List ℕ) (next k : ℕ) (j h : Judged) : Type 0 where
-  pub onward : Onward r next j h
-  pub written : Written (rows r (tree j)) (rows next (tree h)) old new k
+-- Of the rows of j, whose tokens are l, k numbers were written; those of h, at index i, are left.
+pub record Rowing (l : List ℕ) (i : ℕ) (old new : List ℕ) (k : ℕ) (j h : Judged) : Type 0 where
+  pub narrow : Narrow (tree j) → Narrow (tree h)
+  pub written : Written (rows 0 (tree j)) (rows (before l i) (tree h)) old new k
 
-pub rowing-start : (r : ℕ) (old : List ℕ) (j : Judged) → Rowing r old old r 0 j j
-rowing-start r old j = record { onward = onward-start r j; written = written-start (rows r (tree j)) old }
+pub rowing-start : (l old : List ℕ) (j : Judged) → Rowing l 0 old old 0 j j
+rowing-start l old j = record { narrow = λ n. n; written = written-start (rows 0 (tree j)) old }
 
-pub rowing-leaf : {r next k : ℕ} {old new : List ℕ} {j h : Judged} → shape-of h ≡ 1 → Rowing r old new next k j h → Rowing r old new next k j (opened h)
-rowing-leaf {next = next} {h = h} s g = record { onward = onward-leaf s (g .onward); written = written-same (rows next (tree (opened h))) (rows-leaf next h s) (g .written) }
+pub rowing-leaf : {l : List ℕ} {i k : ℕ} {old new : List ℕ} {j h : Judged} → Here l i h → i < length l → shape-of h ≡ 1
+    → Rowing l i old new k j h → Rowing l (i + 1) old new k j (opened h)
+rowing-leaf {l} {i} {h = h} p n s g =
+    let same : rows (before l i) (tree h) ≡ rows (before l (i + 1)) (tree (opened h)) =
+    rows-leaf (before l i) h s ∙ ap (λ (m : ℕ). rows m (tree (opened h))) (sym (before-leaf p n s)) in
+    record {
+      narrow = λ w. narrow-open h (g .narrow w);
+      written = written-same (rows (before l (i + 1)) (tree (opened h))) same (g .written);
+    }
 
-pub rowing-node : {r next k m : ℕ} {old new part : List ℕ} {j h : Judged} (s : ℕ) → 0 < length (encode h) → s ≡ shape-of h → (s ≡ 1 → ⊥)
-    → Wrote (here-row s next h) (take (length new - k) (drop k new)) part m → Rowing r old new next k j h
-    → Rowing r old (putMid k (length new - k) new part) (next + 1) (k + m) j (opened h)
-rowing-node {next = next} {h = h} s ne e k w g = record {
-  onward = onward-node ne (λ x. k (e ∙ x)) (g .onward);
-  written = written-then (rows (next + 1) (tree (opened h))) (rows-first next s h ne e k) w (g .written);
+pub rowing-node : {l : List ℕ} {i k m : ℕ} {old new part : List ℕ} {j h : Judged} (s : ℕ) → Here l i h → i < length l → s ≡ shape-of h → (s ≡ 1 → ⊥)
+    → Wrote (here-row s (before l i) h) (take (length new - k) (drop k new)) part m → Rowing l i old new k j h
+    → Rowing l (i + 1) old (putMid k (length new - k) new part) (k + m) j (opened h)
+rowing-node {l} {i} {h = h} s p n e x w g =
+    let first : rows (before l i) (tree h) ≡ here-row s (before l i) h ++ rows (before l (i + 1)) (tree (opened h)) =
+    rows-first (before l i) s h (p .some) e x
+    ∙ ap (λ (m : ℕ). here-row s (before l i) h ++ rows m (tree (opened h))) (sym (before-node p n (λ y. x (e ∙ y)))) in
+    record {
+      narrow = λ v. narrow-open h (g .narrow v);
+      written = written-then (rows (before l (i + 1)) (tree (opened h))) first w (g .written);
+    }
+
+-- There is a record beside each token.
+pub rowed-long : {toks records : List ℕ} {room : ℕ} → Rowed toks records room → length records ≡ length toks
+rowed-long {toks} p = ap length (p .beside) ∙ records-length 0 toks
+
+-- A node is next: there is room for its row, and its items have their places.
+pub next-room : {toks records : List ℕ} {room i k : ℕ} {old new : List ℕ} {h : Judged} (p : Rowed toks records room) → Here toks i h
+    → (shape-of h ≡ 1 → ⊥) → Rowing toks i old new k (p .seq) h → k + 257 ≤ room
+next-room {toks} {i = i} {h = h} p q s g =
+    omega (
+      arith,
+      p .few,
+      written-length (g .written),
+      rows-length 0 (tree (p .seq)) (p .narrow),
+      rows-length (before toks i) (tree h) (g .narrow (p .narrow)),
+      nodes-node h (q .some) s,
+    )
+
+pub next-items : {toks records inner : List ℕ} {room i k : ℕ} {old new : List ℕ} {h : Judged} (p : Rowed toks records room) → Here toks i h
+    → i < length toks → (shape-of h ≡ 1 → ⊥) → Rowing toks i old new k (p .seq) h → inner ≡ encode (items-of h)
+    → Placed inner (take (i + 1 + length inner - (i + 1)) (drop (i + 1) records)) 255
+next-items {toks} {i = i} {h = h} p q n s g e = record {
+  seq = items-of h;
+  is = e;
+  start = before toks i + 1;
+  beside = records-items (p .beside) q n s e;
+  last = omega (arith, p .last, before-here (p .seq) (p .is) q, nodes-node h (q .some) s, nodes-items h);
+  few = narrow-items h (g .narrow (p .narrow));
 }
+
+pub next-blank : {l : List ℕ} {room i k : ℕ} {old new : List ℕ} {j h : Judged} → k + 257 ≤ room → Blank room old → Rowing l i old new k j h
+    → Blank 257 (take (length new - k) (drop k new))
+next-blank {room = room} {k = k} {old} {new} n b g =
+    let w = g .written .wrote in
+    let same : drop k new ≡ drop k old = rw (w .text, w .many) (drop-append-seam (g .written .done) _) in
+    subst (Blank 257) (sym (part-to-end new k ∙ same)) (blank-first {room = room - k} (omega arith) (blank-from {k = k} (omega arith) b))

@@ -1,21 +1,33 @@
--- Sequences whose rows stand in a table: their parts stand there too, and are what the records spell.
-use mathlib.Core.Path.{_≡_, sym, ap, _∙_, subst}
+-- Sequences whose rows stand in a table: their parts stand there too.
+use mathlib.Core.Path.{_≡_, refl, sym, ap, _∙_, subst}
 use mathlib.Core.List.{List, [], _∷_, _++_, append-assoc, append-nil, head-eq-of-cons-eq, tail-eq-of-cons-eq}
-use Prim.Native.Nat.{ℕ, zero, suc, _+_, _-_, _*_, _≤_, _<_}
+use Prim.Native.Nat.{ℕ, suc, _+_, _-_, _*_, _≤_, _<_}
 use native.Mathlib.Omega.{arith}
 use native.Mathlib.Numerals.{add-one}
-use lib.ListN.{length, take, drop, getD, length-append, length-take}
+use lib.ListN.{length, take, drop, getD, length-append, length-drop}
 use lib.Seq.{drop-cons}
-use Rattle.spec_orders.specs.Tree.{Kind, Forest, nil, leaf, node, items, frontier}
+use Rattle.spec_orders.specs.Tree.{Kind, P, Forest, nil, leaf, node, frontier}
 use Rattle.spec_orders.specs.Form.{nodes}
 use Rattle.spec_orders.proofs.ListLaws.{all-left, all-right, part-is}
-use Rattle.spec_calls.specs.NodeTable.{entries, rows, spelled}
-use Rattle.spec_calls.proofs.NodeTables.{row, first-row, rows-after, entries-length, row-length, at-count, at-places, at-next, spelled-node, spelled-entries}
-use Rattle.tree_tokens.specs.Tokens.{encode, flat}
-use Rattle.table_walk.specs.Walks.{RowsStand, NodeStands, PlacesStand}
+use Rattle.spec_calls.specs.NodeTable.{entries, rows, kind-of, spelled-items, spelled}
+use Rattle.spec_calls.proofs.NodeTables.{row, first-row, rows-after, entries-length, row-length, at-count, at-places, at-next, spelled-node}
+use Rattle.tree_tokens.specs.Tokens.{E, node-token, encode, flat}
+use Rattle.table_walk.specs.Walks.{RowsStand, PlacesStand}
+
+-- The tokens of a node, and of what follows it.
+pub node-flat : (k : Kind) (i f : Forest) → flat (node k i f) ≡ flat (node k i nil) ++ flat f
+unfolding encode
+node-flat k i f = ap (λ (l : List ℕ). node-token E k (length (flat i)) ∷ (l ++ flat f)) (sym (append-nil (flat i)))
+
+node-size : (k : Kind) (i f : Forest) → length (flat (node k i f)) ≡ length (flat (node k i nil)) + length (flat f)
+node-size k i f = ap length (node-flat k i f) ∙ length-append (flat (node k i nil)) (flat f)
+
+inner-size : (k : Kind) (i : Forest) → length (flat (node k i nil)) ≡ suc (length (flat i))
+unfolding encode
+inner-size k i = ap suc (length-append (flat i) [] ∙ omega arith)
 
 -- A leaf first.
-leaf-rest : {table : List ℕ} {r b d room : ℕ} {f : Forest} → RowsStand table r (leaf b f) d room → (1 ≤ room) × RowsStand table r f d (room - 1)
+leaf-rest : {table : List ℕ} {r b room : ℕ} {f : Forest} → RowsStand table r (leaf b f) room → (1 ≤ room) × RowsStand table r f (room - 1)
 unfolding encode
 leaf-rest s = (
   omega (arith, s .fits),
@@ -24,152 +36,118 @@ leaf-rest s = (
     at = s .at;
     leaves = s .leaves .1;
     narrow = s .narrow;
-    deep = s .deep;
-    last = s .last;
     fits = omega (arith, s .fits);
+    short = omega (arith, s .short);
   },
 )
 
--- A node first: its size, and that of what follows.
-node-size : (k : Kind) (i f : Forest) → length (flat (node k i f)) ≡ length (flat (node k i nil)) + length (flat f)
-unfolding encode
-node-size k i f =
-    omega (arith, length-append (flat i) (flat f), length-append (flat i) [])
-
-node-inner : (k : Kind) (i : Forest) → length (flat (node k i nil)) ≡ suc (length (flat i))
-unfolding encode
-node-inner k i = ap suc (length-append (flat i) [] ∙ omega arith)
-
-node-first : {table : List ℕ} {r d room : ℕ} {k : Kind} {i f : Forest} → RowsStand table r (node k i f) d room → NodeStands table r d room
-node-first {table} {r} {k = k} {i} {f} s = record {
-  kind = k;
-  inner = i;
-  stands = record {
+-- A node first: it stands there by itself, and so do its items and what follows it.
+module _ {table : List ℕ} {r room : ℕ} {k : Kind} {i f : Forest} (s : RowsStand table r (node k i f) room) where
+  node-alone : RowsStand table r (node k i nil) room
+  node-alone = record {
     more = rows (suc r + nodes i) f ++ s .more;
     at = first-row table r k i f (s .more) (s .at) ∙ simp (append-nil, append-assoc);
     leaves = rw append-nil (all-left (λ b. b ≤ 256) (frontier i) (frontier f) (s .leaves));
     narrow = (s .narrow .0, tt);
-    deep = omega (arith, s .deep);
-    last = omega (arith, s .last);
     fits = omega (arith, s .fits, node-size k i f);
-  };
-}
+    short = omega (arith, s .short, node-size k i f);
+  }
 
--- The rows inside a node.
-next-row : (table : List ℕ) (r : ℕ) (k : Kind) (i f : Forest) (more : List ℕ) → length (items i) ≤ 255 → drop (257 * r) table ≡ rows r (node k i f) ++ more
-    → drop (257 * suc r) table ≡ rows (suc r) i ++ (rows (suc r + nodes i) f ++ more)
-next-row table r k i f more w at =
-    at-next table r k (entries (suc r) i) (rows (suc r) i ++ (rows (suc r + nodes i) f ++ more)) (first-row table r k i f more at) (row-length k (suc r) i w)
+  node-row : drop (257 * r) table ≡ row k (entries (suc r) i) ++ (rows (suc r) i ++ (rows (suc r + nodes i) f ++ s .more))
+  node-row = first-row table r k i f (s .more) (s .at)
 
-node-rest : {table : List ℕ} {r d room : ℕ} {k : Kind} {i f : Forest} → RowsStand table r (node k i f) d room
-    → RowsStand table (suc r + nodes i) f d (room - length (flat (node k i nil)))
-node-rest {table} {r} {k = k} {i} {f} s = record {
-  more = s .more;
-  at = rows-after table (suc r) i (rows (suc r + nodes i) f ++ s .more) (s .narrow .0 .1) (next-row table r k i f (s .more) (s .narrow .0 .0) (s .at));
-  leaves = all-right (λ b. b ≤ 256) (frontier i) (frontier f) (s .leaves);
-  narrow = s .narrow .1;
-  deep = omega (arith, s .deep);
-  last = omega (arith, s .last);
-  fits = omega (arith, s .fits, node-size k i f);
-}
+  next-row : drop (257 * suc r) table ≡ rows (suc r) i ++ (rows (suc r + nodes i) f ++ s .more)
+  next-row = at-next table r k (entries (suc r) i) _ node-row (row-length k (suc r) i (s .narrow .0 .0))
 
--- The record of a node: it is one of the table's, it has at most 255 items, and their places stand in it.
-pub node-record : {table : List ℕ} {r d room : ℕ} → NodeStands table r d room → (1 ≤ d) × (r ≤ 255) × (1 ≤ room)
-node-record s =
-    let h = s .stands in
-    (omega (arith, h .deep), omega (arith, h .last), omega (arith, h .fits, node-inner (s .kind) (s .inner)))
+  node-inner : RowsStand table (suc r) i (room - 1)
+  node-inner = record {
+    more = rows (suc r + nodes i) f ++ s .more;
+    at = next-row;
+    leaves = all-left (λ b. b ≤ 256) (frontier i) (frontier f) (s .leaves);
+    narrow = s .narrow .0 .1;
+    fits = omega (arith, s .fits, node-size k i f, inner-size k i);
+    short = omega (arith, s .short, node-size k i f, inner-size k i);
+  }
 
-node-row : {table : List ℕ} {r d room : ℕ} (s : NodeStands table r d room)
-    → drop (257 * r) table ≡ row (s .kind) (entries (suc r) (s .inner)) ++ (rows (suc r) (s .inner) ++ (rows (suc r + nodes (s .inner)) nil ++ s .stands .more))
-node-row {table} {r} s = first-row table r (s .kind) (s .inner) nil (s .stands .more) (s .stands .at)
+  node-rest : RowsStand table (suc r + nodes i) f (room - length (flat (node k i nil)))
+  node-rest = record {
+    more = s .more;
+    at = rows-after table (suc r) i (rows (suc r + nodes i) f ++ s .more) (s .narrow .0 .1) next-row;
+    leaves = all-right (λ b. b ≤ 256) (frontier i) (frontier f) (s .leaves);
+    narrow = s .narrow .1;
+    fits = omega (arith, s .fits, node-size k i f);
+    short = omega (arith, s .short, node-size k i f);
+  }
 
-count-is : {table : List ℕ} {r d room : ℕ} (s : NodeStands table r d room) → getD table (257 * r + 1) 0 ≡ length (entries (suc r) (s .inner))
-count-is {table} {r} s =
-    at-count table r (s .kind) (entries (suc r) (s .inner)) (rows (suc r) (s .inner) ++ (rows (suc r + nodes (s .inner)) nil ++ s .stands .more)) (node-row s)
+  -- Its record: the kind, how many items, their places.
+  pub kind-is : kind-of (getD table (257 * r) 0) ≡ k
+  unfolding spelled
+  kind-is = ap kind-first (spelled-node table r k (entries (suc r) i) _ node-row 0 (spelled-items (spelled 0 table) (entries (suc r) i)) refl)
+    where
+      kind-first : Forest → Kind
+      kind-first nil = P
+      kind-first (leaf b g) = P
+      kind-first (node c h g) = c
 
-places-are : {table : List ℕ} {r d room : ℕ} (s : NodeStands table r d room)
-    → take (length (entries (suc r) (s .inner))) (drop (257 * r + 2) table) ≡ entries (suc r) (s .inner)
-places-are {table} {r} s =
-    at-places table r (s .kind) (entries (suc r) (s .inner)) (rows (suc r) (s .inner) ++ (rows (suc r + nodes (s .inner)) nil ++ s .stands .more)) (node-row s)
+  count-is : getD table (257 * r + 1) 0 ≡ length (entries (suc r) i)
+  count-is = at-count table r k (entries (suc r) i) _ node-row
 
-pub node-count : {table : List ℕ} {r d room : ℕ} → NodeStands table r d room → getD table (257 * r + 1) 0 ≤ 255
-node-count {table} {r} s = omega (arith, count-is s, entries-length (suc r) (s .inner), s .stands .narrow .0 .0)
+  pub node-record : (257 * r + 257 ≤ length table) × (getD table (257 * r + 1) 0 ≤ 255) × (1 ≤ room) × (length (flat i) ≤ 511)
+  node-record = (
+    omega (arith, ap length node-row, length-drop (257 * r) table, length-append (row k (entries (suc r) i)) (rows (suc r) i ++ (rows (suc r + nodes i) f ++ s .more)), row-length k (suc r) i (s .narrow .0 .0)),
+    omega (arith, count-is, entries-length (suc r) i, s .narrow .0 .0),
+    omega (arith, s .fits, node-size k i f, inner-size k i),
+    omega (arith, s .short, node-size k i f, inner-size k i),
+  )
 
-node-places : {table : List ℕ} {r d room : ℕ} → NodeStands table r (suc d) room
-    → PlacesStand table (take (getD table (257 * r + 1) 0) (drop (257 * r + 2) table)) d (room - 1)
-node-places {table} {r} s =
-    let h = s .stands in
-    record {
-      first = suc r;
-      later = omega arith;
-      seq = s .inner;
-      are = ap (λ (n : ℕ). take n (drop (257 * r + 2) table)) (count-is s) ∙ places-are s;
-      stands = record {
-        more = rows (suc r + nodes (s .inner)) nil ++ h .more;
-        at = next-row table r (s .kind) (s .inner) nil (h .more) (h .narrow .0 .0) (h .at);
-        leaves = all-left (λ b. b ≤ 256) (frontier (s .inner)) [] (h .leaves);
-        narrow = h .narrow .0 .1;
-        deep = omega (arith, h .deep);
-        last = omega (arith, h .last);
-        fits = omega (arith, h .fits, node-inner (s .kind) (s .inner));
-      };
-    }
-
-pub part-few : (l : List ℕ) (a c : ℕ) → length (take (a + c - a) (drop a l)) ≤ c
-part-few l a c = rw (part-is l a c) (omega (arith, length-take c (drop a l)))
-
-pub inner-places : (table : List ℕ) (r d room : ℕ) → 1 ≤ d → NodeStands table r d room
-    → PlacesStand table (take (257 * r + 2 + getD table (257 * r + 1) 0 - (257 * r + 2)) (drop (257 * r + 2) table)) (d - 1) (room - 1)
-inner-places table r d room h s =
-    let e : d ≡ suc (d - 1) = omega arith in
-    rw (part-is table (257 * r + 2) (getD table (257 * r + 1) 0)) (node-places (subst (λ (x : ℕ). NodeStands table r x room) e s))
-
--- What the records spell there is the node.
-node-spelled : {table : List ℕ} (r d room : ℕ) (s : NodeStands table r d room) → spelled d table r ≡ node (s .kind) (s .inner) nil
-unfolding node-places
-node-spelled {table} r zero room s = absurd (omega (arith, s .stands .deep))
-node-spelled {table} r (suc d) room s =
-    let p = node-places s .stands in
-    spelled-node table r (s .kind) (entries (suc r) (s .inner)) (rows (suc r) (s .inner) ++ (rows (suc r + nodes (s .inner)) nil ++ s .stands .more)) (node-row s) d (s .inner)
-    (spelled-entries table d (suc r) (s .inner) (p .more) (omega arith) (p .leaves) (p .narrow) (p .deep) (p .at))
+  pub node-places : PlacesStand table (take (257 * r + 2 + getD table (257 * r + 1) 0 - (257 * r + 2)) (drop (257 * r + 2) table)) (suc r) i (room - 1)
+  node-places = record {
+    later = omega arith;
+    are = part-is table (257 * r + 2) (getD table (257 * r + 1) 0) ∙ ap (λ (n : ℕ). take n (drop (257 * r + 2) table)) count-is ∙ at-places table r k (entries (suc r) i) _ node-row;
+    stand = node-inner;
+  }
 
 -- The first place is that of a leaf.
-leaf-first : (table : List ℕ) (v : ℕ) (vs : List ℕ) (d room q : ℕ) (f : Forest) → 1 ≤ q → v ∷ vs ≡ entries q f → RowsStand table q f d room → v ≤ 256
-    → (1 ≤ room) × PlacesStand table vs d (room - 1)
-leaf-first table v vs d room q nil o e s h = absurd (omega (arith, ap length e))
-leaf-first table v vs d room q (leaf b f) o e s h =
-    let p = leaf-rest s in
-    (p .0, record { first = q; later = o; seq = f; are = tail-eq-of-cons-eq e; stands = p .1 })
-leaf-first table v vs d room q (node k i f) o e s h = absurd (omega (arith, head-eq-of-cons-eq e))
+leaf-first : (table : List ℕ) (v : ℕ) (vs : List ℕ) (room r : ℕ) (f : Forest) → PlacesStand table (v ∷ vs) r f room → v ≤ 256
+    → (1 ≤ room) × (g : Forest) × (f ≡ leaf v g) × PlacesStand table vs r g (room - 1)
+leaf-first table v vs room r nil s h = absurd (omega (arith, ap length (s .are)))
+leaf-first table v vs room r (leaf b g) s h =
+    let p = leaf-rest (s .stand) in
+    (p .0, g, ap (λ (x : ℕ). leaf x g) (sym (head-eq-of-cons-eq (s .are))), record { later = s .later; are = tail-eq-of-cons-eq (s .are); stand = p .1 })
+leaf-first table v vs room r (node k i g) s h = absurd (omega (arith, head-eq-of-cons-eq (s .are), s .later))
 
-pub leaf-head : (table l : List ℕ) (i d room : ℕ) → i < length l → getD l i 0 ≤ 256 → PlacesStand table (drop i l) d room
-    → (1 ≤ room) × PlacesStand table (drop (i + 1) l) d (room - 1)
-leaf-head table l i d room n h p =
-    rw add-one (leaf-first table (getD l i 0) (drop (suc i) l) d room (p .first) (p .seq) (p .later) (sym (drop-cons l i 0 n) ∙ p .are) (p .stands) h)
+pub leaf-head : (table l : List ℕ) (j room : ℕ) {r : ℕ} {f : Forest} → j < length l → getD l j 0 ≤ 256 → PlacesStand table (drop j l) r f room
+    → (1 ≤ room) × (g : Forest) × (f ≡ leaf (getD l j 0) g) × PlacesStand table (drop (j + 1) l) r g (room - 1)
+leaf-head table l j room {r} {f} n h s =
+    rw add-one (leaf-first table (getD l j 0) (drop (suc j) l) room r f (subst (λ (x : List ℕ). PlacesStand table x r f room) (drop-cons l j 0 n) s) h)
 
--- The first place is that of a node, in the record that it tells; m is how many tokens it has.
-node-here : (table : List ℕ) (v : ℕ) (vs : List ℕ) (d room q : ℕ) (f : Forest) → v ∷ vs ≡ entries q f → RowsStand table q f d room → 256 < v
-    → NodeStands table (v - 256) d room
-node-here table v vs d room q nil e s h = absurd (omega (arith, ap length e))
-node-here table v vs d room q (leaf b f) e s h = absurd (omega (arith, head-eq-of-cons-eq e, s .leaves .0))
-node-here table v vs d room q (node k i f) e s h =
-    let n : q ≡ v - 256 = omega (arith, head-eq-of-cons-eq e) in
-    subst (λ (x : ℕ). NodeStands table x d room) n (node-first s)
+-- The first place is that of a node, in the record that it tells.
+pub record NodeFirst (table vs : List ℕ) (r : ℕ) (f : Forest) (room : ℕ) : Type 0 where
+  pub kind : Kind
+  pub inner : Forest
+  pub after : Forest
+  pub is : f ≡ node kind inner after
+  pub here : RowsStand table r (node kind inner nil) room
+  pub next : ℕ
+  pub left : PlacesStand table vs next after (room - length (flat (node kind inner nil)))
 
-node-after : (table : List ℕ) (v : ℕ) (vs : List ℕ) (d room q : ℕ) (f : Forest) → v ∷ vs ≡ entries q f → RowsStand table q f d room → 256 < v
-    → PlacesStand table vs d (room - length (flat (spelled d table (v - 256))))
-unfolding node-first
-node-after table v vs d room q nil e s h = absurd (omega (arith, ap length e))
-node-after table v vs d room q (leaf b f) e s h = absurd (omega (arith, head-eq-of-cons-eq e, s .leaves .0))
-node-after table v vs d room q (node k i f) e s h =
-    let n : q ≡ v - 256 = omega (arith, head-eq-of-cons-eq e) in
-    let is : spelled d table (v - 256) ≡ node k i nil = rw (← n) (node-spelled q d room (node-first s)) in
-    record { first = suc q + nodes i; later = omega arith; seq = f; are = tail-eq-of-cons-eq e; stands = rw is (node-rest s) }
+node-first : (table : List ℕ) (v : ℕ) (vs : List ℕ) (room r : ℕ) (f : Forest) → PlacesStand table (v ∷ vs) r f room → 256 < v
+    → NodeFirst table vs (v - 256) f room
+node-first table v vs room r nil s h = absurd (omega (arith, ap length (s .are)))
+node-first table v vs room r (leaf b g) s h = absurd (omega (arith, head-eq-of-cons-eq (s .are), s .stand .leaves .0))
+node-first table v vs room r (node k i g) s h =
+    let n : r ≡ v - 256 = omega (arith, head-eq-of-cons-eq (s .are)) in
+    record {
+      kind = k;
+      inner = i;
+      after = g;
+      is = refl;
+      here = subst (λ (x : ℕ). RowsStand table x (node k i nil) room) n (node-alone (s .stand));
+      next = suc r + nodes i;
+      left = record { later = omega arith; are = tail-eq-of-cons-eq (s .are); stand = node-rest (s .stand) };
+    }
 
-pub node-head : (table l : List ℕ) (i d room : ℕ) → i < length l → 256 < getD l i 0 → PlacesStand table (drop i l) d room → NodeStands table (getD l i 0 - 256) d room
-node-head table l i d room n h p = node-here table (getD l i 0) (drop (suc i) l) d room (p .first) (p .seq) (sym (drop-cons l i 0 n) ∙ p .are) (p .stands) h
-
-pub node-tail : (table l : List ℕ) (i d room : ℕ) {m : ℕ} → i < length l → 256 < getD l i 0 → m ≡ length (flat (spelled d table (getD l i 0 - 256)))
-    → PlacesStand table (drop i l) d room → PlacesStand table (drop (i + 1) l) d (room - m)
-node-tail table l i d room n h e p =
-    rw (add-one, e) (node-after table (getD l i 0) (drop (suc i) l) d room (p .first) (p .seq) (sym (drop-cons l i 0 n) ∙ p .are) (p .stands) h)
+pub node-head : (table l : List ℕ) (j room : ℕ) {r : ℕ} {f : Forest} → j < length l → 256 < getD l j 0 → PlacesStand table (drop j l) r f room
+    → NodeFirst table (drop (j + 1) l) (getD l j 0 - 256) f room
+node-head table l j room {r} {f} n h s =
+    rw add-one (node-first table (getD l j 0) (drop (suc j) l) room r f (subst (λ (x : List ℕ). PlacesStand table x r f room) (drop-cons l j 0 n) s) h)

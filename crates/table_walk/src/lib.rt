@@ -1,15 +1,15 @@
-// The records of a node table walked from the first on, and the tokens that they spell.
+// The tree that a node table holds, loaded into tokens: the sweep says whether there is one, and a walk from the first record on writes its tokens.
 ghost use mathlib.Core.Path.{_≡_};
-ghost use Prim.Native.Nat.{_<_, _≤_};
+ghost use Prim.Native.Nat.{_≤_};
 ghost use lib.ListN.{length};
-ghost use Rattle.spec_calls.specs.NodeTable.{kind-of, spelled-items, spelled};
+ghost use Rattle.spec_calls.specs.NodeTable.{kind-of};
 ghost use Rattle.tree_tokens.specs.Tokens.{E, node-token};
-ghost use Rattle.table_walk.specs.Walks.{NodeStands, PlacesStand, Walks, Spells};
+ghost use Rattle.table_walk.specs.Walks.{NodeThere, ItemsThere, NodeWritten, ItemsWritten, Loads};
 
-// What a walk finds: how many tokens it wrote; or the records are those of no tree.
-pub enum Walked {
-    Found(usize),
-    Bad,
+// What a table holds: the tree in so many tokens; or no tree.
+pub enum Loaded {
+    Tree(usize),
+    NoTree,
 }
 
 // The token of a node whose items have m tokens; `kind` is the number of its kind.
@@ -23,38 +23,22 @@ fn header(kind: u16, m: usize) -> u16
     (32 * m + 8) as u16
 }
 
-// Writes the tokens of the node in record r, at most d records deep, and says how many; more than there is room for: no node stands there.
-fn walk_node(table: &[u16], d: usize, r: usize, out: &mut [u16]) -> usize
-    requires { ⌜ (65792 ≤ length (now table)) × (length (now out) ≤ 512) ⌝ }
-    ensures { λ k. ⌜ Walks (spelled d (now (table .entry)) r) (NodeStands (now (table .entry)) r d (length (now (out .entry))))
-        (now (out .entry)) (now (out .exit)) k ⌝ }
+// Writes the tokens of the node in record r to the start of out, and says how many.
+fn walk_node(table: &[u16], r: usize, out: &mut [u16]) -> usize
+    requires { ⌜ NodeThere (now table) r (length (now out)) ⌝ }
+    ensures { λ k. ⌜ NodeWritten (now (table .entry)) r (now (out .entry)) (now (out .exit)) k ⌝ }
 {
-    let none = out.len() + 1;
-    if d == 0 {
-        return none;
-    }
-    if r > 255 {
-        return none;
-    }
-    if out.len() == 0 {
-        return none;
-    }
     let at = 257 * r;
     let count = table[at + 1] as usize;
-    if count > 255 {
-        return none;
-    }
-    let m = walk_items(table, d - 1, &table[at + 2..at + 2 + count], &mut out[1..]);
+    let m = walk_items(table, &table[at + 2..at + 2 + count], &mut out[1..]);
     out[0] = header(table[at], m);
     1 + m
 }
 
-// Writes the tokens of the items in these places, at most d records deep, and says how many; more than there is room for: they stand nowhere.
-fn walk_items(table: &[u16], d: usize, places: &[u16], out: &mut [u16]) -> usize
-    requires { ⌜ (65792 ≤ length (now table)) × (length (now places) ≤ 255) × (length (now out) ≤ 512) ⌝ }
-    ensures { λ k. ⌜ Walks (spelled-items (spelled d (now (table .entry))) (now (places .entry)))
-        (PlacesStand (now (table .entry)) (now (places .entry)) d (length (now (out .entry))))
-        (now (out .entry)) (now (out .exit)) k ⌝ }
+// Writes the tokens of the items in these places to the start of out, and says how many.
+fn walk_items(table: &[u16], places: &[u16], out: &mut [u16]) -> usize
+    requires { ⌜ ItemsThere (now table) (now places) (length (now out)) ⌝ }
+    ensures { λ k. ⌜ ItemsWritten (now (table .entry)) (now (places .entry)) (now (out .entry)) (now (out .exit)) k ⌝ }
 {
     let mut k = 0;
     let mut i = 0;
@@ -62,14 +46,8 @@ fn walk_items(table: &[u16], d: usize, places: &[u16], out: &mut [u16]) -> usize
         let v = places[i];
         i += 1;
         if v > 256 {
-            k += walk_node(table, d, (v - 256) as usize, &mut out[k..]);
-            if k > out.len() {
-                return k;
-            }
+            k += walk_node(table, (v - 256) as usize, &mut out[k..]);
             continue;
-        }
-        if k == out.len() {
-            return k + 1;
         }
         out[k] = 16 * v;
         k += 1;
@@ -77,17 +55,16 @@ fn walk_items(table: &[u16], d: usize, places: &[u16], out: &mut [u16]) -> usize
     k
 }
 
-// Writes the tokens that the records spell to the start of out, at most 512; or says that the table holds no tree of n leaves.
-pub fn walk(table: &[u16], n: usize, out: &mut [u16]) -> Walked
-    requires { ⌜ (n ≤ 256) × (65792 ≤ length (now table)) × (512 ≤ length (now out)) ⌝ }
-    ensures { λ r. ⌜ Spells n (now (table .entry)) (now (out .entry)) (now (out .exit)) r ⌝ }
+// Writes the tokens of the tree of n leaves that the table holds to the start of out, and says how many; or that it holds none.
+pub fn load(table: &[u16], n: usize, out: &mut [u16]) -> Loaded
+    requires { ⌜ (1 ≤ n) × (n ≤ 256) × (65792 ≤ length (now table)) × (512 ≤ length (now out)) ⌝ }
+    ensures { λ r. ⌜ Loads n (now (table .entry)) (now (out .entry)) (now (out .exit)) r ⌝ }
 {
+    if !table_sweep::holds(table, n) {
+        return Loaded::NoTree;
+    }
     if n <= 2 {
-        return Walked::Found(tree_tokens::fresh(n, out));
+        return Loaded::Tree(tree_tokens::fresh(n, out));
     }
-    let k = walk_node(table, 256, 0, &mut out[0..512]);
-    if k > 512 {
-        return Walked::Bad;
-    }
-    Walked::Found(k)
+    Loaded::Tree(walk_node(table, 0, out))
 }

@@ -12,6 +12,7 @@ fn main() {
     file(b"01_intersection_large.txt");
     file(b"02_empty.txt");
     file(b"03_aim.txt");
+    file(b"04_trial.txt");
 }
 
 // Reads a file, counts the outcome of each line, and prints its name and the counts.

@@ -35,7 +35,7 @@ pub fn read_text(text: &[u8], n: usize, out: &mut [u16]) -> Read
         return Read::Refused(r.at);
     }
     let k = r.count;
-    let p = text_rules::broken(&out[0..k], false, 0, 2);
+    let p = text_rules::broken(&out[0..k]);
     if p != 0 {
         return Read::Refused(p);
     }

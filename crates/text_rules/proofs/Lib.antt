@@ -1,2 +1,2 @@
-pub mod Lengths
-pub mod Breaking
+pub mod Digits
+pub mod Seeing

@@ -1,13 +1,24 @@
 // The P and C rules of a tree text, on its tokens: the least byte at which one is broken.
 ghost use mathlib.Core.Path.{_≡_};
-ghost use mathlib.Core.Bool.{_&&_};
-ghost use Prim.Native.Nat.{_+_, _-_, _*_, _/_, _%_, _≤_, _<_};
+ghost use mathlib.Core.Bool.{cond, _&&_};
+ghost use Prim.Native.Nat.{_+_, _*_, _≤_, _<_};
 ghost use lib.Dec.{ltb};
 ghost use lib.ListN.{length};
-ghost use Rattle.spec_orders.specs.Tree.{Kind};
-ghost use Rattle.spec_orders.specs.TreeText.{digits, text};
+ghost use Rattle.spec_orders.specs.Tree.{Kind, C};
+ghost use Rattle.spec_orders.specs.TreeText.{digits};
 ghost use Rattle.tree_tokens.specs.Tokens.{Judged, tree, encode, Tokens};
-ghost use Rattle.text_scanner.specs.Rule.{is-p, broken-at};
+ghost use Rattle.tree_tokens.specs.Views.{first-of};
+ghost use Rattle.text_scanner.specs.Rule.{is-p, or-else, broken-at};
+ghost use Rattle.text_rules.specs.Seen.{Saw};
+
+// What is seen of a sequence of items: the first leaf of its first and of its last item, the byte at which its text ends, and the least byte at
+// which it breaks a rule, 0 where it breaks none.
+pub struct Seen {
+    pub first: u16,
+    pub last: u16,
+    pub end: usize,
+    pub broken: usize,
+}
 
 // How many digits b has.
 fn digit_count(b: u16) -> usize
@@ -28,74 +39,87 @@ fn digit_count(b: u16) -> usize
     5
 }
 
-// How many bytes stand for a token, with the space before its item: a leaf's digits, or a node's letter and brackets. A node's first item has no
-// space before it, so one is taken from a node that has items.
-fn token_length(t: u16) -> usize
-    ensures { λ r. ⌜ (0 < r) × (r ≤ 6) × (t / 8 % 2 ≡ 0 → r ≡ length (digits (t / 16)) + 1)
-        × ((t / 8 % 2 ≡ 0 → ⊥) → r ≡ 3 + (1 - t / 32)) ⌝ }
-{
-    if t / 8 % 2 == 0 {
-        return digit_count(t / 16) + 1;
-    }
-    if t / 32 == 0 {
-        return 4;
-    }
-    3
-}
-
-// How many bytes the text of the items has.
-fn text_length(toks: &[u16]) -> usize
-    requires { ⌜ (Tokens (now toks)) × (length (now toks) ≤ 512) ⌝ }
-    ensures { λ r. ⌜ (r ≤ 6 * length (now (toks .entry)))
-        × ((j : Judged) → now (toks .entry) ≡ encode j → r ≡ length (text (tree j))) ⌝ }
-{
-    let mut k = 0;
-    let mut i = 0;
-    while i < toks.len() {
-        k += token_length(toks[i]);
-        i += 1;
-    }
-    if k == 0 {
-        return 0;
-    }
-    k - 1
-}
-
-// Whether the rule asks that b is not below m, and it is.
-fn falls(rule: bool, b: u16, m: u16) -> bool
-    ensures { λ r. ⌜ r ≡ rule && ltb b m ⌝ }
+// Byte o, where the rule asks that b is not below m, and it is; else p.
+fn broken_or(rule: bool, b: u16, m: u16, o: usize, p: usize) -> usize
+    ensures { λ r. ⌜ r ≡ cond (rule && ltb b m) o p ⌝ }
 {
     if rule {
-        return b < m;
+        if b < m {
+            return o;
+        }
     }
-    false
+    p
 }
 
-// The least byte at which the items break a rule, 0 where they break none. Their text starts at byte o; they stand in a P-node if `rising`, after an
-// item whose first leaf is m.
-pub fn broken(toks: &[u16], rising: bool, m: u16, o: usize) -> usize
-    requires { ⌜ (Tokens (now toks)) × (length (now toks) ≤ 512) × (o + 6 * length (now toks) ≤ 10000) ⌝ }
-    ensures { λ r. ⌜ ((j : Judged) (k : Kind) → now (toks .entry) ≡ encode j → rising ≡ is-p k → r ≡ broken-at k m o (tree j)) ⌝ }
+// The first of two bytes that is not 0.
+fn or_else(p: usize, q: usize) -> usize
+    ensures { λ r. ⌜ r ≡ or-else p q ⌝ }
 {
-    if toks.len() == 0 {
-        return 0;
+    if p == 0 {
+        return q;
     }
-    let b = tree_tokens::first_leaf(toks);
-    if falls(rising, b, m) {
-        return o;
-    }
-    let after = tree_tokens::rest(toks);
+    p
+}
+
+// What is seen of the first item alone, whose text starts at byte o.
+fn see_item(toks: &[u16], o: usize) -> Seen
+    requires { ⌜ (Tokens (now toks)) × (0 < length (now toks)) × (0 < o) × (o + 6 * length (now toks) ≤ 10000) ⌝ }
+    ensures { λ r. ⌜ ((j : Judged) → now (toks .entry) ≡ encode j
+        → (r .end < o + 6 * length (encode (first-of j))) × Saw C o (tree (first-of j)) r) ⌝ }
+{
     let s = tree_tokens::shape(toks);
     if s == 1 {
-        return broken(after, rising, b, o + digit_count(b) + 1);
+        let b = tree_tokens::leaf(toks);
+        return Seen {
+            first: b,
+            last: b,
+            end: o + digit_count(b),
+            broken: 0,
+        };
     }
-    let inner = tree_tokens::items(toks);
-    if falls(s == 3, tree_tokens::last_leaf(inner), b) {
-        return o + 2;
+    let r = see_items(tree_tokens::items(toks), s == 2, o + 2);
+    Seen {
+        first: r.first,
+        last: r.first,
+        end: r.end + 1,
+        broken: broken_or(s == 3, r.last, r.first, o + 2, r.broken),
     }
-    let p = broken(inner, s == 2, 0, o + 2);
-    if p != 0 {
-        return p;
+}
+
+// What is seen of the items of a node, a P-node if `rising`. Their text starts at byte o.
+fn see_items(toks: &[u16], rising: bool, o: usize) -> Seen
+    requires { ⌜ (Tokens (now toks)) × (0 < o) × (o + 6 * length (now toks) ≤ 10000) ⌝ }
+    ensures { λ r. ⌜ (r .end ≤ o + 6 * length (now (toks .entry)))
+        × ((j : Judged) (k : Kind) → now (toks .entry) ≡ encode j → rising ≡ is-p k → Saw k o (tree j) r) ⌝ }
+{
+    if toks.len() == 0 {
+        return Seen {
+            first: 0,
+            last: 0,
+            end: o,
+            broken: 0,
+        };
     }
-    broken(after, rising, b, o + text_length(inner) + 4)
+    let mut seen = see_item(toks, o);
+    let mut i = tree_tokens::size(toks);
+    while i < toks.len() {
+        let y = &toks[i..];
+        let at = seen.end + 1;
+        let t = see_item(y, at);
+        let p = broken_or(rising, t.first, seen.last, at, t.broken);
+        seen.broken = or_else(seen.broken, p);
+        seen.last = t.first;
+        seen.end = t.end;
+        i += tree_tokens::size(y);
+    }
+    seen
+}
+
+// The least byte at which what hangs at leaf 1 breaks a rule, 0 where it breaks none. Its text starts at byte 2.
+pub fn broken(toks: &[u16]) -> usize
+    requires { ⌜ (Tokens (now toks)) × (length (now toks) ≤ 512) ⌝ }
+    ensures { λ r. ⌜ ((j : Judged) → now (toks .entry) ≡ encode j → r ≡ broken-at C 0 2 (tree j)) ⌝ }
+{
+    let r = see_items(toks, false, 2);
+    r.broken
 }

@@ -30,7 +30,7 @@ const MOVES: [[u8; 5]; 17] = [
     [16, 16, 16, 16, 16],
 ];
 
-// Where the automaton goes on one more item of state s.
+// Where the automaton goes on one more item of state s; `moves` is the table.
 fn moved(moves: &[[u8; 5]; 17], run: u8, s: u16) -> u8
     requires { ⌜ (run < 17) × (s ≤ 4) × Moves (now moves) ⌝ }
     ensures { λ r. ⌜ (r < 17) × ((q : Run) (z : State) → run ≡ code q → s ≡ number z → r ≡ code (step q z)) ⌝ }
@@ -40,8 +40,16 @@ fn moved(moves: &[[u8; 5]; 17], run: u8, s: u16) -> u8
     moves[q][z]
 }
 
+// Where the automaton goes on one more item of state s, by the table above.
+pub fn next(run: u8, s: u16) -> u8
+    requires { ⌜ (run < 17) × (s ≤ 4) ⌝ }
+    ensures { λ r. ⌜ (r < 17) × ((q : Run) (z : State) → run ≡ code q → s ≡ number z → r ≡ code (step q z)) ⌝ }
+{
+    moved(&MOVES, run, s)
+}
+
 // The number of the state of a node whose items took the automaton here.
-fn verdict(run: u8) -> u16
+pub fn verdict(run: u8) -> u16
     ensures { λ r. ⌜ (r ≤ 4) × ((q : Run) → run ≡ code q → r ≡ number (verdict q)) ⌝ }
 {
     let table: [u16; 17] = [0, 0, 1, 2, 2, 3, 3, 4, 0, 0, 1, 2, 2, 2, 2, 3, 4];

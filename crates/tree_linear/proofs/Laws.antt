@@ -3,14 +3,15 @@ use mathlib.Core.Path.{_≡_, refl, sym, ap, _∙_}
 use mathlib.Core.Bool.{Bool, true, false, not, Bool·beq, false≢true}
 use mathlib.Core.Logic.{_⊎_, inl, inr}
 use mathlib.Core.List.{List, [], _∷_, _++_, reverse, reverse-cons}
-use Prim.Native.Nat.{ℕ, _+_, _≤_, _<_}
+use Prim.Native.Nat.{ℕ, _+_, _-_, _%_, _≤_, _<_}
 use native.Mathlib.Omega.{arith}
-use lib.ListN.{length, length-append}
+use lib.ListN.{length, getD, length-append}
 use Rattle.spec_orders.specs.Tree.{Kind, P, C, Forest, nil, node, append}
 use Rattle.spec_orders.specs.Reduce.{pack}
 use Rattle.spec_orders.proofs.Laws.{forest-assoc, forest-nil}
 use Rattle.tree_tokens.specs.Tokens.{State, E, F, L, R, X, number, Judged, j-nil, j-leaf, j-node, tree, encode, flat}
 use Rattle.tree_tokens.specs.Views.{shape-of, state-of, first-of, items-of, rest-of}
+use Rattle.tree_tokens.proofs.Sequences.{bare, bare-is}
 use Rattle.tree_spans.specs.Spans.{is-not, passing, beyond}
 use Rattle.tree_judge.specs.Judge.{rises}
 use Rattle.tree_judge.specs.Total.{Total, states-of, whole-of, partial-of, linear-of, mirrored-of, total-by, totals}
@@ -43,13 +44,24 @@ node-kept true L k i ts h = absurd (h refl)
 node-kept true R k i ts h = refl
 node-kept true X k i ts h = refl
 
-pub line-leaf : (back : Bool) (j : Judged) → shape-of j ≡ 1 → flat (first-in-line back (totals j)) ≡ flat (tree (first-of j))
+line-leaf : (back : Bool) (j : Judged) → shape-of j ≡ 1 → flat (first-in-line back (totals j)) ≡ flat (tree (first-of j))
 unfolding totals shape-of first-of
 line-leaf back j-nil h = absurd (omega arith)
 line-leaf false (j-leaf s b j) h = refl
 line-leaf true (j-leaf s b j) h = refl
 line-leaf back (j-node s P i j) h = absurd (omega arith)
 line-leaf back (j-node s C i j) h = absurd (omega arith)
+
+leaf-bare : (j : Judged) → shape-of j ≡ 1 → flat (tree (first-of j)) ≡ bare (getD (encode j) 0 0) ∷ []
+unfolding encode shape-of first-of
+leaf-bare j-nil h = absurd (omega arith)
+leaf-bare (j-leaf s b j) h = sym (bare-is (j-leaf s b j-nil))
+leaf-bare (j-node s P i j) h = absurd (omega arith)
+leaf-bare (j-node s C i j) h = absurd (omega arith)
+
+pub line-token : (back : Bool) (j : Judged) {l : List ℕ} → l ≡ encode j → shape-of j ≡ 1
+    → flat (first-in-line back (totals j)) ≡ (getD l 0 0 - getD l 0 0 % 8) ∷ []
+line-token back j e h = line-leaf back j h ∙ rw e (leaf-bare j h)
 
 pub line-kept : (back : Bool) (j : Judged) → (number (state-of j) ≡ 2 → ⊥) → flat (first-in-line back (totals j)) ≡ flat (tree (first-of j))
 unfolding totals state-of first-of
@@ -161,6 +173,10 @@ c-turned back ts {r} e h = turned back ts (sym e ∙ same r back h)
 pub c-kept : (back : Bool) (ts : List Total) {r : Bool} → r ≡ rises (states-of ts) → Bool·beq r back ≡ false
     → c-in-line back ts ≡ all-in-line back ts
 c-kept back ts {r} e h = kept back ts (sym e ∙ differ r back h)
+
+pub line-turned : (back : Bool) (j : Judged) {r : Bool} → shape-of j ≡ 3 → number (state-of j) ≡ 2 → r ≡ rises (states-of (totals (items-of j)))
+    → Bool·beq r back ≡ true → first-in-line back (totals j) ≡ all-in-line back (reverse (totals (items-of j)))
+line-turned back j s q e h = line-of-c back j s q ∙ c-turned back (totals (items-of j)) e h
 
 -- The parts of a P-node's line.
 state-some : (j : Judged) → 2 ≤ number (state-of j) → 0 < length (encode j)

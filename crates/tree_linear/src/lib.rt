@@ -1,9 +1,11 @@
 // The lines of a judged sequence: items with all empty leaves before all full ones, or under `back` the other way round.
 ghost use mathlib.Core.Path.{_≡_};
+ghost use mathlib.Core.Bool.{true};
 ghost use mathlib.Core.List.{reverse};
-ghost use Prim.Native.Nat.{_≤_};
+ghost use Prim.Native.Nat.{_<_, _≤_};
 ghost use lib.ListN.{length};
-ghost use Rattle.tree_tokens.specs.Tokens.{Judged, encode, Wrote, flat};
+ghost use Rattle.tree_tokens.specs.Tokens.{Judged, encode, Tokens, Wrote, flat};
+ghost use Rattle.tree_tokens.specs.Views.{items-of};
 ghost use Rattle.tree_judge.specs.Total.{totals};
 ghost use Rattle.tree_pieces.specs.Writers.{Fits, first-in-line, all-in-line, near, far, p-in-line, c-in-line};
 use tree_pieces::find_partial;
@@ -41,7 +43,8 @@ pub fn line(x: &[u16], back: bool, out: &mut [u16]) -> usize
     }
     let k = tree_tokens::shape(x);
     if k == 1 {
-        return tree_tokens::strip(tree_tokens::first(x), out);
+        out[0] = x[0] - x[0] % 8;
+        return 1;
     }
     if tree_tokens::state(x) != 2 {
         return tree_tokens::strip(tree_tokens::first(x), out);
@@ -91,15 +94,38 @@ pub fn lines(x: &[u16], back: bool, out: &mut [u16]) -> usize
     m + lines(tree_tokens::rest(y), back, &mut out[m..])
 }
 
-// Writes the lines of all items, from the last to the first.
+// Whether the first item is a C-node in whose place its items' lines come from the last to the first.
+fn turns(x: &[u16], back: bool) -> bool
+    requires { ⌜ (Tokens (now x)) × (0 < length (now x)) ⌝ }
+    ensures { λ r. ⌜ ((j : Judged) → now (x .entry) ≡ encode j → r ≡ true
+        → first-in-line back (totals j) ≡ all-in-line back (reverse (totals (items-of j)))) ⌝ }
+{
+    if tree_tokens::state(x) != 2 {
+        return false;
+    }
+    if tree_tokens::shape(x) != 3 {
+        return false;
+    }
+    rises(tree_tokens::items(x)) == back
+}
+
+// Writes the lines of all items, from the last to the first: those of the others, then that of the first one; where it turns, its items are left.
 fn lines_back(x: &[u16], back: bool, out: &mut [u16]) -> usize
     requires { ⌜ (Fits (λ ts. all-in-line back (reverse ts)) (now x) (now out)) × (length (now x) ≤ 512) ⌝ }
     ensures { λ r. ⌜ ((j : Judged) → now (x .entry) ≡ encode j
         → Wrote (flat (all-in-line back (reverse (totals j)))) (now (out .entry)) (now (out .exit)) r) ⌝ }
 {
-    if x.len() == 0 {
-        return 0;
+    let mut k = 0;
+    let mut i = 0;
+    let mut end = x.len();
+    while i < end {
+        let y = &x[i..end];
+        k += lines_back(tree_tokens::rest(y), back, &mut out[k..]);
+        if !turns(y, back) {
+            return k + line(y, back, &mut out[k..]);
+        }
+        end = i + tree_tokens::size(y);
+        i += 1;
     }
-    let k = lines_back(tree_tokens::rest(x), back, out);
-    k + line(x, back, &mut out[k..])
+    k
 }

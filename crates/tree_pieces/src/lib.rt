@@ -14,7 +14,7 @@ ghost use Rattle.tree_judge.specs.Total.{states-of, whole-of, c-node-of, totals
 ghost use Rattle.tree_pieces.specs.Writers.{Fits, with-state, all-with-state, from-partial};
 
 // How many items have the state s.
-pub fn count(x: &[u16], s: u16) -> usize
+fn count(x: &[u16], s: u16) -> usize
     requires { ⌜ Tokens (now x) ⌝ }
     ensures { λ r. ⌜ (r ≤ length (now (x .entry)))
         × ((j : Judged) → now (x .entry) ≡ encode j → r ≡ length (with-state s (totals j))) ⌝ }
@@ -59,7 +59,7 @@ fn put_first(x: &[u16], out: &mut [u16]) -> usize
 }
 
 // Writes the items of state s, in their order.
-fn only(x: &[u16], s: u16, out: &mut [u16]) -> usize
+pub fn only(x: &[u16], s: u16, out: &mut [u16]) -> usize
     requires { ⌜ (Fits (λ ts. whole-of (with-state s ts)) (now x) (now out)) × (s ≤ 4) ⌝ }
     ensures { λ r. ⌜ ((j : Judged) → now (x .entry) ≡ encode j
         → Wrote (flat (whole-of (with-state s (totals j)))) (now (out .entry)) (now (out .exit)) r) ⌝ }

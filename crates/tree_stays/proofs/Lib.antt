@@ -1,3 +1,4 @@
 -- What the proofs of several functions use, here and in the crates above.
 pub mod Same
 pub mod Laws
+mod Left

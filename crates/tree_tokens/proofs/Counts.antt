@@ -1,16 +1,19 @@
 -- Leaves, nodes and items, counted and found by tokens and by views.
-use mathlib.Core.Path.{_≡_, refl, sym, _∙_}
+use mathlib.Core.Path.{_≡_, refl, sym, ap, _∙_}
 use mathlib.Core.List.{List, [], _∷_, _++_}
-use Prim.Native.Nat.{ℕ, _+_, _/_, _%_, _<_}
+use Prim.Native.Nat.{ℕ, _+_, _/_, _%_, _≤_, _<_}
 use native.Mathlib.Omega.{arith}
 use native.Mathlib.Numerals.{add-one}
 use lib.ListN.{length, drop, getD, length-append}
 use lib.Seq.{drop-cons}
 use Rattle.spec_orders.specs.Tree.{Kind, Forest, nil, leaf, node, append, rev, items, frontier}
-use Rattle.spec_orders.specs.Form.{first, nodes}
-use Rattle.tree_tokens.specs.Tokens.{Judged, j-nil, j-leaf, j-node, tree, encode}
+use Rattle.spec_orders.specs.Form.{first, nodes, InForm}
+use Rattle.spec_orders.proofs.Forms.{form-forked, nodes-bound}
+use Rattle.spec_orders.proofs.TextTree.{form-length}
+use Rattle.tree_tokens.specs.Tokens.{Judged, j-nil, j-leaf, j-node, tree, plain, encode, flat}
 use Rattle.tree_tokens.specs.Views.{first-of, rest-of}
 use Rattle.tree_tokens.proofs.Laws.{leaf-even, node-odd}
+use Rattle.tree_tokens.proofs.Sequences.{tree-plain}
 
 -- How many tokens are those of nodes.
 abbrev pub node-tokens : List ℕ → ℕ
@@ -50,6 +53,13 @@ leaves-and-nodes (j-node s k i j) =
       leaves-and-nodes i,
       leaves-and-nodes j,
     )
+
+pub flat-counts : (t : Forest) → length (flat t) ≡ length (frontier t) + nodes t
+flat-counts t = sym (leaves-and-nodes (plain t)) ∙ ap (λ (f : Forest). length (frontier f) + nodes f) (tree-plain t)
+
+-- A tree in form has at most 510 tokens.
+pub form-size : (n : ℕ) (t : Forest) → InForm n t → n ≤ 256 → length (flat t) ≤ 510
+form-size n t h l = omega (arith, flat-counts t, nodes-bound t (form-forked n t h), form-length n t h)
 
 pub items-more : (j : Judged) → 0 < length (encode j) → length (items (tree j)) ≡ 1 + length (items (tree (rest-of j)))
 unfolding encode rest-of

@@ -4,9 +4,9 @@ use mathlib.Core.List.{List, _∷_, _++_, append-nil}
 use Prim.Native.Nat.{ℕ, zero, suc, _+_, _-_, _/_, _%_, _≤_, _<_}
 use native.Mathlib.Omega.{arith}
 use lib.ListN.{length, take, drop, getD, length-append}
-use lib.Seq.{take-append-seam, drop-append-seam}
+use lib.Seq.{take-append-seam, drop-append-seam, take-take, drop-drop}
 use Rattle.spec_orders.specs.Tree.{Kind, P, C}
-use Rattle.spec_orders.proofs.ListLaws.{part-to-end}
+use Rattle.spec_orders.proofs.ListLaws.{drop-taken, part-to-end}
 use Rattle.tree_tokens.specs.Tokens.{State, E, F, L, R, X, number, Judged, j-nil, j-leaf, j-node, leaf-token, node-token, encode}
 use Rattle.tree_tokens.specs.Views.{shape-of, state-of, leaf-of, first-of, items-of, rest-of}
 
@@ -197,6 +197,14 @@ items-are (j-node s k i j) =
 
 pub part-items : (j : Judged) {l : List ℕ} {m : ℕ} → l ≡ encode j → m ≡ length (encode (first-of j)) → take (m - 1) (drop 1 l) ≡ encode (items-of j)
 part-items j e h = rw (e, h) (items-are j)
+
+-- The first item's items, where it has m tokens, of those that stand from index i to e.
+pub items-left : (x : List ℕ) (i e m : ℕ) (h : Judged) → 0 < m → m ≤ e - i → take (e - i) (drop i x) ≡ encode h → m ≡ length (encode (first-of h))
+    → take (i + m - (i + 1)) (drop (i + 1) x) ≡ encode (items-of h)
+items-left x i e m h n l p s =
+    let size : i + m - (i + 1) ≡ m - 1 = omega arith in
+    rw (size, ← drop-drop 1 i x)
+    (sym (ap (take (m - 1)) (drop-taken 1 (e - i) (drop i x)) ∙ take-take (m - 1) (e - i - 1) (drop 1 (drop i x)) (omega arith)) ∙ part-items h p s)
 
 -- The rest.
 pub part-rest : (j : Judged) {l : List ℕ} {m : ℕ} → l ≡ encode j → m ≡ length (encode (first-of j)) → take (length l - m) (drop m l) ≡ encode (rest-of j)

@@ -4,8 +4,8 @@ ghost use mathlib.Core.Path.{_≡_};
 ghost use Prim.Native.Nat.{_<_, _≤_};
 ghost use lib.ListN.{length};
 ghost use Rattle.spec_orders.specs.Lists.{same, numbers-from};
-ghost use Rattle.spec_orders.specs.Tree.{frontier, rev, items};
-ghost use Rattle.spec_orders.specs.Form.{first, nodes};
+ghost use Rattle.spec_orders.specs.Tree.{rev, items};
+ghost use Rattle.spec_orders.specs.Form.{first};
 ghost use Rattle.spec_orders.specs.Join.{fresh, leaf-items};
 ghost use Rattle.tree_tokens.specs.Tokens.{number, Judged, tree, j-rev, encode, Tokens, Wrote, flat};
 ghost use Rattle.tree_tokens.specs.Views.{shape-of, state-of, leaf-of, first-of, items-of, rest-of};
@@ -122,30 +122,6 @@ pub fn last_leaf(toks: &[u16]) -> u16
         i += size(y);
     }
     last
-}
-
-// How many nodes, at any depth.
-pub fn node_count(toks: &[u16]) -> usize
-    requires { ⌜ Tokens (now toks) ⌝ }
-    ensures { λ r. ⌜ (r ≤ length (now (toks .entry)))
-        × ((j : Judged) → now (toks .entry) ≡ encode j → r ≡ nodes (tree j)) ⌝ }
-{
-    let mut n: usize = 0;
-    let mut i = 0;
-    while i < toks.len() {
-        n += (toks[i] / 8 % 2) as usize;
-        i += 1;
-    }
-    n
-}
-
-// How many leaves: the tokens that are not nodes.
-pub fn leaf_count(toks: &[u16]) -> usize
-    requires { ⌜ Tokens (now toks) ⌝ }
-    ensures { λ r. ⌜ (r ≤ length (now (toks .entry)))
-        × ((j : Judged) → now (toks .entry) ≡ encode j → r ≡ length (frontier (tree j))) ⌝ }
-{
-    toks.len() - node_count(toks)
 }
 
 // How many items.

@@ -5,16 +5,13 @@ use mathlib.Core.List.{List, [], _∷_, _++_, append-assoc}
 use Prim.Native.Nat.{ℕ, _+_, _-_, _≤_, _<_}
 use native.Mathlib.Omega.{arith}
 use borrow.Author.Tests.{eq-eqb, ne-eqb}
-use borrow.Rule.Slice.PartMut.{putMid}
 use lib.Dec.{ltb}
-use lib.ListN.{length, take, drop, length-append, take-append-drop}
-use lib.Seq.{take-append-seam}
+use lib.ListN.{length, take, drop, length-append}
 use Rattle.spec_orders.specs.Tree.{P, C, Forest, nil, node, items, append}
 use Rattle.spec_orders.specs.Reduce.{one, put-sorted, pack}
 use Rattle.tree_tokens.specs.Tokens.{E, F, L, R, X, number, Judged, j-nil, j-leaf, j-node, tree, encode, Wrote, flat}
 use Rattle.tree_tokens.specs.Views.{shape-of, state-of, first-of, items-of, rest-of}
 use Rattle.tree_tokens.proofs.Laws.{at-end}
-use Rattle.tree_tokens.proofs.Sequences.{plain-length}
 use Rattle.tree_tokens.proofs.Writes.{read-back}
 use Rattle.tree_spans.specs.Spans.{is, passing, beyond}
 use Rattle.tree_judge.specs.Total.{Total, whole-of, partial-of, first-reduced, mirrored-lines, c-node-of, middle-of, gather-of, reduced-of, total-by, totals}
@@ -22,47 +19,26 @@ use Rattle.tree_pieces.specs.Writers.{with-state, all-with-state, from-partial,
 use Rattle.tree_pieces.proofs.Laws.{flat-nil, flat-append, flat-p, AtFirst, at-first, starts, totals-none, flat-whole, all-empty-is, c-node-length, put-sorted-length}
 use Rattle.tree_pieces.proofs.Walks.{passing-text}
 use Rattle.tree_pieces.proofs.States.{is-state}
-use Rattle.tree_update.specs.Update.{Begins}
+use Rattle.tree_update.specs.Update.{Begins, placed-again}
 use Rattle.tree_pieces.proofs.Totals.{partial-none, partial-more, mirrored-lines-is, p-reduced-is}
 use Rattle.spec_orders.proofs.Tests.{cond-cases}
 
--- Writing to the start of a slice, whatever stands behind: a text, none, one text after another; the part that is read next.
+-- Writing to the start of a slice, whatever stands behind, and the part that is read next.
 pub begins : {xs old new : List ℕ} {k : ℕ} → Wrote xs old new k → Begins xs new k
 begins w = record { many = w .many; text = read-back w }
-
-pub begins-none : (new : List ℕ) → Begins [] new 0
-begins-none new = record { many = refl; text = refl }
-
-pub begins-then : {xs ys mid part : List ℕ} {k j : ℕ} → Begins xs mid k → Begins ys part j → Begins (xs ++ ys) (putMid k (length mid - k) mid part) (k + j)
-begins-then {xs} {ys} {mid} {part} {k} {j} a b = record { many = many; text = rw (many, text) (take-append-seam (xs ++ ys) _) }
-  where
-    many : k + j ≡ length (xs ++ ys)
-    many = omega (arith, a .many, b .many, length-append xs ys)
-
-    whole : part ≡ ys ++ drop j part
-    whole = sym (take-append-drop j part) ∙ ap (λ (l : List ℕ). l ++ drop j part) (b .text)
-
-    text : take k mid ++ (part ++ drop (length mid - k) (drop k mid)) ≡ (xs ++ ys) ++ (drop j part ++ drop (length mid - k) (drop k mid))
-    text =
-        ap (λ (l : List ℕ). l ++ (part ++ drop (length mid - k) (drop k mid))) (a .text)
-        ∙ ap (λ (l : List ℕ). xs ++ (l ++ drop (length mid - k) (drop k mid))) whole
-        ∙ simp append-assoc
 
 pub read-part : {xs new : List ℕ} {k : ℕ} → Begins xs new k → take (k - 0) (drop 0 new) ≡ xs
 read-part {k = k} w = let n : k - 0 ≡ k = omega arith in rw n (w .text)
 
--- The first item reduced: no item; one that stays as it is; a C-node; a P-node.
-pub reduced-none : (j : Judged) {l : List ℕ} → l ≡ encode j → length l ≡ 0 → flat (first-reduced (totals j)) ≡ []
-reduced-none j e h = rw (at-end j e h, totals-none) flat-nil
-
-pub reduced-leaf : (j : Judged) → shape-of j ≡ 1 → flat (first-reduced (totals j)) ≡ flat (tree (first-of j))
+-- The first item reduced: one that stays as it is; a C-node; a P-node.
+pub reduced-leaf : (j : Judged) → shape-of j ≡ 1 → first-reduced (totals j) ≡ tree (first-of j)
 unfolding totals shape-of first-of
 reduced-leaf j-nil h = absurd (omega arith)
 reduced-leaf (j-leaf s b j) h = refl
 reduced-leaf (j-node s P i j) h = absurd (omega arith)
 reduced-leaf (j-node s C i j) h = absurd (omega arith)
 
-pub reduced-whole : (j : Judged) → number (state-of j) < 2 → flat (first-reduced (totals j)) ≡ flat (tree (first-of j))
+pub reduced-whole : (j : Judged) → number (state-of j) < 2 → first-reduced (totals j) ≡ tree (first-of j)
 unfolding totals total-by state-of first-of encode
 reduced-whole j-nil h = refl
 reduced-whole (j-leaf s b j) h = refl
@@ -83,10 +59,6 @@ reduced-c (j-node L C i j) h z = refl
 reduced-c (j-node R C i j) h z = refl
 reduced-c (j-node X C i j) h z = refl
 
--- A P-node's partial and full items as one item, among its empty items.
-abbrev pub placed-again : Judged → Forest
-placed-again j = pack (put-sorted (gathered (totals j)) (whole-of (with-state 0 (totals j))))
-
 pub reduced-p : (j : Judged) → (shape-of j ≡ 1 → ⊥) → (shape-of j ≡ 3 → ⊥) → (number (state-of j) < 2 → ⊥) → first-reduced (totals j) ≡ placed-again (items-of j)
 unfolding totals total-by shape-of state-of items-of
 reduced-p j-nil h g z = absurd (z (omega arith))
@@ -98,14 +70,10 @@ reduced-p (j-node L P i j) h g z = sym (p-reduced-is (totals i))
 reduced-p (j-node R P i j) h g z = sym (p-reduced-is (totals i))
 reduced-p (j-node X P i j) h g z = sym (p-reduced-is (totals i))
 
-pub kept-length : (j : Judged) {l : List ℕ} → l ≡ encode (first-of j) → flat (first-reduced (totals j)) ≡ flat (tree (first-of j))
-    → length l ≡ length (flat (first-reduced (totals j)))
-kept-length j e h = omega (arith, ap length e, ap length h, plain-length (first-of j))
-
 pub c-length : (j : Judged) → shape-of j ≡ 3 → (number (state-of j) < 2 → ⊥) → length (flat (first-reduced (totals j))) ≡ 1 + length (flat (middle-of (totals (items-of j))))
 c-length j h z = rw (reduced-c j h z) (c-node-length (middle-of (totals (items-of j))))
 
-pack-ge : (f : Forest) → length (flat f) ≤ length (flat (pack f))
+pub pack-ge : (f : Forest) → length (flat f) ≤ length (flat (pack f))
 pack-ge f =
     cond-cases (ltb 1 (length (items f))) (node P f nil) f (λ g. length (flat f) ≤ length (flat g))
     (λ y. omega (arith, ap length (flat-p f refl))) (λ n. omega arith)
@@ -153,19 +121,6 @@ middle-more {j} a h e =
     (rw (a .split, a .its-state, ne-eqb (number (state-of j)) 0 h, ← all-empty-is (totals (rest-of j)), e)
     (flat-append (a .head .linear) (mirrored-lines (totals (rest-of j)))))
 
-pub last-length : {j : Judged} (a : AtFirst j) → (number (state-of j) ≡ 0 → ⊥) → all-with-state 0 (totals (rest-of j)) ≡ true
-    → length (flat (middle-of (totals j))) ≡ length (flat (first-reduced (totals j))) + length (encode (rest-of j))
-last-length {j} a h e =
-    omega (
-      arith,
-      ap length (middle-last a h e) ∙ length-append (flat (first-reduced (totals j))) (flat (tree (rest-of j))),
-      plain-length (rest-of j),
-    )
-
-pub more-length : {j : Judged} (a : AtFirst j) → (number (state-of j) ≡ 0 → ⊥) → all-with-state 0 (totals (rest-of j)) ≡ false
-    → length (flat (middle-of (totals j))) ≡ length (flat (first-in-line false (totals j))) + length (flat (all-in-line true (totals (rest-of j))))
-more-length {j} a h e = ap length (middle-more a h e) ∙ length-append (flat (first-in-line false (totals j))) (flat (all-in-line true (totals (rest-of j))))
-
 -- A P-node's full items, as at most one item; the items from the second partial one on; what the new C-node holds.
 abbrev pub fulls : Judged → Forest
 fulls j = pack (whole-of (with-state 1 (totals j)))
@@ -188,11 +143,6 @@ unfolding gather-of
 gather-of-some m [] h = absurd (h refl)
 gather-of-some m (g ∷ gs) h = refl
 
-gather-of-none : (m : Total) (gs : List Total) → length gs ≡ 0 → gather-of (m ∷ []) gs ≡ m .reduced
-unfolding gather-of
-gather-of-none m [] h = refl
-gather-of-none m (g ∷ gs) h = absurd (omega arith)
-
 gather-of-two : (m n : Total) (ms gs : List Total) → gather-of (m ∷ (n ∷ ms)) gs ≡ c-node-of (append (m .linear) (append (pack (whole-of gs)) (n .mirrored)))
 unfolding gather-of
 gather-of-two m n ms gs = refl
@@ -214,17 +164,11 @@ unfolding gathered
 only-one j a q g =
     ap (λ (ps : List Total). gather-of ps (with-state 1 (totals j))) (partial-more j a ∙ ap (λ (qs : List Total). a .head ∷ qs) (partial-none (rest-of (from-partial j)) q (omega arith)))
 
-pub gather-one : (j : Judged) {l m : List ℕ} {r : ℕ} → l ≡ encode (from-partial j) → (length l ≡ 0 → ⊥) → m ≡ encode (second j) → length m ≤ 0
-    → r ≡ length (with-state 1 (totals j)) → r ≡ 0 → gathered (totals j) ≡ first-reduced (totals (from-partial j))
-gather-one j e h q g n z =
+pub gather-some : (j : Judged) {l m : List ℕ} → l ≡ encode (from-partial j) → (length l ≡ 0 → ⊥) → m ≡ encode (second j) → length m ≤ 0
+    → (length (with-state 1 (totals j)) ≡ 0 → ⊥) → gathered (totals j) ≡ c-node-of (beside j)
+gather-some j e h q g z =
     let a = starts (from-partial j) e h in
-    only-one j a q g ∙ gather-of-none (a .head) (with-state 1 (totals j)) (sym n ∙ z) ∙ sym (in-reduced a)
-
-pub gather-some : (j : Judged) {l m : List ℕ} {r : ℕ} → l ≡ encode (from-partial j) → (length l ≡ 0 → ⊥) → m ≡ encode (second j) → length m ≤ 0
-    → r ≡ length (with-state 1 (totals j)) → (r ≡ 0 → ⊥) → gathered (totals j) ≡ c-node-of (beside j)
-gather-some j e h q g n z =
-    let a = starts (from-partial j) e h in
-    rw (in-first true a) (only-one j a q g ∙ gather-of-some (a .head) (with-state 1 (totals j)) (λ k. z (n ∙ k)))
+    rw (in-first true a) (only-one j a q g ∙ gather-of-some (a .head) (with-state 1 (totals j)) z)
 
 -- Their tokens, in the order of the writers, and how many.
 pub between-text : (j : Judged) → (flat (first-in-line false (totals (from-partial j))) ++ flat (fulls j)) ++ flat (first-in-line true (totals (second j))) ≡ flat (between j)

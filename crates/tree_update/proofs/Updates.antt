@@ -4,13 +4,13 @@ use mathlib.Core.Logic.{_≢_}
 use mathlib.Core.Bool.{true}
 use mathlib.Core.Option.{none, some}
 use mathlib.Core.List.{List, [], _∷_}
-use Prim.Native.Nat.{ℕ, zero, suc, _+_, _-_, _≤_}
+use Prim.Native.Nat.{ℕ, zero, suc, _-_, _≤_}
 use native.Mathlib.Omega.{arith}
 use lib.ListN.{length, take, drop}
 use Rattle.spec_orders.specs.Lists.{All, Distinct, elem, numbers-from, Rearranged}
 use Rattle.spec_orders.specs.CircularOrder.{Restriction}
 use Rattle.spec_orders.specs.Tree.{Forest, nil, items, frontier}
-use Rattle.spec_orders.specs.Form.{Canonical, Single, InForm, nodes}
+use Rattle.spec_orders.specs.Form.{Canonical, Single, InForm}
 use Rattle.spec_orders.specs.Reduce.{reduce}
 use Rattle.spec_orders.specs.Join.{join}
 use Rattle.spec_orders.proofs.ListLaws.{all-map}
@@ -24,7 +24,7 @@ use Rattle.spec_orders.proofs.ReduceForm.{reduce-canonical}
 use Rattle.tree_tokens.specs.Tokens.{State, E, F, L, R, X, number, Judged, j-nil, j-leaf, j-node, tree, plain, encode, Wrote, flat, TreeTokens}
 use Rattle.tree_tokens.specs.Views.{state-of, first-of}
 use Rattle.tree_tokens.proofs.Laws.{at-end}
-use Rattle.tree_tokens.proofs.Counts.{leaves-and-nodes}
+use Rattle.tree_tokens.proofs.Counts.{flat-counts}
 use Rattle.tree_tokens.proofs.Sequences.{tree-plain}
 use Rattle.tree_judge.specs.Judge.{can-reduce, judge}
 use Rattle.tree_judge.specs.Total.{first-reduced, totals, when}
@@ -33,7 +33,7 @@ use Rattle.tree_judge.proofs.Reduces.{reduce-total}
 use Rattle.tree_tokens.proofs.Sequences.{flat-injective}
 use Rattle.tree_stays.specs.Stays.{stays}
 use Rattle.tree_stays.proofs.Same.{stays-same}
-use Rattle.tree_update.specs.Update.{FormWithin, TokensWithin}
+use Rattle.tree_update.specs.Update.{Forks, FormWithin, TokensWithin}
 use Rattle.tree_update.proofs.Laws.{begins, read-part}
 
 -- A tree in form for n leaves is one of leaves 2 to n.
@@ -61,9 +61,6 @@ few-leaves (suc n) l d h =
       count-most (elem (1 ∷ l)) (numbers-from 1 (suc n)),
       numbers-length 1 (suc n),
     )
-
-pub flat-counts : (t : Forest) → length (flat t) ≡ length (frontier t) + nodes t
-flat-counts t = sym (leaves-and-nodes (plain t)) ∙ ap (λ (f : Forest). length (frontier f) + nodes f) (tree-plain t)
 
 pub form-short : (n : ℕ) (t : Forest) → FormWithin n t → n ≤ 256 → length (flat t) ≤ 510
 form-short n t f h = omega (arith, flat-counts t, nodes-bound t (canonical-forked t (f .canonical)), few-leaves n (frontier t) (f .different) (f .in-range))
@@ -139,6 +136,10 @@ tokens-short n l p = omega (arith, ap length (p .1), form-short n (p .0) (p .2) 
 -- The judged tree, as the part that is read next.
 pub judged-part : (S : Restriction) (t : Forest) {old new : List ℕ} {m : ℕ} → Wrote (encode (judge S (tree (plain t)))) old new m → take (m - 0) (drop 0 new) ≡ encode (judge S t)
 judged-part S t w = read-part (begins w) ∙ ap (λ (f : Forest). encode (judge S f)) (tree-plain t)
+
+-- The judged tree's nodes have two items or more.
+pub judged-forks : (n : ℕ) (S : Restriction) (t : Forest) → FormWithin n t → Forks (judge S t)
+judged-forks n S t f = rw (tree-judge S t) (canonical-forked t (f .canonical))
 
 pub wrote-as : {xs ys old new : List ℕ} {k : ℕ} → xs ≡ ys → Wrote xs old new k → Wrote ys old new k
 wrote-as e w = rw (← e) w

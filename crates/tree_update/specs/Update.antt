@@ -1,13 +1,18 @@
 -- What the update reads, writes and answers.
 use mathlib.Core.Path.{_≡_}
 use mathlib.Core.Option.{Option, none, some}
-use mathlib.Core.List.{List}
+use mathlib.Core.Bool.{Bool, false}
+use mathlib.Core.List.{List, [], _∷_}
 use Prim.Native.Nat.{ℕ, _≤_}
 use lib.ListN.{length, take}
 use Rattle.spec_orders.specs.Lists.{All, Distinct}
 use Rattle.spec_orders.specs.Tree.{Forest, items, frontier}
-use Rattle.spec_orders.specs.Form.{Canonical, Single}
-use Rattle.tree_tokens.specs.Tokens.{Wrote, flat}
+use Rattle.spec_orders.specs.Form.{Every, TwoItems, Canonical, Single}
+use Rattle.spec_orders.specs.Reduce.{pack, put-sorted}
+use Rattle.tree_tokens.specs.Tokens.{Judged, tree, encode, Wrote, flat}
+use Rattle.tree_spans.specs.Spans.{is, beyond}
+use Rattle.tree_judge.specs.Total.{Total, whole-of, totals}
+use Rattle.tree_pieces.specs.Writers.{with-state, all-with-state, gathered}
 use Rattle.tree_update.specs.declared.Updated.{Updated}
 use Rattle.tree_update.specs.declared.Updated.the-variants.{Impossible, Tokens}
 
@@ -15,6 +20,22 @@ use Rattle.tree_update.specs.declared.Updated.the-variants.{Impossible, 
 pub record Begins (xs new : List ℕ) (r : ℕ) : Type 0 where
   pub many : r ≡ length xs
   pub text : take r new ≡ xs
+
+-- The first of the items is the last one that is not empty; not just one of the items is not empty.
+abbrev pub lone-of : List Total → Bool
+lone-of [] = false
+lone-of (t ∷ ts) = all-with-state 0 ts
+
+abbrev pub NotLone : List ℕ → Type 0
+NotLone x = (j : Judged) → x ≡ encode j → lone-of (totals (beyond (is 0) j)) ≡ false
+
+-- Every node has two items or more.
+abbrev pub Forks : Judged → Type 0
+Forks j = Every (λ k i. TwoItems (items i)) (tree j)
+
+-- A P-node's partial and full items as one item, among its empty items.
+abbrev pub placed-again : Judged → Forest
+placed-again j = pack (put-sorted (gathered (totals j)) (whole-of (with-state 0 (totals j))))
 
 -- A tree of some of the leaves 2 to n: at most one item, in the published form, and no leaf twice.
 pub record FormWithin (n : ℕ) (t : Forest) : Type 0 where

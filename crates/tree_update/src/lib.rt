@@ -1,84 +1,95 @@
 // The update of a tree in tokens by a restriction, and a group that joins. It writes the reduced form of the judged tree: one item whose full
 // leaves are consecutive.
 ghost use mathlib.Core.Path.{_≡_};
-ghost use Prim.Native.Nat.{ℕ, _<_, _≤_};
+ghost use Prim.Native.Nat.{ℕ, _+_, _<_, _≤_};
 ghost use lib.ListN.{length};
-ghost use Rattle.tree_tokens.specs.Tokens.{number, Judged, encode, flat};
-ghost use Rattle.tree_tokens.specs.Views.{state-of};
-ghost use Rattle.tree_judge.specs.Total.{first-reduced, middle-of, totals};
-ghost use Rattle.tree_pieces.specs.Writers.{FitsBoth, gathered};
+ghost use Rattle.tree_tokens.specs.Tokens.{Judged, tree, encode, Tokens, Wrote, flat};
+ghost use Rattle.tree_tokens.specs.Views.{first-of};
+ghost use Rattle.tree_judge.specs.Total.{first-reduced, c-node-of, middle-of, totals};
+ghost use Rattle.tree_pieces.specs.Writers.{Fits, FitsBoth, gathered};
+ghost use Rattle.tree_laid.specs.Lying.{Lies, Midway};
 ghost use Rattle.spec_orders.specs.Tree.{Forest};
+ghost use Rattle.spec_orders.specs.Form.{first};
 ghost use Rattle.spec_orders.specs.Reduce.{reduce};
 ghost use Rattle.spec_orders.specs.Join.{join};
 ghost use Rattle.mark_words.specs.Marks.{marked};
-ghost use Rattle.tree_update.specs.Update.{Begins, TokensWithin, Answers};
+ghost use Rattle.tree_update.specs.Update.{lone-of, NotLone, Forks, placed-again, TokensWithin, Answers};
+use tree_laid::Laid;
+use tree_laid::circle;
+use tree_laid::seat;
 use tree_linear::line;
 use tree_linear::lines;
 use tree_pieces::all_of_state;
 use tree_pieces::among;
 use tree_pieces::c_node;
-use tree_pieces::count;
 use tree_pieces::find_partial;
 use tree_pieces::pack_state;
 
-// Writes the first item reduced. tmp is scratch.
-fn reduced(x: &[u16], out: &mut [u16], tmp: &mut [u16]) -> usize
-    requires { ⌜ (FitsBoth first-reduced (now x) (now out) (now tmp)) × (length (now x) ≤ 512) × (length (now out) ≤ 512) × (length (now tmp) ≤ 512) ⌝ }
-    ensures { λ r. ⌜ ((j : Judged) → now (x .entry) ≡ encode j
-        → Begins (flat (first-reduced (totals j))) (now (out .exit)) r) ⌝ }
+// Whether the first item is the last one that is not empty.
+fn lone(x: &[u16]) -> bool
+    requires { ⌜ Tokens (now x) ⌝ }
+    ensures { λ r. ⌜ ((j : Judged) → now (x .entry) ≡ encode j → r ≡ lone-of (totals j)) ⌝ }
 {
     if x.len() == 0 {
-        return 0;
+        return false;
     }
-    let k = tree_tokens::shape(x);
-    if k == 1 {
-        return tree_tokens::strip(tree_tokens::first(x), out);
-    }
-    if tree_tokens::state(x) < 2 {
-        return tree_tokens::strip(tree_tokens::first(x), out);
-    }
-    if k == 3 {
-        let m = middle(tree_tokens::items(x), tmp, out);
-        return c_node(&tmp[0..m], out);
-    }
-    let m = gather(tree_tokens::items(x), tmp, out);
-    among(tree_tokens::items(x), &tmp[0..m], out)
+    all_of_state(tree_tokens::rest(x), 0)
 }
 
-// Writes a C-node's items with their full leaves consecutive.
-fn middle(x: &[u16], out: &mut [u16], tmp: &mut [u16]) -> usize
-    requires { ⌜ (FitsBoth middle-of (now x) (now out) (now tmp)) × (length (now x) ≤ 512) × (length (now out) ≤ 512) × (length (now tmp) ≤ 512) ⌝ }
+// Where the tokens x lie that were written from place 512 on.
+fn begun(x: &[u16]) -> Laid
+    requires { ⌜ (Tokens (now x)) × (length (now x) ≤ 512) ⌝ }
+    ensures { λ u. ⌜ (u .from ≡ 512) × (u .to ≡ 512 + length (now (x .entry))) × ((j : Judged) → now (x .entry) ≡ encode j → u .first ≡ first (tree j)) ⌝ }
+{
+    Laid {
+        from: 512,
+        to: 512 + x.len(),
+        first: tree_tokens::first_leaf(x),
+    }
+}
+
+// Lays the first item as it is.
+fn stay(x: &[u16], buf: &mut [u16]) -> Laid
+    requires { ⌜ (Tokens (now x)) × (0 < length (now x)) × (length (now x) ≤ 512) × (length (now buf) ≡ 1024) ⌝ }
+    ensures { λ u. ⌜ (Midway u) × ((j : Judged) → now (x .entry) ≡ encode j → Lies (tree (first-of j)) (now (buf .exit)) u) ⌝ }
+{
+    let e = 512 + tree_tokens::strip(tree_tokens::first(x), &mut buf[512..]);
+    begun(&buf[512..e])
+}
+
+// Writes a C-node's items with their full leaves consecutive, where not just one of them is not empty.
+fn middle(x: &[u16], out: &mut [u16]) -> usize
+    requires { ⌜ (Fits middle-of (now x) (now out)) × (length (now x) ≤ 512) × (length (now out) ≤ 512) × (NotLone (now x)) ⌝ }
     ensures { λ r. ⌜ ((j : Judged) → now (x .entry) ≡ encode j
-        → Begins (flat (middle-of (totals j))) (now (out .exit)) r) ⌝ }
+        → Wrote (flat (middle-of (totals j))) (now (out .entry)) (now (out .exit)) r) ⌝ }
 {
     let i = tree_spans::span(x, 0);
     let k = tree_tokens::strip(&x[0..i], out);
     if i == x.len() {
         return k;
     }
-    k + peak(&x[i..], &mut out[k..], tmp)
+    let y = &x[i..];
+    let m = k + line(y, false, &mut out[k..]);
+    m + lines(tree_tokens::rest(y), true, &mut out[m..])
 }
 
-// The same, where the first item is not empty.
-fn peak(x: &[u16], out: &mut [u16], tmp: &mut [u16]) -> usize
-    requires { ⌜ (FitsBoth middle-of (now x) (now out) (now tmp)) × (length (now x) ≤ 512) × (length (now out) ≤ 512) × (length (now tmp) ≤ 512)
-        × (0 < length (now x)) × ((j : Judged) → now x ≡ encode j → number (state-of j) ≡ 0 → ⊥) ⌝ }
-    ensures { λ r. ⌜ ((j : Judged) → now (x .entry) ≡ encode j
-        → Begins (flat (middle-of (totals j))) (now (out .exit)) r) ⌝ }
+// Lays the C-node with the items x reduced, where not just one of them is not empty. tmp is scratch.
+fn base_c(x: &[u16], buf: &mut [u16], tmp: &mut [u16]) -> Laid
+    requires { ⌜ ((j : Judged) × (now x ≡ encode j) × (length (flat (middle-of (totals j))) < 512)) × (length (now x) ≤ 512) × (NotLone (now x))
+        × (length (now buf) ≡ 1024) × (length (now tmp) ≡ 512) ⌝ }
+    ensures { λ u. ⌜ (Midway u) × ((j : Judged) → now (x .entry) ≡ encode j → Lies (c-node-of (middle-of (totals j))) (now (buf .exit)) u) ⌝ }
 {
-    if all_of_state(tree_tokens::rest(x), 0) {
-        let k = reduced(x, out, tmp);
-        return k + tree_tokens::strip(tree_tokens::rest(x), &mut out[k..]);
-    }
-    let k = line(x, false, out);
-    k + lines(tree_tokens::rest(x), true, &mut out[k..])
+    let m = middle(x, tmp);
+    let e = 512 + c_node(&tmp[0..m], &mut buf[512..]);
+    begun(&buf[512..e])
 }
 
-// Writes a P-node's partial and full items as one item.
+// Writes a P-node's partial and full items as one item, where not just one of them is not empty. tmp is scratch.
 fn gather(x: &[u16], out: &mut [u16], tmp: &mut [u16]) -> usize
-    requires { ⌜ (FitsBoth gathered (now x) (now out) (now tmp)) × (length (now x) ≤ 512) × (length (now out) ≤ 512) × (length (now tmp) ≤ 512) ⌝ }
+    requires { ⌜ (FitsBoth gathered (now x) (now out) (now tmp)) × (length (now x) ≤ 512) × (length (now out) ≤ 512) × (length (now tmp) ≤ 1024)
+        × (NotLone (now x)) ⌝ }
     ensures { λ r. ⌜ ((j : Judged) → now (x .entry) ≡ encode j
-        → Begins (flat (gathered (totals j))) (now (out .exit)) r) ⌝ }
+        → Wrote (flat (gathered (totals j))) (now (out .entry)) (now (out .exit)) r) ⌝ }
 {
     let y = find_partial(x);
     if y.len() == 0 {
@@ -91,12 +102,49 @@ fn gather(x: &[u16], out: &mut [u16], tmp: &mut [u16]) -> usize
         let m = k + line(z, true, &mut tmp[k..]);
         return c_node(&tmp[0..m], out);
     }
-    if count(x, 1) == 0 {
-        return reduced(y, out, tmp);
-    }
     let i = pack_state(x, 1, tmp);
     let m = i + line(y, true, &mut tmp[i..]);
     c_node(&tmp[0..m], out)
+}
+
+// Lays the P-node with the items x reduced, where not just one of them is not empty. tmp is scratch.
+fn base_p(x: &[u16], buf: &mut [u16], tmp: &mut [u16]) -> Laid
+    requires { ⌜ ((j : Judged) × (now x ≡ encode j) × (length (flat (placed-again j)) ≤ 512)) × (0 < length (now x)) × (length (now x) ≤ 512)
+        × (NotLone (now x)) × (length (now buf) ≡ 1024) × (length (now tmp) ≡ 512) ⌝ }
+    ensures { λ u. ⌜ (Midway u) × ((j : Judged) → now (x .entry) ≡ encode j → Lies (placed-again j) (now (buf .exit)) u) ⌝ }
+{
+    let m = gather(x, tmp, buf);
+    let e = 512 + among(x, &tmp[0..m], &mut buf[512..]);
+    begun(&buf[512..e])
+}
+
+// Lays the first item reduced. tmp is scratch.
+fn reduced(x: &[u16], buf: &mut [u16], tmp: &mut [u16]) -> Laid
+    requires { ⌜ ((j : Judged) × (now x ≡ encode j) × (Forks j) × (length (flat (first-reduced (totals j))) < 512)) × (0 < length (now x))
+        × (length (now x) ≤ 512) × (length (now buf) ≡ 1024) × (length (now tmp) ≡ 512) ⌝ }
+    ensures { λ u. ⌜ (Midway u) × ((j : Judged) → now (x .entry) ≡ encode j → Lies (first-reduced (totals j)) (now (buf .exit)) u) ⌝ }
+{
+    let k = tree_tokens::shape(x);
+    if k == 1 {
+        return stay(x, buf);
+    }
+    if tree_tokens::state(x) < 2 {
+        return stay(x, buf);
+    }
+    let w = tree_tokens::items(x);
+    let i = tree_spans::span(w, 0);
+    let y = &w[i..];
+    if lone(y) {
+        let t = reduced(y, buf, tmp);
+        if k == 3 {
+            return circle(&w[0..i], t, tree_tokens::rest(y), buf, tmp);
+        }
+        return seat(w, t, buf, tmp);
+    }
+    if k == 3 {
+        return base_c(w, buf, tmp);
+    }
+    base_p(w, buf, tmp)
 }
 
 // The answer to an update: there is no tree; or how many tokens it has.
@@ -123,10 +171,12 @@ fn update(toks: &[u16], marks: &[u64], out: &mut [u16]) -> Updated
     if tree_stays::stays(&judged[0..m]) {
         return Updated::Tokens(tree_tokens::copy(toks, out));
     }
-    let mut tree = [0u16; 512];
+    let mut buf = [0u16; 1024];
     let mut spare = [0u16; 512];
-    let k = reduced(&judged[0..m], &mut tree, &mut spare);
-    Updated::Tokens(tree_tokens::copy(&tree[0..k], out))
+    let t = reduced(&judged[0..m], &mut buf, &mut spare);
+    let from = t.from;
+    let to = t.to;
+    Updated::Tokens(tree_tokens::copy(&buf[from..to], out))
 }
 
 // A group joins: the same with the side of the group that leaf 1 is not in. group is four words.

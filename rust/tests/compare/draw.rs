@@ -1,4 +1,5 @@
 //! A seeded xorshift64 generator, and what is drawn from it.
+use crate::damage::Choose;
 
 pub struct Draw(u64);
 
@@ -100,5 +101,11 @@ impl Draw {
             }
         }
         list
+    }
+}
+
+impl Choose for Draw {
+    fn below(&mut self, k: usize) -> usize {
+        Draw::below(self, k)
     }
 }

@@ -1,6 +1,8 @@
 //! The proved planner and the independent one of crate `plain`, side by side on random rings, lists, tables, texts, pairs of trees and files. A case
 //! is one call whose answer and every lent table, whole, is compared.
 mod brute;
+mod damage;
+mod damaged;
 mod draw;
 mod files;
 mod pairs;
@@ -11,6 +13,12 @@ mod texts;
 use draw::Draw;
 use rings::Grown;
 use tables::{Call, Sides, Tally};
+use tokuwhape as planner;
+
+/// A refusal's number, and the place or byte it names, 0 where none.
+fn told(refusal: planner::Refusal) -> (u8, usize) {
+    (refusal.number(), refusal.place().unwrap_or(0))
+}
 
 /// The answers that each call can give: 0 for done, else the refusal's number.
 const ANSWERS: [(&str, &[u8]); 10] = [

@@ -1,6 +1,7 @@
 //! Pairs of trees: their intersection, also with damaged tables, tables of other lengths and other numbers of leaves.
+use crate::damage::damage_nodes;
 use crate::draw::Draw;
-use crate::rings::{damage_nodes, lent_fresh, odd_record};
+use crate::rings::{lent_fresh, odd_record};
 use crate::tables::{Call, Sides, Tally};
 use crate::texts::shaped;
 use tokuwhape::Node;

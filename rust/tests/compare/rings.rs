@@ -1,4 +1,5 @@
 //! Rings grown by random joins, and the same rings with damaged tables.
+use crate::damage::damage_nodes;
 use crate::draw::Draw;
 use crate::tables::{Call, Sides, Tally};
 use tokuwhape::Node;
@@ -87,32 +88,6 @@ fn written_and_read(tally: &mut Tally, ring: &mut Grown) {
     let mut copy = ring.sides.clone();
     assert_eq!(copy.call(tally, ring.n, Call::Read(&text)), Ok(0));
     assert!(copy.ours.nodes == ring.sides.ours.nodes, "a text has one table");
-}
-
-/// Changes one field of the node table.
-pub fn damage_nodes(draw: &mut Draw, n: usize, nodes: &mut [Node]) {
-    let used = nodes.iter().take_while(|node| node.kind != 0).count();
-    let (at, other) = (draw.below(used + 1).min(255), draw.below(used + 1).min(255));
-    let count = (nodes[at].count as usize).min(254);
-    let (i, j) = (draw.below(count + 1), draw.below(count + 1));
-    let record = &mut nodes[at];
-    match draw.below(13) {
-        0 => record.kind = draw.pick(&[0, 1, 2, 3, 255, 256, 257, 258, 65_535]),
-        1 => record.kind = draw.pick(&[3 - record.kind.min(2), record.kind | 256, record.kind << 8]),
-        2 => record.count = draw.pick(&[0, 1, 2, 3, 254, 255, 256, 65_535]),
-        3 => record.count = record.count.wrapping_add(draw.pick(&[1, 65_535])),
-        4 => record.items[i] = draw.below(n + 3) as u16,
-        5 => record.items[i] = 256 + draw.below(used + 2) as u16,
-        6 => record.items[draw.below(255)] = draw.pick(&[0, 1, 2, 256, 257, 511, 512, 65_535]),
-        7 | 8 => record.items.swap(i, j),
-        9 => record.items[..count].reverse(),
-        10 => nodes.swap(at, other),
-        11 => nodes[at] = nodes[other],
-        _ => {
-            let far = draw.below(256);
-            nodes[far].items[draw.below(255)] ^= 1
-        }
-    }
 }
 
 /// Changes one field of the book, or its count.

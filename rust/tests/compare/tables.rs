@@ -112,7 +112,7 @@ fn ours(n: usize, call: Call, t: &mut Tables<Node>) -> Answer {
         Call::Read(text) => tokuwhape::read(n, &mut t.nodes, &mut t.book, text),
         Call::Intersect(m) => tokuwhape::intersect(n, &t.nodes, m, &t.other, &mut t.third),
     };
-    answer.map_err(|refusal| (refusal.number(), refusal.place().unwrap_or(0)))
+    answer.map_err(crate::told)
 }
 
 fn theirs(n: usize, call: Call, t: &mut Tables<plain::Node>) -> Answer {

@@ -19,7 +19,7 @@ pass : (c : tie.After-enum-told) → first-refusal (table-checks (lent-nodes (c 
 pass c = sym (c .before .before .check-tables .ensures) ∙ ap refusal-in (c .enum-told .given .1)
 
 load-requires : tie.Need-load-requires
-load-requires c κs = let l = tables-whole (lent-nodes (c .before .before .before .before .before .before .args .n) (c .before .before .before .before .before .before .args .have) (now (c .before .before .before .before .before .before .args .nodes))) (c .before .before .before .before .before .before .args .other) (pass (c .before)) in (l .1, l .3, c .before .before .before .before .before .before .pre)
+load-requires c κs = let l = tables-whole (lent-nodes (c .before .before .before .before .before .before .args .n) (c .before .before .before .before .before .before .args .have) (now (c .before .before .before .before .before .before .args .nodes))) (c .before .before .before .before .before .before .args .other) (pass (c .before)) in (l .0, l .1, l .3, c .before .before .before .before .before .before .pre)
 
 returns-2 : tie.Need-returns-2
 returns-2 c = no-tree (lent-nodes (c .before .before .before .before .before .before .before .before .before .before .before .args .n) (c .before .before .before .before .before .before .before .before .before .before .before .args .have) (now (c .before .before .before .before .before .before .before .before .before .before .before .args .nodes))) (c .before .before .before .before .before .before .before .before .before .before .before .args .other) (pass (c .before .before .before .before .before .before)) (subst (Loads (c .before .before .before .before .before .before .before .before .before .before .before .args .n) (now (c .before .before .before .before .before .before .before .before .before .before .before .args .nodes)) (now (c .before .before .before .before .before .before .before .before .before .before .before .args .toks)) (c .before .before .before .before .load .last .1 .1 .0)) (c .enum-told2 .given .1) (c .before .before .before .before .load .ensures))

@@ -8,7 +8,7 @@ use Rattle.spec_intersection.specs.Intersection.{intersection}
 use Rattle.tree_tokens.proofs.Writes.{read-part, wrote-most}
 use Rattle.spec_calls.specs.Tables.{lent-nodes}
 use Rattle.spec_calls.proofs.NodeTables.{tree-in-holds}
-use Rattle.table_walk.specs.declared.Walked.the-variants.{Found}
+use Rattle.table_walk.specs.declared.Loaded.the-variants.{Tree}
 use Rattle.table_walk.specs.Walks.{Loads}
 use Rattle.tree_update.specs.Update.{Answers}
 use Rattle.call_intersection.proofs.Laws.{first-bad, second-bad, not-met, met}
@@ -16,17 +16,17 @@ use Rattle.call_intersection.proofs.common.Statement.{statement}
 use Rattle.call_intersection.proofs.common.Tie as tie
 
 -- The two trees, and that they are in form.
-first : (c : tie.After-known-told) → Loads (c .before .before .before .before .before .before .before .before .before .args .n) (now (c .before .before .before .before .before .before .before .before .before .args .nodes)) (replicate 512 0) (c .before .before .before .before .load .last .1 .1 .0) (Found (c .before .j .given .0 .0))
+first : (c : tie.After-known-told) → Loads (c .before .before .before .before .before .before .before .before .before .args .n) (now (c .before .before .before .before .before .before .before .before .before .args .nodes)) (replicate 512 0) (c .before .before .before .before .load .last .1 .1 .0) (Tree (c .before .j .given .0 .0))
 first c = subst (Loads (c .before .before .before .before .before .before .before .before .before .args .n) (now (c .before .before .before .before .before .before .before .before .before .args .nodes)) (replicate 512 0) (c .before .before .before .before .load .last .1 .1 .0)) (c .before .j .given .1) (c .before .before .before .before .load .ensures)
 
 first-form : (c : tie.After-known-told) → InForm (c .before .before .before .before .before .before .before .before .before .args .n) (first c .0)
-first-form c = tree-in-holds (c .before .before .before .before .before .before .before .before .before .args .n) (now (c .before .before .before .before .before .before .before .before .before .args .nodes)) (first c .0) (c .before .before .before .before .before .before .before .before .before .pre .0) .0 (first c .1) .in-form
+first-form c = tree-in-holds (c .before .before .before .before .before .before .before .before .before .args .n) (now (c .before .before .before .before .before .before .before .before .before .args .nodes)) (first c .0) (c .before .before .before .before .before .before .before .before .before .pre .1) .0 (first c .1) .in-form
 
-second : (c : tie.After-known-told2) → Loads (c .before .before .before .before .before .before .before .before .before .before .before .before .before .before .before .args .n) (now (c .before .before .before .before .before .before .before .before .before .before .before .before .before .before .before .args .other)) (replicate 512 0) (c .before .before .before .before .load2 .last .1 .1 .0) (Found (c .before .k .given .0 .0))
+second : (c : tie.After-known-told2) → Loads (c .before .before .before .before .before .before .before .before .before .before .before .before .before .before .before .args .n) (now (c .before .before .before .before .before .before .before .before .before .before .before .before .before .before .before .args .other)) (replicate 512 0) (c .before .before .before .before .load2 .last .1 .1 .0) (Tree (c .before .k .given .0 .0))
 second c = subst (Loads (c .before .before .before .before .before .before .before .before .before .before .before .before .before .before .before .args .n) (now (c .before .before .before .before .before .before .before .before .before .before .before .before .before .before .before .args .other)) (replicate 512 0) (c .before .before .before .before .load2 .last .1 .1 .0)) (c .before .k .given .1) (c .before .before .before .before .load2 .ensures)
 
 second-form : (c : tie.After-known-told2) → InForm (c .before .before .before .before .before .before .before .before .before .before .before .before .before .before .before .args .n) (second c .0)
-second-form c = tree-in-holds (c .before .before .before .before .before .before .before .before .before .before .before .before .before .before .before .args .n) (now (c .before .before .before .before .before .before .before .before .before .before .before .before .before .before .before .args .other)) (second c .0) (c .before .before .before .before .before .before .before .before .before .before .before .before .before .before .before .pre .0) .0 (second c .1) .in-form
+second-form c = tree-in-holds (c .before .before .before .before .before .before .before .before .before .before .before .before .before .before .before .args .n) (now (c .before .before .before .before .before .before .before .before .before .before .before .before .before .before .before .args .other)) (second c .0) (c .before .before .before .before .before .before .before .before .before .before .before .before .before .before .before .pre .1) .0 (second c .1) .in-form
 
 returns : tie.Need-returns
 returns c = λ have had. first-bad (lent-nodes (c .before .before .before .before .before .before .before .before .args .n) have (now (c .before .before .before .before .before .before .before .before .args .nodes))) (lent-nodes (c .before .before .before .before .before .before .before .before .args .n) had (now (c .before .before .before .before .before .before .before .before .args .other))) (subst (Loads (c .before .before .before .before .before .before .before .before .args .n) (now (c .before .before .before .before .before .before .before .before .args .nodes)) (replicate 512 0) (c .before .before .before .load .last .1 .1 .0)) (c .enum-told .given .1) (c .before .before .before .load .ensures))
@@ -44,9 +44,9 @@ intersect-requires : tie.Need-intersect-requires
 intersect-requires c κs =
     let t = first (c .before .before .before .before .before .before .before .before .before .before .before) in
     let u = second (c .before .before .before .before .before) in (
-      record { shown = t .0; is = read-part (t .2); in-form = first-form (c .before .before .before .before .before .before .before .before .before .before .before); few-leaves = c .before .before .before .before .before .before .before .before .before .before .before .before .before .before .before .before .before .before .before .before .pre .0 },
-      record { shown = u .0; is = read-part (u .2); in-form = second-form (c .before .before .before .before .before); few-leaves = c .before .before .before .before .before .before .before .before .before .before .before .before .before .before .before .before .before .before .before .before .pre .0 },
-      c .before .before .before .before .before .before .before .before .before .before .before .before .before .before .before .before .before .before .before .before .pre .3,
+      record { shown = t .0; is = read-part (t .2); in-form = first-form (c .before .before .before .before .before .before .before .before .before .before .before); few-leaves = c .before .before .before .before .before .before .before .before .before .before .before .before .before .before .before .before .before .before .before .before .pre .1 },
+      record { shown = u .0; is = read-part (u .2); in-form = second-form (c .before .before .before .before .before); few-leaves = c .before .before .before .before .before .before .before .before .before .before .before .before .before .before .before .before .before .before .before .before .pre .1 },
+      c .before .before .before .before .before .before .before .before .before .before .before .before .before .before .before .before .before .before .before .before .pre .4,
     )
 
 returns-3 : tie.Need-returns-3

@@ -11,7 +11,7 @@ use Rattle.spec_calls.specs.Calls.{pair-checks}
 use Rattle.spec_calls.proofs.Intersect.{Whole, pair-whole, common-form}
 use Rattle.table_book.specs.Lists.{refusal-in}
 use Rattle.call_intersection.specs.Common.{CommonLent, LendsCommon}
-use Rattle.call_intersection.proofs.Laws.{pair-refused, common-refused, common-done, demand}
+use Rattle.call_intersection.proofs.Laws.{some-leaf, pair-refused, common-refused, common-done, demand}
 use Rattle.call_intersection.proofs.intersect.Statement.{statement}
 use Rattle.call_intersection.proofs.intersect.Tie as tie
 
@@ -28,7 +28,7 @@ whole : (c : tie.After-enum-told) → Whole (lent-nodes (c .before .before .befo
 whole c = pair-whole (lent-nodes (c .before .before .before .before .before .before .before .args .n) (c .before .before .before .before .before .before .before .args .have) (now (c .before .before .before .before .before .before .before .args .nodes))) (lent-nodes (c .before .before .before .before .before .before .before .args .m) (c .before .before .before .before .before .before .before .args .had) (now (c .before .before .before .before .before .before .before .args .other))) (lent-nodes (c .before .before .before .before .before .before .before .args .n) (c .before .before .before .before .before .before .before .args .room) (now (c .before .before .before .before .before .before .before .args .third))) (passes c)
 
 common-requires : tie.Need-common-requires
-common-requires c κs = let w = whole (c .before) in (w .few-leaves, w .first-rows, w .second-rows, omega arith)
+common-requires c κs = let w = whole (c .before) in (some-leaf (lent-nodes (c .before .before .before .before .before .before .before .before .args .n) (c .before .before .before .before .before .before .before .before .args .have) (now (c .before .before .before .before .before .before .before .before .args .nodes))) (lent-nodes (c .before .before .before .before .before .before .before .before .args .m) (c .before .before .before .before .before .before .before .before .args .had) (now (c .before .before .before .before .before .before .before .before .args .other))) (lent-nodes (c .before .before .before .before .before .before .before .before .args .n) (c .before .before .before .before .before .before .before .before .args .room) (now (c .before .before .before .before .before .before .before .before .args .third))) (passes (c .before)), w .few-leaves, w .first-rows, w .second-rows, omega arith)
 
 -- What the work answers.
 works : (c : tie.After-common) → LendsCommon (lent-nodes (c .before .before .before .before .before .before .before .before .before .args .n) (c .before .before .before .before .before .before .before .before .before .args .have) (now (c .before .before .before .before .before .before .before .before .before .args .nodes))) (lent-nodes (c .before .before .before .before .before .before .before .before .before .args .m) (c .before .before .before .before .before .before .before .before .before .args .had) (now (c .before .before .before .before .before .before .before .before .before .args .other))) (replicate 512 0) (c .common .last .1 .1 .1 .0) (c .common .result)

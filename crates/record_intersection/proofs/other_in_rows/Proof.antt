@@ -48,7 +48,7 @@ use Rattle.spec_calls.specs.Promises.{IntersectPromise}
 use Rattle.record_copy.specs.Rows.{node-rows, zero-rows}
 use Rattle.record_copy.proofs.Lit.{big-lit}
 use Rattle.record_copy.proofs.Local.{Flat, rep-typed, rep-in, flat-out}
-use Rattle.record_copy.proofs.Steps.{Load, nums, numsVal, loads-shr, asks}
+use Rattle.record_copy.proofs.Steps.{rows-room, Load, nums, numsVal, loads-shr, asks}
 use Rattle.record_copy.proofs.load.Symbol as load-def
 use Rattle.record_copy.proofs.load.Met as load-thm
 use Rattle.call_intersection.proofs.intersect as core
@@ -114,7 +114,7 @@ module _ {M : Type 1} (𝓤 : URA M) (H : Heap 𝓤) (A : Atoms 𝓤) (W : Given
         qed W ((‵ (flft κ-nodes q-nodes) ⊛ (‵ (flft κ-other q-other) ⊛ (‵ (flft κ-third q-third) ⊛ (‵ ftrue)))) ∷ ‵ (owns (usize ∷ ShrSlice (named 0) κ-nodes T.the-row ∷ usize ∷ ShrSlice (named 1) κ-other u16 ∷ usize ∷ MutSlice (named 2) κ-third u16 ∷ usize ∷ []) (n, (s-nodes, (m, (s-other, (had, (s-third, (room, tt))))))) (vint w64 n ∷ [], (sliceVal (s-nodes .ptr) (length (s-nodes .now)) ∷ [], (vint w64 m ∷ [], (sliceVal (s-other .ptr) (length (s-other .now)) ∷ [], (vint w64 had ∷ [], (sliceVal (s-third .ptr) (length (s-third .now)) ∷ [], (vint w64 room ∷ [], tt)))))))) ∷ []) ∵ enter ! C Λ code.function (vint w64 n ∷ sliceVal (s-nodes .ptr) (length (s-nodes .now)) ∷ vint w64 m ∷ sliceVal (s-other .ptr) (length (s-other .now)) ∷ vint w64 had ∷ sliceVal (s-third .ptr) (length (s-third .now)) ∷ vint w64 room ∷ []) _ $
         alloc1 ! (λ l₀. alloc1 ! (λ l₁. alloc1 ! (λ l₂. alloc1 ! (λ l₃. alloc1 ! (λ l₄. alloc1 ! (λ l₅. alloc1 ! (λ l₆. alloc1 ! (λ l₇. alloc1 ! (λ l₈. alloc1 ! (λ l₉. alloc1 ! (λ l₁₀. alloc1 ! (λ l₁₁. alloc1 ! (λ l₁₂. alloc1 ! (λ l₁₃. alloc1 ! (λ l₁₄. alloc1 ! (λ l₁₅. alloc0 ! $ params1 ! $
         pass1 ! (init ! 28 refl (uint-lawful 𝓤 H A W w64 .typed n _ n-is .0)) $ pass1 ! (init ! 26 refl (tt, (tt, (record { fits = nodes-room .0 }, tt)))) $ pass1 ! (init ! 24 refl (uint-lawful 𝓤 H A W w64 .typed m _ m-is .0)) $ pass1 ! (init ! 22 refl (tt, (tt, (record { fits = other-room .0 }, tt)))) $ pass1 ! (init ! 20 refl (uint-lawful 𝓤 H A W w64 .typed had _ had-is .0)) $ pass1 ! (init ! 18 refl (tt, (tt, (record { fits = third-room .0 }, tt)))) $ pass1 ! (init ! 16 refl (uint-lawful 𝓤 H A W w64 .typed room _ room-is .0)) $ pass0 ! $
-        assigns ! (rep ! 65792 (lit ! tt)) (from ! (stop !)) (init ! 14 refl (rep-typed 𝓤 H A W 65792 l₈)) $ move ! (14 ∷ []) $ use1 W (some (λ (ys : List ℕ). ‵ (Flat 65792 l₈ ys) ⊛ raw (fact 𝓤 (ys ≡ zero-rows 65792)))) (rep-in 𝓤 H A W 65792 l₈) $ pick ! (λ ys. split ! $ move ! (1 ∷ []) $ heard ! (ys ≡ zero-rows 65792) (λ zeros. fsplit ! $ feqL ! (λ long. feqI ! ℕ (length ys) 65792 long $ fjoin ! $
+        assigns ! (rep ! 65792 (lit ! tt)) (from ! (stop !)) (init ! 14 refl (rep-typed 𝓤 H A W w16 65792 l₈)) $ move ! (14 ∷ []) $ use1 W (some (λ (ys : List ℕ). ‵ (Flat w16 65792 l₈ ys) ⊛ raw (fact 𝓤 (ys ≡ zero-rows 65792)))) (rep-in 𝓤 H A W w16 65792 l₈) $ pick ! (λ ys. split ! $ move ! (1 ∷ []) $ heard ! (ys ≡ zero-rows 65792) (λ zeros. fsplit ! $ feqL ! (λ long. feqI ! ℕ (length ys) 65792 long $ fjoin ! $
         move ! (32 ∷ []) $ split ! $ move ! (1 ∷ []) $ split ! $ move ! (1 ∷ []) $ split ! $ move ! (1 ∷ []) $ drop ! $ move ! (35 ∷ []) $ fsplit ! $ drop ! $ fsplit ! $ move ! (1 ∷ []) $ fsplit ! $ drop ! $ fsplit ! $ move ! (1 ∷ []) $ fsplit ! $ drop ! $ fsplit ! $ move ! (1 ∷ []) $ fsplit ! $ drop ! $ drop ! $ nothing ! $ move ! (1 ∷ 0 ∷ []) $ fjoin ! $ move ! (3 ∷ 0 ∷ []) $ fjoin ! $ move ! (1 ∷ 0 ∷ []) $ fjoin ! $ move ! (2 ∷ 0 ∷ []) $ fjoin ! $ move ! (1 ∷ 2 ∷ 3 ∷ 0 ∷ []) $
         -- [nodes; its token; the array; the others; the locals from the last to _0]
         assigns ! (addr ! (from ! (stop !))) (from ! (stop !)) (init ! 14 refl (tt, tt)) $ assigns ! (agg ! (and-then ! (load ! (from ! (stop !)) (look ! 14 refl)) (and-then ! (big-lit ! (record { fits = lit< tt })) (no-more !)))) (from ! (stop !)) (init ! 12 refl (tt, (tt, (record { fits = lit< tt }, tt)))) $
@@ -122,9 +122,9 @@ module _ {M : Type 1} (𝓤 : URA M) (H : Heap 𝓤) (A : Atoms 𝓤) (W : Given
         land ! (from ! (stop !)) (init ! 16 refl (uint-lawful 𝓤 H A W w64 .typed (length nodes) _ is₁ .0)) $ rewrite ! 16 (λ (w : Val). ‵ (fat fullShare (tyInt w64) l₉ 0 w)) (ap only (is₁ .0)) refl $
         assigns ! (addr ! (from ! (stop !))) (from ! (stop !)) (init ! 10 refl (tt, tt)) $ assigns ! (agg ! (and-then ! (load ! (from ! (stop !)) (look ! 10 refl)) (and-then ! (big-lit ! (record { fits = lit< tt })) (no-more !)))) (from ! (stop !)) (init ! 8 refl (tt, (tt, (record { fits = lit< tt }, tt)))) $
         assigns ! (addr ! (from ! (fld ! refl (hop ! (look-in ! 21 (sub ! 0 refl (whole !))) (stop !))))) (from ! (stop !)) (init ! 6 refl (tt, tt)) $ assigns ! (agg ! (and-then ! (load ! (from ! (stop !)) (look ! 6 refl)) (and-then ! (load ! (from ! (fld ! refl (stop !))) (look-in ! 21 (sub ! 1 refl (whole !)))) (no-more !)))) (from ! (stop !)) (init ! 4 refl (tt, (tt, (record { fits = third-room .0 }, tt)))) $
-        move ! (2 ∷ 3 ∷ 0 ∷ 1 ∷ []) $ asks ! fm (named 0) (Core 𝓤 H A mem run) known-core (Said (node-rows nodes)) Others Rest l₈ (node-rows nodes) (to-core l₈ (node-rows nodes)) (goes-core l₈ (node-rows nodes) m₁) (said l₈ (node-rows nodes)) (λ ν δ i j. and-then ! (load ! (from ! (stop !)) (look ! 31 refl)) (and-then ! (load ! (from ! (stop !)) (look ! 8 refl)) (and-then ! (load ! (from ! (stop !)) (look ! 16 refl)) (and-then ! (load ! (from ! (stop !)) (look ! 27 refl)) (and-then ! (load ! (from ! (stop !)) (look ! 25 refl)) (and-then ! (load ! (from ! (stop !)) (look ! 23 refl)) (and-then ! (load ! (from ! (stop !)) (look ! 4 refl)) (and-then ! (load ! (from ! (stop !)) (look ! 19 refl)) (no-more !))))))))) (λ r′ w₂ h′.
+        move ! (2 ∷ 3 ∷ 0 ∷ 1 ∷ []) $ asks ! fm w16 65792 rows-room (named 0) (Core 𝓤 H A mem run) known-core (Said (node-rows nodes)) Others Rest l₈ (node-rows nodes) (to-core l₈ (node-rows nodes)) (goes-core l₈ (node-rows nodes) m₁) (said l₈ (node-rows nodes)) (λ ν δ i j. and-then ! (load ! (from ! (stop !)) (look ! 31 refl)) (and-then ! (load ! (from ! (stop !)) (look ! 8 refl)) (and-then ! (load ! (from ! (stop !)) (look ! 16 refl)) (and-then ! (load ! (from ! (stop !)) (look ! 27 refl)) (and-then ! (load ! (from ! (stop !)) (look ! 25 refl)) (and-then ! (load ! (from ! (stop !)) (look ! 23 refl)) (and-then ! (load ! (from ! (stop !)) (look ! 4 refl)) (and-then ! (load ! (from ! (stop !)) (look ! 19 refl)) (no-more !))))))))) (λ r′ w₂ h′.
         land ! (from ! (stop !)) (init ! 33 refl (EL.lawful Answer·.the-type Answer′.the-laws 𝓤 H A W tt .typed (r′ .0) _ (h′ .0) .0)) $
-        use1 W (‵ (froom (tyArray (tyInt w16) 65792) l₈ 0)) (flat-out 𝓤 H A W 65792 l₈ (node-rows nodes)) $ returns ! (look ! 33 refl) $ forget ! 4 refl $ forget ! 6 refl $ forget ! 8 refl $ forget ! 10 refl $ forget ! 12 refl $ forget ! 14 refl $ forget ! 16 refl $ forget ! 19 refl $ forget ! 21 refl $ forget ! 23 refl $ forget ! 25 refl $ forget ! 27 refl $ forget ! 29 refl $ forget ! 31 refl $ forget ! 33 refl $
+        use1 W (‵ (froom (tyArray (tyInt w16) 65792) l₈ 0)) (flat-out 𝓤 H A W w16 65792 l₈ (node-rows nodes)) $ returns ! (look ! 33 refl) $ forget ! 4 refl $ forget ! 6 refl $ forget ! 8 refl $ forget ! 10 refl $ forget ! 12 refl $ forget ! 14 refl $ forget ! 16 refl $ forget ! 19 refl $ forget ! 21 refl $ forget ! 23 refl $ forget ! 25 refl $ forget ! 27 refl $ forget ! 29 refl $ forget ! 31 refl $ forget ! 33 refl $
         move ! (33 ∷ 34 ∷ []) $ free1 ! $ move ! (31 ∷ 32 ∷ []) $ free1 ! $ move ! (29 ∷ 30 ∷ []) $ free1 ! $ move ! (27 ∷ 28 ∷ []) $ free1 ! $ move ! (25 ∷ 26 ∷ []) $ free1 ! $ move ! (23 ∷ 24 ∷ []) $ free1 ! $ move ! (21 ∷ 22 ∷ []) $ free1 ! $ move ! (19 ∷ 20 ∷ []) $ free1 ! $ move ! (0 ∷ 18 ∷ []) $ free1 ! $ move ! (15 ∷ 16 ∷ []) $ free1 ! $ move ! (13 ∷ 14 ∷ []) $ free1 ! $ move ! (11 ∷ 12 ∷ []) $ free1 ! $ move ! (9 ∷ 10 ∷ []) $ free1 ! $ move ! (7 ∷ 8 ∷ []) $ free1 ! $ move ! (5 ∷ 6 ∷ []) $ free1 ! $ move ! (3 ∷ 4 ∷ []) $ free1 ! $ free0 ! $
         suffices ! _ (ends-at 𝓤 H A this.ended stayed (this.clauses 𝓤 H A mem run) W (((κ-nodes, (κ-other, (κ-third, tt))), (q-nodes, (q-other, (q-third, tt))), tt, (n, (s-nodes, (m, (s-other, (had, (s-third, (room, tt))))))), (vint w64 n ∷ [], (sliceVal (s-nodes .ptr) (length (s-nodes .now)) ∷ [], (vint w64 m ∷ [], (sliceVal (s-other .ptr) (length (s-other .now)) ∷ [], (vint w64 had ∷ [], (sliceVal (s-third .ptr) (length (s-third .now)) ∷ [], (vint w64 room ∷ [], tt)))))))), tt) w₂ (r′ .0) (tt, (tt, (tt, (tt, (tt, (r′ .1 .0, (tt, tt))))))) (tt, (tt, (tt, (tt, (tt, (h′ .1 .0, (tt, tt)))))))) $ says ! (let h : Ensured (node-rows nodes) (r′ .0) (r′ .1 .0) = h′ .1 .1 in h) $
         fsplit ! $ move ! (1 ∷ []) $ fsplit ! $ move ! (1 ∷ []) $ fsplit ! $ move ! (1 ∷ []) $ drop ! $ move ! (3 ∷ []) $ drop ! $ nothing ! $ move ! (2 ∷ 0 ∷ []) $ join ! $ move ! (2 ∷ 0 ∷ []) $ join ! $ move ! (2 ∷ 0 ∷ []) $ join ! $ frame ! $ nothing ! $ nothing ! $ fjoin ! $ move ! (1 ∷ 0 ∷ []) $ fjoin ! $ nothing ! $ fjoin ! $ nothing ! $ fjoin ! $ nothing ! $ fjoin ! $ nothing ! $ fjoin ! $ nothing ! $ fjoin ! $ frame ! $ owned ! Answer·.the-row (Is Answer·.the-row) (EL.makes Answer·.the-type Answer′.the-plain 𝓤 H A) (r′ .0) _ (h′ .0) $ done !)))))))))))))))))))))

@@ -48,7 +48,7 @@ use Rattle.spec_calls.specs.Promises.{AimPromise}
 use Rattle.record_copy.specs.Rows.{node-rows, zero-rows}
 use Rattle.record_copy.proofs.Lit.{big-lit}
 use Rattle.record_copy.proofs.Local.{Flat, rep-typed, rep-in, flat-out}
-use Rattle.record_copy.proofs.Steps.{Load, nums, numsVal, loads-shr, asks}
+use Rattle.record_copy.proofs.Steps.{rows-room, Load, nums, numsVal, loads-shr, asks}
 use Rattle.record_copy.proofs.load.Symbol as load-def
 use Rattle.record_copy.proofs.load.Met as load-thm
 use Rattle.call_order.proofs.aim as core
@@ -111,16 +111,16 @@ module _ {M : Type 1} (𝓤 : URA M) (H : Heap 𝓤) (A : Atoms 𝓤) (W : Given
         qed W ((‵ (flft κ-nodes q-nodes) ⊛ (‵ (flft κ-book q-book) ⊛ (‵ ftrue))) ∷ ‵ (owns (usize ∷ ShrSlice (named 0) κ-nodes T.the-row ∷ ShrSlice (named 1) κ-book u64 ∷ usize ∷ usize ∷ []) (n, (s-nodes, (s-book, (count, (group, tt))))) (vint w64 n ∷ [], (sliceVal (s-nodes .ptr) (length (s-nodes .now)) ∷ [], (sliceVal (s-book .ptr) (length (s-book .now)) ∷ [], (vint w64 count ∷ [], (vint w64 group ∷ [], tt)))))) ∷ []) ∵ enter ! C Λ code.function (vint w64 n ∷ sliceVal (s-nodes .ptr) (length (s-nodes .now)) ∷ sliceVal (s-book .ptr) (length (s-book .now)) ∷ vint w64 count ∷ vint w64 group ∷ []) _ $
         alloc1 ! (λ l₀. alloc1 ! (λ l₁. alloc1 ! (λ l₂. alloc1 ! (λ l₃. alloc1 ! (λ l₄. alloc1 ! (λ l₅. alloc1 ! (λ l₆. alloc1 ! (λ l₇. alloc1 ! (λ l₈. alloc1 ! (λ l₉. alloc1 ! (λ l₁₀. alloc1 ! (λ l₁₁. alloc0 ! $ params1 ! $
         pass1 ! (init ! 20 refl (uint-lawful 𝓤 H A W w64 .typed n _ n-is .0)) $ pass1 ! (init ! 18 refl (tt, (tt, (record { fits = nodes-room .0 }, tt)))) $ pass1 ! (init ! 16 refl (tt, (tt, (record { fits = book-room .0 }, tt)))) $ pass1 ! (init ! 14 refl (uint-lawful 𝓤 H A W w64 .typed count _ count-is .0)) $ pass1 ! (init ! 12 refl (uint-lawful 𝓤 H A W w64 .typed group _ group-is .0)) $ pass0 ! $
-        assigns ! (rep ! 65792 (lit ! tt)) (from ! (stop !)) (init ! 10 refl (rep-typed 𝓤 H A W 65792 l₆)) $ move ! (10 ∷ []) $ use1 W (some (λ (ys : List ℕ). ‵ (Flat 65792 l₆ ys) ⊛ raw (fact 𝓤 (ys ≡ zero-rows 65792)))) (rep-in 𝓤 H A W 65792 l₆) $ pick ! (λ ys. split ! $ move ! (1 ∷ []) $ heard ! (ys ≡ zero-rows 65792) (λ zeros. fsplit ! $ feqL ! (λ long. feqI ! ℕ (length ys) 65792 long $ fjoin ! $
+        assigns ! (rep ! 65792 (lit ! tt)) (from ! (stop !)) (init ! 10 refl (rep-typed 𝓤 H A W w16 65792 l₆)) $ move ! (10 ∷ []) $ use1 W (some (λ (ys : List ℕ). ‵ (Flat w16 65792 l₆ ys) ⊛ raw (fact 𝓤 (ys ≡ zero-rows 65792)))) (rep-in 𝓤 H A W w16 65792 l₆) $ pick ! (λ ys. split ! $ move ! (1 ∷ []) $ heard ! (ys ≡ zero-rows 65792) (λ zeros. fsplit ! $ feqL ! (λ long. feqI ! ℕ (length ys) 65792 long $ fjoin ! $
         move ! (24 ∷ []) $ split ! $ move ! (1 ∷ []) $ split ! $ move ! (1 ∷ []) $ drop ! $ move ! (26 ∷ []) $ fsplit ! $ drop ! $ fsplit ! $ move ! (1 ∷ []) $ fsplit ! $ move ! (1 ∷ []) $ fsplit ! $ drop ! $ fsplit ! $ drop ! $ drop ! $ nothing ! $ move ! (1 ∷ 0 ∷ []) $ fjoin ! $ move ! (2 ∷ 0 ∷ []) $ fjoin ! $ move ! (1 ∷ 2 ∷ 3 ∷ 0 ∷ []) $
         -- [nodes; its token; the array; the others; the locals from the last to _0]
         assigns ! (addr ! (from ! (stop !))) (from ! (stop !)) (init ! 10 refl (tt, tt)) $ assigns ! (agg ! (and-then ! (load ! (from ! (stop !)) (look ! 10 refl)) (and-then ! (big-lit ! (record { fits = lit< tt })) (no-more !)))) (from ! (stop !)) (init ! 8 refl (tt, (tt, (record { fits = lit< tt }, tt)))) $
         loads-shr mem run (named 0) ! fm known-load κ-nodes q-nodes s-nodes l₆ ys long zeros (λ i j k. and-then ! (load ! (from ! (stop !)) (look ! 21 refl)) (and-then ! (load ! (from ! (stop !)) (look ! 8 refl)) (no-more !))) (λ w₁ sound m₁ is₁.
         land ! (from ! (stop !)) (init ! 12 refl (uint-lawful 𝓤 H A W w64 .typed (length nodes) _ is₁ .0)) $ rewrite ! 12 (λ (w : Val). ‵ (fat fullShare (tyInt w64) l₇ 0 w)) (ap only (is₁ .0)) refl $
         assigns ! (addr ! (from ! (stop !))) (from ! (stop !)) (init ! 6 refl (tt, tt)) $ assigns ! (agg ! (and-then ! (load ! (from ! (stop !)) (look ! 6 refl)) (and-then ! (big-lit ! (record { fits = lit< tt })) (no-more !)))) (from ! (stop !)) (init ! 4 refl (tt, (tt, (record { fits = lit< tt }, tt)))) $
-        move ! (2 ∷ 3 ∷ 0 ∷ 1 ∷ []) $ asks ! fm (named 0) (Core 𝓤 H A mem run) known-core (Said (node-rows nodes)) Others Rest l₆ (node-rows nodes) (to-core l₆ (node-rows nodes)) (goes-core l₆ (node-rows nodes) m₁) (said l₆ (node-rows nodes)) (λ ν δ i j. and-then ! (load ! (from ! (stop !)) (look ! 23 refl)) (and-then ! (load ! (from ! (stop !)) (look ! 4 refl)) (and-then ! (load ! (from ! (stop !)) (look ! 12 refl)) (and-then ! (load ! (from ! (stop !)) (look ! 19 refl)) (and-then ! (load ! (from ! (stop !)) (look ! 17 refl)) (and-then ! (load ! (from ! (stop !)) (look ! 15 refl)) (no-more !))))))) (λ r′ w₂ h′.
+        move ! (2 ∷ 3 ∷ 0 ∷ 1 ∷ []) $ asks ! fm w16 65792 rows-room (named 0) (Core 𝓤 H A mem run) known-core (Said (node-rows nodes)) Others Rest l₆ (node-rows nodes) (to-core l₆ (node-rows nodes)) (goes-core l₆ (node-rows nodes) m₁) (said l₆ (node-rows nodes)) (λ ν δ i j. and-then ! (load ! (from ! (stop !)) (look ! 23 refl)) (and-then ! (load ! (from ! (stop !)) (look ! 4 refl)) (and-then ! (load ! (from ! (stop !)) (look ! 12 refl)) (and-then ! (load ! (from ! (stop !)) (look ! 19 refl)) (and-then ! (load ! (from ! (stop !)) (look ! 17 refl)) (and-then ! (load ! (from ! (stop !)) (look ! 15 refl)) (no-more !))))))) (λ r′ w₂ h′.
         land ! (from ! (stop !)) (init ! 25 refl (EL.lawful Answer·.the-type Answer′.the-laws 𝓤 H A W tt .typed (r′ .0) _ (h′ .0) .0)) $
-        use1 W (‵ (froom (tyArray (tyInt w16) 65792) l₆ 0)) (flat-out 𝓤 H A W 65792 l₆ (node-rows nodes)) $ returns ! (look ! 25 refl) $ forget ! 4 refl $ forget ! 6 refl $ forget ! 8 refl $ forget ! 10 refl $ forget ! 12 refl $ forget ! 15 refl $ forget ! 17 refl $ forget ! 19 refl $ forget ! 21 refl $ forget ! 23 refl $ forget ! 25 refl $
+        use1 W (‵ (froom (tyArray (tyInt w16) 65792) l₆ 0)) (flat-out 𝓤 H A W w16 65792 l₆ (node-rows nodes)) $ returns ! (look ! 25 refl) $ forget ! 4 refl $ forget ! 6 refl $ forget ! 8 refl $ forget ! 10 refl $ forget ! 12 refl $ forget ! 15 refl $ forget ! 17 refl $ forget ! 19 refl $ forget ! 21 refl $ forget ! 23 refl $ forget ! 25 refl $
         move ! (25 ∷ 26 ∷ []) $ free1 ! $ move ! (23 ∷ 24 ∷ []) $ free1 ! $ move ! (21 ∷ 22 ∷ []) $ free1 ! $ move ! (19 ∷ 20 ∷ []) $ free1 ! $ move ! (17 ∷ 18 ∷ []) $ free1 ! $ move ! (15 ∷ 16 ∷ []) $ free1 ! $ move ! (0 ∷ 14 ∷ []) $ free1 ! $ move ! (11 ∷ 12 ∷ []) $ free1 ! $ move ! (9 ∷ 10 ∷ []) $ free1 ! $ move ! (7 ∷ 8 ∷ []) $ free1 ! $ move ! (5 ∷ 6 ∷ []) $ free1 ! $ move ! (3 ∷ 4 ∷ []) $ free1 ! $ free0 ! $
         suffices ! _ (ends-at 𝓤 H A this.ended stayed (this.clauses 𝓤 H A mem run) W (((κ-nodes, (κ-book, tt)), (q-nodes, (q-book, tt)), tt, (n, (s-nodes, (s-book, (count, (group, tt))))), (vint w64 n ∷ [], (sliceVal (s-nodes .ptr) (length (s-nodes .now)) ∷ [], (sliceVal (s-book .ptr) (length (s-book .now)) ∷ [], (vint w64 count ∷ [], (vint w64 group ∷ [], tt)))))), tt) w₂ (r′ .0) (tt, (tt, (tt, (tt, (tt, tt))))) (tt, (tt, (tt, (tt, (tt, tt)))))) $ says ! (let h : Ensured (node-rows nodes) (r′ .0) = h′ .1 in h) $
         fsplit ! $ move ! (1 ∷ []) $ drop ! $ move ! (1 ∷ []) $ drop ! $ nothing ! $ move ! (1 ∷ 0 ∷ []) $ join ! $ move ! (1 ∷ 0 ∷ []) $ join ! $ frame ! $ nothing ! $ nothing ! $ fjoin ! $ nothing ! $ fjoin ! $ nothing ! $ fjoin ! $ nothing ! $ fjoin ! $ nothing ! $ fjoin ! $ frame ! $ owned ! Answer·.the-row (Is Answer·.the-row) (EL.makes Answer·.the-type Answer′.the-plain 𝓤 H A) (r′ .0) _ (h′ .0) $ done !)))))))))))))))))

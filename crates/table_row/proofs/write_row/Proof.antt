@@ -1,60 +1,55 @@
-use mathlib.Core.Path.{sym, _∙_}
+use Prim.Native.Nat.{_≤_}
 use native.Mathlib.Omega.{arith}
-use lib.ListN.{set, length-set}
+use lib.ListN.{length-set}
 use Rattle.spec_calls.proofs.NodeTables.{entries-length}
 use Rattle.spec_calls.specs.NodeTable.{entries}
 use Rattle.tree_tokens.specs.Tokens.{tree}
-use Rattle.table_row.proofs.Rows.{row-length}
-use Rattle.table_row.proofs.Writing.{wrote-row}
+use Rattle.table_row.proofs.Writing.{blank-long, wrote-row}
 use borrow.Author.Needs.{needs}
 use Rattle.table_row.proofs.write_row.Statement.{statement}
 use Rattle.table_row.proofs.write_row.Tie as tie
 
+sub-write-entries : tie.Need-sub-write-entries
+sub-write-entries c = omega (arith, blank-long (c .before .before .before .pre .1))
+
+part-write-entries-start : tie.Need-part-write-entries-start
+part-write-entries-start c = omega (arith, blank-long (c .before .before .before .pre .1))
+
+write-entries-requires : tie.Need-write-entries-requires
+write-entries-requires c κs =
+    let p = c .before .before .before .before .pre .0 in
+    record { seq = p .seq; is = p .is; start = p .start; beside = p .beside; last = p .last; few = omega (arith, p .few, c .write-entries-arg .given, blank-long (c .before .before .before .before .pre .1)) }
+
+slice-write-out : tie.Need-slice-write-out
+slice-write-out c = omega (arith, blank-long (c .before .before .before .before .before .before .before .pre .1), c .before .out .given)
+
+few : (c : tie.After-write-entries) → c .write-entries .result ≤ 255
+few c =
+    let p = c .before .before .before .before .before .pre .0 in
+    omega (arith, c .write-entries .ensures (p .start) (p .seq) (p .beside) (p .is) .many, entries-length (p .start) (tree (p .seq)), p .few)
+
 cast-out : tie.Need-cast-out
-cast-out c = let p = c .before .before .before .pre .0 in omega (arith, c .item-count .ensures .1 (p .seq) (p .is), p .few)
+cast-out c = omega (arith, few (c .before .before))
 
 slice-write-out-2 : tie.Need-slice-write-out-2
-slice-write-out-2 c = simp length-set (omega arith)
-
-sub-write-places : tie.Need-sub-write-places
-sub-write-places c = simp length-set (omega arith)
-
-part-write-places-start : tie.Need-part-write-places-start
-part-write-places-start c = simp length-set (omega arith)
-
-write-places-requires : tie.Need-write-places-requires
-write-places-requires c κs =
-    let old = c .before .before .before .before .args .out .now in
-    let k = c .before .before .before .before .args .kind in
-    (c .before .before .before .before .pre .0, omega (arith, c .write-places-arg .given, length-set old 0 k, length-set (set old 0 k) 1 (c .before .item-count .result)))
-
-add-result : tie.Need-add-result
-add-result c =
-    let p = c .before .before .before .before .before .before .before .pre .0 in
-    omega (arith, c .before .before .write-places .ensures (p .seq) (p .is) .many, row-length 0 (c .before .before .before .before .before .before .before .args .r) (p .seq) (p .few))
-
-same-length : tie.Need-same-length
-same-length c = c .before .out .given .1 ∙ simp length-set
+slice-write-out-2 c = simp length-set (omega (arith, blank-long (c .before .before .before .before .before .before .before .pre .1), c .before .out .given))
 
 returns : tie.Need-returns
 returns c =
-    λ i e.
-    wrote-row (c .before .before .before .before .before .before .before .args .kind) (c .before .before .before .before .item-count .result) (entries (c .before .before .before .before .before .before .before .args .r) (tree i)) (c .before .before .before .before .before .before .before .args .out .now) (omega arith)
-    (c .before .before .before .before .item-count .ensures .1 i e ∙ sym (entries-length (c .before .before .before .before .before .before .before .args .r) (tree i)))
-    (c .before .before .write-places .ensures i e)
+    λ r i b e.
+    let w = c .before .before .write-entries .ensures r i b e in
+    wrote-row (c .before .before .before .before .before .before .before .args .kind) (c .before .before .write-entries .result) (entries r (tree i)) (c .before .before .before .before .before .before .before .args .out .now) (c .before .before .before .before .before .before .before .pre .1) (omega (arith, w .many, few (c .before .before))) (w .many) w
 
 pub write-row-spec : {M : Type 1} → statement M
 write-row-spec =
     tie.close
     (tie.spec
+    sub-write-entries
+    part-write-entries-start
     (λ c. search needs)
-    (λ c κs. search needs)
+    write-entries-requires
+    slice-write-out
     cast-out
     slice-write-out-2
-    sub-write-places
-    part-write-places-start
     (λ c. search needs)
-    write-places-requires
-    add-result
-    same-length
     returns)

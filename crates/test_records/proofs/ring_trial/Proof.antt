@@ -47,9 +47,9 @@ use Rattle.record_left.specs.Records.{lent-records}
 use Rattle.test_records.proofs.Steps.{Code, number, answers, codes}
 use Rattle.spec_calls.proofs.code.Symbol as code-def
 use Rattle.spec_calls.proofs.code.Met as code-thm
-use Rattle.record_update.proofs.trial as call
-use Rattle.record_update.proofs.trial.Symbol as call-def
-use Rattle.record_update.proofs.trial.Met as call-thm
+use Rattle.record_trial.proofs.trial as call
+use Rattle.record_trial.proofs.trial.Symbol as call-def
+use Rattle.record_trial.proofs.trial.Met as call-thm
 use Rattle.test_records.proofs.ring_trial.Key as key′
 use Rattle.test_records.proofs.ring_trial as this
 use Rattle.test_records.proofs.ring_trial.Statement as stated
@@ -130,5 +130,5 @@ ring-trial-spec 𝓤 H 𝓜 𝓖 𝓡 =
     entered 𝓤 H (tripleOf 𝓤 H (𝓖 .A) this.signature (this.spec 𝓤 H (𝓖 .A) (𝓜 .mem) (𝓡 .run)))
     (tables 𝓤 H 𝓜 𝓡 code.env .C) (tables 𝓤 H 𝓜 𝓡 code.env .Λ) key′.name code.function (code.unfolded 𝓤 H 𝓜 𝓡)
     (ring-trial-meets 𝓤 H (𝓖 .A) (givenOf 𝓤 H 𝓜 𝓖) (𝓜 .mem) (𝓡 .run) (tablesOf 𝓤 H 𝓜 (tables 𝓤 H 𝓜 𝓡 code.env))
-    (cited 𝓤 H (Call 𝓤 H (𝓖 .A) (𝓜 .mem) (𝓡 .run)) 𝓜 𝓡 code.env call-def.name call-def.routine code.calls-record-update·trial (call-thm.met 𝓤 H 𝓜 𝓖 𝓡))
+    (cited 𝓤 H (Call 𝓤 H (𝓖 .A) (𝓜 .mem) (𝓡 .run)) 𝓜 𝓡 code.env call-def.name call-def.routine code.calls-record-trial·trial (call-thm.met 𝓤 H 𝓜 𝓖 𝓡))
     (cited 𝓤 H (Code 𝓤 H (𝓖 .A) (𝓜 .mem) (𝓡 .run)) 𝓜 𝓡 code.env code-def.name code-def.routine code.calls-spec-calls·code (code-thm.met 𝓤 H 𝓜 𝓖 𝓡)))

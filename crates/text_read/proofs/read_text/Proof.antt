@@ -1,4 +1,4 @@
-use mathlib.Core.Path.{refl, _∙_, ap}
+use mathlib.Core.Path.{_∙_, ap}
 use native.Mathlib.Omega.{arith}
 use borrow.Author.Tests.{not-true, not-false}
 use lib.ListN.{length}
@@ -20,13 +20,13 @@ part-broken-end : tie.Need-part-broken-end
 part-broken-end c = omega (arith, wrote-most ((c .before .before .before .before .before .shape .ensures .goes (not-false _ (c .before .if2 .left))) .wrote))
 
 broken-requires : tie.Need-broken-requires
-broken-requires c κs = let s = (c .before .before .before .before .before .before .shape .ensures .goes (not-false _ (c .before .before .if2 .left))) in let e = read-part (s .wrote) in ((_, e), omega (arith, s .few, s .wrote .many, ap length e), omega (arith, s .few, s .wrote .many, ap length e))
+broken-requires c κs = let s = (c .before .before .before .before .before .before .shape .ensures .goes (not-false _ (c .before .before .if2 .left))) in let e = read-part (s .wrote) in ((_, e), omega (arith, s .few, s .wrote .many, ap length e))
 
 returns-3 : tie.Need-returns-3
-returns-3 c = rule-broken (c .before .before .before .before .before .before .before .before .before .before .before .before .before .args .n) (c .before .before .before .before .before .before .before .before .before .before .before .before .before .args .text .now) (c .before .before .before .before .before .before .before .before .shape .ensures .goes (not-false _ (c .before .before .before .before .if2 .left))) _ (c .before .broken .ensures (plain ((c .before .before .before .before .before .before .before .before .shape .ensures .goes (not-false _ (c .before .before .before .before .if2 .left))) .shown)) C (read-part ((c .before .before .before .before .before .before .before .before .shape .ensures .goes (not-false _ (c .before .before .before .before .if2 .left))) .wrote)) refl ∙ ap (broken-at C 0 2) (tree-plain ((c .before .before .before .before .before .before .before .before .shape .ensures .goes (not-false _ (c .before .before .before .before .if2 .left))) .shown))) (c .if3 .taken)
+returns-3 c = rule-broken (c .before .before .before .before .before .before .before .before .before .before .before .before .before .args .n) (c .before .before .before .before .before .before .before .before .before .before .before .before .before .args .text .now) (c .before .before .before .before .before .before .before .before .shape .ensures .goes (not-false _ (c .before .before .before .before .if2 .left))) _ (c .before .broken .ensures (plain ((c .before .before .before .before .before .before .before .before .shape .ensures .goes (not-false _ (c .before .before .before .before .if2 .left))) .shown)) (read-part ((c .before .before .before .before .before .before .before .before .shape .ensures .goes (not-false _ (c .before .before .before .before .if2 .left))) .wrote)) ∙ ap (broken-at C 0 2) (tree-plain ((c .before .before .before .before .before .before .before .before .shape .ensures .goes (not-false _ (c .before .before .before .before .if2 .left))) .shown))) (c .if3 .taken)
 
 returns-4 : tie.Need-returns-4
-returns-4 c = ((c .before .before .before .before .before .before .before .before .shape .ensures .goes (not-false _ (c .before .before .before .before .if2 .left))) .shown, rules-kept (c .before .before .before .before .before .before .before .before .before .before .before .before .before .args .n) (c .before .before .before .before .before .before .before .before .before .before .before .before .before .args .text .now) (c .before .before .before .before .before .before .before .before .shape .ensures .goes (not-false _ (c .before .before .before .before .if2 .left))) _ (c .before .broken .ensures (plain ((c .before .before .before .before .before .before .before .before .shape .ensures .goes (not-false _ (c .before .before .before .before .if2 .left))) .shown)) C (read-part ((c .before .before .before .before .before .before .before .before .shape .ensures .goes (not-false _ (c .before .before .before .before .if2 .left))) .wrote)) refl ∙ ap (broken-at C 0 2) (tree-plain ((c .before .before .before .before .before .before .before .before .shape .ensures .goes (not-false _ (c .before .before .before .before .if2 .left))) .shown))) (c .if3 .left), (c .before .before .before .before .before .before .before .before .shape .ensures .goes (not-false _ (c .before .before .before .before .if2 .left))) .wrote)
+returns-4 c = ((c .before .before .before .before .before .before .before .before .shape .ensures .goes (not-false _ (c .before .before .before .before .if2 .left))) .shown, rules-kept (c .before .before .before .before .before .before .before .before .before .before .before .before .before .args .n) (c .before .before .before .before .before .before .before .before .before .before .before .before .before .args .text .now) (c .before .before .before .before .before .before .before .before .shape .ensures .goes (not-false _ (c .before .before .before .before .if2 .left))) _ (c .before .broken .ensures (plain ((c .before .before .before .before .before .before .before .before .shape .ensures .goes (not-false _ (c .before .before .before .before .if2 .left))) .shown)) (read-part ((c .before .before .before .before .before .before .before .before .shape .ensures .goes (not-false _ (c .before .before .before .before .if2 .left))) .wrote)) ∙ ap (broken-at C 0 2) (tree-plain ((c .before .before .before .before .before .before .before .before .shape .ensures .goes (not-false _ (c .before .before .before .before .if2 .left))) .shown))) (c .if3 .left), (c .before .before .before .before .before .before .before .before .shape .ensures .goes (not-false _ (c .before .before .before .before .if2 .left))) .wrote)
 
 pub read-text-spec : {M : Type 1} → statement M
 read-text-spec =

@@ -1,7 +1,7 @@
 use mathlib.Core.Path.{sym, _∙_, ap}
 use Prim.Native.Nat.{suc}
 use native.Mathlib.Omega.{arith}
-use Rattle.text_rules.proofs.Lengths.{one-digit, more-digits}
+use Rattle.text_rules.proofs.Digits.{one-digit, more-digits}
 use Rattle.text_rules.proofs.digit_count.Statement.{statement}
 use Rattle.text_rules.proofs.digit_count.Tie as tie
 

@@ -1,5 +1,5 @@
 use mathlib.Core.Path.{_≡_, refl, sym, ap, _∙_}
-use Prim.Native.Nat.{_-_, _≤_}
+use Prim.Native.Nat.{_+_, _-_, _≤_}
 use lib.ListN.{length, take, drop}
 use native.Mathlib.Omega.{arith}
 use Rattle.spec_orders.specs.Tree.{Forest}
@@ -11,8 +11,7 @@ use Rattle.tree_judge.specs.Judge.{judge}
 use Rattle.tree_judge.specs.Total.{first-reduced, totals}
 use Rattle.tree_pieces.proofs.Laws.{flat-nil}
 use Rattle.tree_update.specs.Update.{impossible, written}
-use Rattle.tree_update.proofs.Laws.{read-part}
-use Rattle.tree_update.proofs.Updates.{reduce-none, reduce-no, reduce-yes, reduce-stays, reduced-short, the-form, tokens-short, judged-part, wrote-as}
+use Rattle.tree_update.proofs.Updates.{reduce-none, reduce-no, reduce-yes, reduce-stays, reduced-short, the-form, tokens-short, judged-part, judged-forks, wrote-as}
 use borrow.Author.Needs.{needs}
 use Rattle.tree_update.proofs.update.Statement.{statement}
 use Rattle.tree_update.proofs.update.Tie as tie
@@ -63,16 +62,42 @@ part-reduced-end : tie.Need-part-reduced-end
 part-reduced-end c = omega (arith, tokens-short (c .before .before .before .before .before .before .before .before .before .before .before .before .before .before .before .before .pre .0) (c .before .before .before .before .before .before .before .before .before .before .before .before .before .before .before .before .args .toks .now) (c .before .before .before .before .before .before .before .before .before .before .before .before .before .before .before .before .pre .1), c .before .before .before .before .before .before .before .before .before .before .judge .kept .1 .1 .0)
 
 reduced-requires : tie.Need-reduced-requires
-reduced-requires c κs = let x = text (c .before .before .before .before .before .before .before .before .before .before .before .before) (c .before .before .before .before .before .before .before .before .before .before .before .before .before .before .before .before .before .before .before .pre .1 .0) (c .before .before .before .before .before .before .before .before .before .before .before .before .before .before .before .before .before .before .before .pre .1 .1) in let s = short (c .before .before .before .before .before .before .before .before) in ((_, x, omega (arith, s), omega (arith, s)), omega (arith, tokens-short (c .before .before .before .before .before .before .before .before .before .before .before .before .before .before .before .before .before .before .before .pre .0) (c .before .before .before .before .before .before .before .before .before .before .before .before .before .before .before .before .before .before .before .args .toks .now) (c .before .before .before .before .before .before .before .before .before .before .before .before .before .before .before .before .before .before .before .pre .1), c .before .before .before .before .before .before .before .before .before .before .before .before .before .judge .kept .1 .1 .0, c .before .before .reduced-arg .given), omega arith, omega arith)
+reduced-requires c κs =
+    let x = text (c .before .before .before .before .before .before .before .before .before .before .before .before) (c .before .before .before .before .before .before .before .before .before .before .before .before .before .before .before .before .before .before .before .pre .1 .0) (c .before .before .before .before .before .before .before .before .before .before .before .before .before .before .before .before .before .before .before .pre .1 .1) in
+    let s = short (c .before .before .before .before .before .before .before .before) in
+    let n = tokens-short (c .before .before .before .before .before .before .before .before .before .before .before .before .before .before .before .before .before .before .before .pre .0) (c .before .before .before .before .before .before .before .before .before .before .before .before .before .before .before .before .before .before .before .args .toks .now) (c .before .before .before .before .before .before .before .before .before .before .before .before .before .before .before .before .before .before .before .pre .1) in (
+      (_, x, judged-forks (c .before .before .before .before .before .before .before .before .before .before .before .before .before .before .before .before .before .before .before .pre .0) (marked (c .before .before .before .before .before .before .before .before .before .before .before .before .before .before .before .before .before .before .before .args .marks .now)) (c .before .before .before .before .before .before .before .before .before .before .before .before .before .before .before .before .before .before .before .pre .1 .0) (c .before .before .before .before .before .before .before .before .before .before .before .before .before .before .before .before .before .before .before .pre .1 .2), omega (arith, s)),
+      omega (arith, n, c .before .before .before .before .before .before .before .before .before .before .before .before .before .judge .kept .1 .1 .0, c .before .before .reduced-arg .given, c .before .before .before .before .before .before .before .before .before .before .before .before .before .before .before .if1 .left),
+      omega (arith, n, c .before .before .before .before .before .before .before .before .before .before .before .before .before .judge .kept .1 .1 .0, c .before .before .reduced-arg .given),
+      omega arith,
+      omega arith,
+    )
+
+-- Where the reduced tree lies.
+lying : (c : tie.After-reduced) → (c .reduced .result .from ≤ 512) × (512 ≤ c .reduced .result .to) × (c .reduced .result .to ≤ c .reduced .result .from + 510)
+lying c = (
+  c .reduced .ensures .0 .0,
+  c .reduced .ensures .0 .1,
+  omega (arith, short (c .before .before .before .before .before .before .before .before .before), c .reduced .ensures .1 _ (text (c .before .before .before .before .before .before .before .before .before .before .before .before .before) (c .before .before .before .before .before .before .before .before .before .before .before .before .before .before .before .before .before .before .before .before .pre .1 .0) (c .before .before .before .before .before .before .before .before .before .before .before .before .before .before .before .before .before .before .before .before .pre .1 .1)) .held .many),
+)
+
+mul-copy : tie.Need-mul-copy
+mul-copy c = omega (arith, lying (c .before .before))
+
+sub-copy : tie.Need-sub-copy
+sub-copy c = omega (arith, lying (c .before .before))
+
+part-copy-start : tie.Need-part-copy-start
+part-copy-start c = omega (arith, lying (c .before .before .before))
 
 part-copy-end : tie.Need-part-copy-end
-part-copy-end c = omega (arith, short (c .before .before .before .before .before .before .before .before .before .before .before .before), c .before .before .before .reduced .ensures _ (text (c .before .before .before .before .before .before .before .before .before .before .before .before .before .before .before .before) (c .before .before .before .before .before .before .before .before .before .before .before .before .before .before .before .before .before .before .before .before .before .before .before .pre .1 .0) (c .before .before .before .before .before .before .before .before .before .before .before .before .before .before .before .before .before .before .before .before .before .before .before .pre .1 .1)) .many, c .before .before .before .reduced .kept .1 .0)
+part-copy-end c = omega (arith, lying (c .before .before .before), c .before .before .before .reduced .kept .1 .0)
 
 copy-requires-2 : tie.Need-copy-requires-2
-copy-requires-2 c κs = omega (arith, ap length (read-part (c .before .before .before .before .before .reduced .ensures _ (text (c .before .before .before .before .before .before .before .before .before .before .before .before .before .before .before .before .before .before) (c .before .before .before .before .before .before .before .before .before .before .before .before .before .before .before .before .before .before .before .before .before .before .before .before .before .pre .1 .0) (c .before .before .before .before .before .before .before .before .before .before .before .before .before .before .before .before .before .before .before .before .before .before .before .before .before .pre .1 .1)))), short (c .before .before .before .before .before .before .before .before .before .before .before .before .before .before), c .before .before .before .before .before .before .before .before .before .before .before .before .before .before .before .before .before .before .before .before .before .before .before .before .before .pre .2)
+copy-requires-2 c κs = omega (arith, ap length (c .before .before .before .before .before .reduced .ensures .1 _ (text (c .before .before .before .before .before .before .before .before .before .before .before .before .before .before .before .before .before .before) (c .before .before .before .before .before .before .before .before .before .before .before .before .before .before .before .before .before .before .before .before .before .before .before .before .before .pre .1 .0) (c .before .before .before .before .before .before .before .before .before .before .before .before .before .before .before .before .before .before .before .before .before .before .before .before .before .pre .1 .1)) .held .text), short (c .before .before .before .before .before .before .before .before .before .before .before .before .before .before), c .before .before .before .before .before .before .before .before .before .before .before .before .before .before .before .before .before .before .before .before .before .before .before .before .before .pre .2)
 
 returns-4 : tie.Need-returns-4
-returns-4 c = λ t e. rw (reduce-yes (c .before .before .before .before .before .before .before .before .before .before .before .before .before .before .before .before .before .before .before .before .before .before .before .before .before .before .before .before .pre .0) (marked (c .before .before .before .before .before .before .before .before .before .before .before .before .before .before .before .before .before .before .before .before .before .before .before .before .before .before .before .before .args .marks .now)) t (the-form (c .before .before .before .before .before .before .before .before .before .before .before .before .before .before .before .before .before .before .before .before .before .before .before .before .before .before .before .before .pre .0) (c .before .before .before .before .before .before .before .before .before .before .before .before .before .before .before .before .before .before .before .before .before .before .before .before .before .before .before .before .args .toks .now) (c .before .before .before .before .before .before .before .before .before .before .before .before .before .before .before .before .before .before .before .before .before .before .before .before .before .before .before .before .pre .1) t e) (yes (c .before .before .before .before .before .before .before .before .before .before .before .before .before .before .before .before .before) t e)) (written (wrote-as (read-part (c .before .before .before .before .before .before .before .before .reduced .ensures _ (text (c .before .before .before .before .before .before .before .before .before .before .before .before .before .before .before .before .before .before .before .before .before) t e))) (c .before .before .copy2 .ensures)))
+returns-4 c = λ t e. rw (reduce-yes (c .before .before .before .before .before .before .before .before .before .before .before .before .before .before .before .before .before .before .before .before .before .before .before .before .before .before .before .before .pre .0) (marked (c .before .before .before .before .before .before .before .before .before .before .before .before .before .before .before .before .before .before .before .before .before .before .before .before .before .before .before .before .args .marks .now)) t (the-form (c .before .before .before .before .before .before .before .before .before .before .before .before .before .before .before .before .before .before .before .before .before .before .before .before .before .before .before .before .pre .0) (c .before .before .before .before .before .before .before .before .before .before .before .before .before .before .before .before .before .before .before .before .before .before .before .before .before .before .before .before .args .toks .now) (c .before .before .before .before .before .before .before .before .before .before .before .before .before .before .before .before .before .before .before .before .before .before .before .before .before .before .before .before .pre .1) t e) (yes (c .before .before .before .before .before .before .before .before .before .before .before .before .before .before .before .before .before) t e)) (written (wrote-as (c .before .before .before .before .before .before .before .before .reduced .ensures .1 _ (text (c .before .before .before .before .before .before .before .before .before .before .before .before .before .before .before .before .before .before .before .before .before) t e) .held .text) (c .before .before .copy2 .ensures)))
 
 pub update-spec : {M : Type 1} → statement M
 update-spec =
@@ -99,8 +124,9 @@ update-spec =
     (λ c. search needs)
     (λ c. search needs)
     reduced-requires
-    (λ c. search needs)
-    (λ c. search needs)
+    mul-copy
+    sub-copy
+    part-copy-start
     part-copy-end
     copy-requires-2
     (λ c. search needs)

@@ -1,15 +1,15 @@
 -- An item in a line.
 use mathlib.Core.Path.{sym, ap, _∙_}
-use lib.ListN.{length}
+use lib.ListN.{length, length-set}
 use native.Mathlib.Omega.{arith}
 use Rattle.tree_tokens.specs.Tokens.{flat}
 use Rattle.spec_orders.specs.Tree.{Forest}
 use Rattle.tree_tokens.specs.Views.{first-of}
 use Rattle.tree_tokens.proofs.Laws.{at-end}
 use Rattle.tree_tokens.proofs.Sequences.{plain-length}
-use Rattle.tree_tokens.proofs.Writes.{wrote-none}
+use Rattle.tree_tokens.proofs.Writes.{wrote-none, wrote-one}
 use Rattle.tree_pieces.proofs.Laws.{totals-none, flat-nil}
-use Rattle.tree_linear.proofs.Laws.{line-leaf, line-kept, line-of-c, line-of-p}
+use Rattle.tree_linear.proofs.Laws.{line-token, line-kept, line-of-c, line-of-p}
 use Prim.Native.Nat.{ℕ}
 use Rattle.tree_linear.proofs.line.Reads as line
 use Rattle.tree_linear.proofs.+line+line_c+line_p+lines+lines_back.Lts-line as line-lts
@@ -23,7 +23,7 @@ use Rattle.tree_tokens.proofs.strip.Reads as strip-reads
 use Rattle.tree_linear.proofs.+line+line_c+line_p+lines+lines_back.Proof.Cycle.{line-at, line-c-below, line-p-below}
 
 abbrev pub line-calls : ℕ → line-lts.Claims
-line-calls t = (shape-reads.Asked, shape-reads.Learnt, first-reads.Asked, first-reads.Learnt, strip-reads.Asked, strip-reads.Learnt, state-reads.Asked, state-reads.Learnt, items-reads.Asked, items-reads.Learnt, line-c-below t, line-c.Post, line-p-below t, line-p.Post)
+line-calls t = (shape-reads.Asked, shape-reads.Learnt, state-reads.Asked, state-reads.Learnt, first-reads.Asked, first-reads.Learnt, strip-reads.Asked, strip-reads.Learnt, items-reads.Asked, items-reads.Learnt, line-c-below t, line-c.Post, line-p-below t, line-p.Post)
 
 pub line-returns : (t : ℕ) → line-lts.Need-returns (line-calls t) (line-at t) line.Post
 line-returns t c = λ j e. rw (at-end j e (c .if1 .taken), totals-none, flat-nil) (wrote-none _)
@@ -31,40 +31,43 @@ line-returns t c = λ j e. rw (at-end j e (c .if1 .taken), totals-none, flat-nil
 pub line-shape-requires : (t : ℕ) → line-lts.Need-shape-requires (line-calls t) (line-at t) line.Post
 line-shape-requires t c κs = ((_, c .before .before .before .pre .1 .0 .1), omega arith)
 
-pub line-first-requires : (t : ℕ) → line-lts.Need-first-requires (line-calls t) (line-at t) line.Post
-line-first-requires t c κs = ((_, c .before .before .before .before .before .pre .1 .0 .1), omega arith)
+pub line-shared-slice-read-out : (t : ℕ) → line-lts.Need-shared-slice-read-out (line-calls t) (line-at t) line.Post
+line-shared-slice-read-out t c = omega arith
 
-pub line-strip-requires : (t : ℕ) → line-lts.Need-strip-requires (line-calls t) (line-at t) line.Post
-line-strip-requires t c κs =
-    let p = c .before .before .before .before .before .before .before .pre .1 .0 in (
-      (_, c .before .first .ensures .1 (p .0) (p .1)),
-      omega (arith, p .2, ap length (line-leaf (c .before .before .before .before .before .before .before .args .back) (p .0) (sym (c .before .before .before .shape .ensures (p .0) (p .1)) ∙ c .before .before .if2 .taken)), plain-length (first-of (p .0)), ap length (c .before .first .ensures .1 (p .0) (p .1))),
-    )
+pub line-shared-slice-read-out-2 : (t : ℕ) → line-lts.Need-shared-slice-read-out-2 (line-calls t) (line-at t) line.Post
+line-shared-slice-read-out-2 t c = omega arith
+
+pub line-sub-out : (t : ℕ) → line-lts.Need-sub-out (line-calls t) (line-at t) line.Post
+line-sub-out t c = omega arith
+
+pub line-slice-write-out : (t : ℕ) → line-lts.Need-slice-write-out (line-calls t) (line-at t) line.Post
+line-slice-write-out t c =
+    let p = c .before .before .before .before .before .before .before .pre .1 .0 in omega (arith, p .2, ap length (line-token (c .before .before .before .before .before .before .before .args .back) (p .0) (p .1) (sym (c .before .before .before .shape .ensures (p .0) (p .1)) ∙ c .before .before .if2 .taken)))
 
 pub line-same-length : (t : ℕ) → line-lts.Need-same-length (line-calls t) (line-at t) line.Post
-line-same-length t c = c .before .before .strip .kept .1 .0
+line-same-length t c = simp length-set
 
 pub line-returns-2 : (t : ℕ) → line-lts.Need-returns-2 (line-calls t) (line-at t) line.Post
-line-returns-2 t c = λ j e. rw (line-leaf (c .before .before .before .before .before .before .before .before .before .before .args .back) j (sym (c .before .before .before .before .before .before .shape .ensures j e) ∙ c .before .before .before .before .before .if2 .taken)) (c .before .before .strip .ensures .1 _ (c .before .before .before .before .first .ensures .1 j e))
+line-returns-2 t c = λ j e. rw (line-token (c .before .before .before .before .before .before .before .args .back) j e (sym (c .before .before .before .shape .ensures j e) ∙ c .before .before .if2 .taken)) (wrote-one _ _ (line-slice-write-out t c))
 
 pub line-state-requires : (t : ℕ) → line-lts.Need-state-requires (line-calls t) (line-at t) line.Post
 line-state-requires t c κs = ((_, c .before .before .before .before .before .pre .1 .0 .1), omega arith)
 
-pub line-first-requires-2 : (t : ℕ) → line-lts.Need-first-requires-2 (line-calls t) (line-at t) line.Post
-line-first-requires-2 t c κs = ((_, c .before .before .before .before .before .before .before .pre .1 .0 .1), omega arith)
+pub line-first-requires : (t : ℕ) → line-lts.Need-first-requires (line-calls t) (line-at t) line.Post
+line-first-requires t c κs = ((_, c .before .before .before .before .before .before .before .pre .1 .0 .1), omega arith)
 
-pub line-strip-requires-2 : (t : ℕ) → line-lts.Need-strip-requires-2 (line-calls t) (line-at t) line.Post
-line-strip-requires-2 t c κs =
+pub line-strip-requires : (t : ℕ) → line-lts.Need-strip-requires (line-calls t) (line-at t) line.Post
+line-strip-requires t c κs =
     let p = c .before .before .before .before .before .before .before .before .before .pre .1 .0 in (
-      (_, c .before .first2 .ensures .1 (p .0) (p .1)),
-      omega (arith, p .2, ap length (line-kept (c .before .before .before .before .before .before .before .before .before .args .back) (p .0) (λ h. c .before .before .if3 .taken (c .before .before .before .state .ensures (p .0) (p .1) ∙ h))), plain-length (first-of (p .0)), ap length (c .before .first2 .ensures .1 (p .0) (p .1))),
+      (_, c .before .first .ensures .1 (p .0) (p .1)),
+      omega (arith, p .2, ap length (line-kept (c .before .before .before .before .before .before .before .before .before .args .back) (p .0) (λ h. c .before .before .if3 .taken (c .before .before .before .state .ensures (p .0) (p .1) ∙ h))), plain-length (first-of (p .0)), ap length (c .before .first .ensures .1 (p .0) (p .1))),
     )
 
 pub line-same-length-2 : (t : ℕ) → line-lts.Need-same-length-2 (line-calls t) (line-at t) line.Post
-line-same-length-2 t c = c .before .before .strip2 .kept .1 .0
+line-same-length-2 t c = c .before .before .strip .kept .1 .0
 
 pub line-returns-3 : (t : ℕ) → line-lts.Need-returns-3 (line-calls t) (line-at t) line.Post
-line-returns-3 t c = λ j e. rw (line-kept (c .before .before .before .before .before .before .before .before .before .before .before .before .args .back) j (λ h. c .before .before .before .before .before .if3 .taken (c .before .before .before .before .before .before .state .ensures j e ∙ h))) (c .before .before .strip2 .ensures .1 _ (c .before .before .before .before .first2 .ensures .1 j e))
+line-returns-3 t c = λ j e. rw (line-kept (c .before .before .before .before .before .before .before .before .before .before .before .before .args .back) j (λ h. c .before .before .before .before .before .if3 .taken (c .before .before .before .before .before .before .state .ensures j e ∙ h))) (c .before .before .strip .ensures .1 _ (c .before .before .before .before .first .ensures .1 j e))
 
 pub line-items-requires : (t : ℕ) → line-lts.Need-items-requires (line-calls t) (line-at t) line.Post
 line-items-requires t c κs = ((_, c .before .before .before .before .before .before .before .before .pre .1 .0 .1), omega arith)

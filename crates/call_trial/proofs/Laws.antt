@@ -1,0 +1,191 @@
+-- The trial's answer from what the other checks and the sweep say.
+use mathlib.Core.Path.{_≡_, refl, sym, _∙_, ap, subst}
+use mathlib.Core.Logic.{_≢_}
+use mathlib.Core.Bool.{Bool, true, false, cond, not, _||_, true≢false}
+use mathlib.Core.Option.{Option, none, some}
+use mathlib.Core.List.{List, [], _∷_}
+use Prim.Native.Nat.{ℕ, suc, _+_, _≤_, _<_}
+use native.Mathlib.Omega.{arith}
+use borrow.Author.Tests.{eq-eqb, ne-eqb, le-ltb, le-leb, lt-leb}
+use lib.Dec.{eqb, ltb}
+use lib.ListN.{length}
+use Rattle.spec_orders.specs.Lists.{elem}
+use Rattle.spec_orders.specs.CircularOrder.{Restriction, group-of}
+use Rattle.spec_orders.proofs.Tests.{or-swap}
+use Rattle.spec_orders.specs.Tree.{Forest}
+use Rattle.spec_orders.specs.Reduce.{reduce}
+use Rattle.spec_orders.specs.Join.{join, then}
+use Rattle.mark_words.specs.Marks.{marked, words-of, outside}
+use Rattle.spec_calls.specs.declared.Refusal.{Refusal}
+use Rattle.spec_calls.specs.declared.Refusal.the-variants.{RingSize, ShortTable, NotInForm, OutsideRing, Repeated, BookFull, Impossible as Not-possible}
+use Rattle.spec_calls.specs.declared.Answer.{Answer}
+use Rattle.spec_calls.specs.declared.Answer.the-variants.{Done, Refused}
+use Rattle.spec_calls.specs.Tables.{Nodes, lent-nodes, Book}
+use Rattle.spec_calls.specs.Book.{book-in-form?}
+use Rattle.spec_calls.specs.NodeTable.{held-tree}
+use Rattle.spec_calls.specs.Refusals.{Reply, reply, reported, report, refuse, first-refusal, bad-size, short, short-nodes, bad-leaf, bad-list}
+use Rattle.spec_calls.specs.Calls.{is-none, joined-tree, join-refusal, joined, join-call, trial-call}
+use Rattle.spec_calls.specs.Demands.{ImpossibleIff}
+use Rattle.spec_calls.specs.Promises.{TrialPromise}
+use Rattle.spec_calls.proofs.Demands.{size-fine, nodes-whole, join-meets}
+use Rattle.spec_calls.proofs.NodeTables.{tree-in-holds}
+use Rattle.call_checks.specs.Lent.{book-checks}
+use Rattle.call_checks.proofs.Laws.{book-lent}
+use Rattle.table_book.proofs.Lists.{group-held}
+use Rattle.table_sweep.specs.declared.Verdict.{Verdict}
+use Rattle.table_sweep.specs.declared.Verdict.the-variants.{NoTree, Impossible, Possible}
+use Rattle.table_sweep.specs.Kept.{Started, Swept, Told}
+use Rattle.tree_update.proofs.Agree.{join-outside, join-inside}
+use Rattle.tree_update.proofs.Updates.{form-within}
+use Rattle.call_trial.specs.Trials.{refusal-with, BookPasses, Waits, sooner, later, counts, GroupWords, Side, Ready, AfterSweep, settled}
+
+some-none : {A : Type 0} {x : A} → _≡_ {A = Option A} none (some x) → ⊥
+some-none e = let z : _≡_ {A = ℕ} 0 1 = cc in omega arith
+
+the-some : {A : Type 0} {x y : A} → _≡_ {A = Option A} (some x) (some y) → x ≡ y
+the-some e = cc
+
+-- ---- the checks that need no node table
+
+-- 1, 2, or 3 on the book; `more` comes after them, and d is a further reason for 3.
+by-book : (a b c d : Bool) (r : Refusal) (more : List (Option Refusal)) → first-refusal (refuse a RingSize ∷ refuse b ShortTable ∷ refuse c NotInForm ∷ []) ≡ some r
+    → (reported r .number ≤ 3) × (first-refusal (refuse a RingSize ∷ refuse b ShortTable ∷ refuse (d || c) NotInForm ∷ more) ≡ some r)
+by-book true b c d r more e = (subst (λ x. reported x .number ≤ 3) (the-some e) (omega arith), e)
+by-book false true c d r more e = (subst (λ x. reported x .number ≤ 3) (the-some e) (omega arith), e)
+by-book false false true true r more e = (subst (λ x. reported x .number ≤ 3) (the-some e) (omega arith), e)
+by-book false false true false r more e = (subst (λ x. reported x .number ≤ 3) (the-some e) (omega arith), e)
+by-book false false false d r more e = absurd (some-none e)
+
+-- 5 and 6 come after 3.
+list-number : (n : ℕ) (seen : List ℕ) (k : ℕ) (list : List ℕ) (r : Refusal) → bad-leaf n seen k list ≡ some r → 3 < reported r .number
+unfolding bad-leaf
+list-number n seen k [] r e = absurd (some-none e)
+list-number n seen k (b ∷ bs) r e = go (λ h. list-number n (b ∷ seen) (suc k) bs r h) (eqb b 0 || ltb n b) (elem seen b) e
+  where
+    go : (bad-leaf n (b ∷ seen) (suc k) bs ≡ some r → 3 < reported r .number) → (a c : Bool) → cond a (some (OutsideRing k)) (cond c (some (Repeated k)) (bad-leaf n (b ∷ seen) (suc k) bs)) ≡ some r → 3 < reported r .number
+    go h true c e = subst (λ x. 3 < reported x .number) (the-some e) (omega arith)
+    go h false true e = subst (λ x. 3 < reported x .number) (the-some e) (omega arith)
+    go h false false e = h e
+
+module _ (n : ℕ) (too-short : Bool) (book : Book) (list : List ℕ) where
+  pub refused-sooner : {Fact : Type 0} (r : Refusal) → first-refusal (book-checks n book too-short) ≡ some r → Waits n too-short book list Fact (Refused r)
+  unfolding refusal-with
+  refused-sooner r e = sooner {r = r} (at none .0) (λ o. rw (or-swap too-short (short 384 (book .words))) (at o .1))
+    where
+      at : (o : Option Forest) → (reported r .number ≤ 3) × (first-refusal (refuse (bad-size n) RingSize ∷ refuse (short 384 (book .words) || too-short) ShortTable ∷ refuse (is-none o || not (book-in-form? n book)) NotInForm ∷ bad-list n list ∷ refuse (eqb (book .count) 96) BookFull ∷ refuse (is-none (then o (join (group-of n list)))) Not-possible ∷ []) ≡ some r)
+      at o = by-book (bad-size n) (short 384 (book .words) || too-short) (not (book-in-form? n book)) (is-none o) r (bad-list n list ∷ refuse (eqb (book .count) 96) BookFull ∷ refuse (is-none (then o (join (group-of n list)))) Not-possible ∷ []) e
+
+  pub whole : first-refusal (book-checks n book too-short) ≡ none → BookPasses n too-short book
+  whole e = let w = book-lent n book too-short e in record { some-leaf = w .0; few-leaves = w .1; groups = w .2; long = w .3 }
+
+  module _ (w : BookPasses n too-short book) where
+    no-tree : refusal-with n too-short book list none ≡ some NotInForm
+    unfolding refusal-with
+    no-tree = rw (size-fine n (w .some-leaf) (w .few-leaves), w .long, le-ltb (length (book .words)) 384 (w .groups .all-words))
+
+    with-tree : (t : Forest) → refusal-with n too-short book list (some t)
+        ≡ first-refusal (bad-list n list ∷ refuse (eqb (book .count) 96) BookFull ∷ refuse (is-none (join (group-of n list) t)) Not-possible ∷ [])
+    unfolding refusal-with
+    with-tree t = rw (size-fine n (w .some-leaf) (w .few-leaves), w .long, le-ltb (length (book .words)) 384 (w .groups .all-words), w .groups .in-form)
+
+    pub refused-list : {Fact : Type 0} (r : Refusal) → bad-list n list ≡ some r → Waits n too-short book list Fact (Refused r)
+    refused-list r e = later {r = r} (list-number n [] 0 list r e) w (λ t. with-tree t ∙ rw e)
+
+    module _ (e : bad-list n list ≡ none) where
+      pub refused-full : {Fact : Type 0} → book .count ≡ 96 → Waits n too-short book list Fact (Refused BookFull)
+      refused-full q = later {r = BookFull} (omega arith) w (λ t. with-tree t ∙ rw (e, eq-eqb (book .count) 96 q))
+
+      by-tree : book .count ≢ 96 → (t : Forest) → refusal-with n too-short book list (some t) ≡ first-refusal (refuse (is-none (join (group-of n list) t)) Not-possible ∷ [])
+      by-tree q t = with-tree t ∙ rw (e, ne-eqb (book .count) 96 q)
+
+-- ---- the side of the group that leaf 1 is not in
+
+module _ (n : ℕ) (list words : List ℕ) (m : GroupWords n list words) (e : bad-list n list ≡ none) (h : n ≤ 256) where
+  held : marked words ≡ group-of n list
+  held = ap marked m ∙ group-held n list h e
+
+  pub side-outside : (us : List ℕ) → length words ≡ 4 → true ≡ marked words 1 → us ≡ words-of (length words) (outside n (marked words)) → Side n list (marked us)
+  side-outside us four q u t f = ap (λ G. join G t) (sym held) ∙ join-outside n words words us t (form-within f) (omega arith) q refl u
+
+  pub side-inside : false ≡ marked words 1 → Side n list (marked words)
+  side-inside q t f = ap (λ G. join G t) (sym held) ∙ join-inside words t q
+
+pub side-waits : {n : ℕ} {too-short : Bool} {book : Book} {list words : List ℕ} {r : Answer} (S : Restriction)
+    → (GroupWords n list words → bad-list n list ≡ none → n ≤ 256 → Side n list S) → Waits n too-short book list (GroupWords n list words) r → Waits n too-short book list (Side n list S) r
+side-waits S f (sooner a b) = sooner a b
+side-waits S f (later a w b) = later a w b
+side-waits S f (counts k w e q m) = counts k w e q (f m e (w .few-leaves))
+
+-- ---- the answer
+
+module _ (nodes : Nodes) (book : Book) (list : List ℕ) where
+  refusal-is : join-refusal nodes book list ≡ refusal-with (nodes .bins) (short-nodes nodes) book list (held-tree nodes)
+  unfolding join-refusal joined-tree refusal-with
+  refusal-is = refl
+
+  demand : (r : Reply) → r ≡ trial-call nodes book list → TrialPromise nodes book list r
+  unfolding trial-call
+  demand r e = (e, λ t h b l w. subst (ImpossibleIff (group-of (nodes .bins) list) t) (sym e) (join-meets nodes book list t h b l w .impossible))
+
+  refused-so : (o : Option Forest) (r : Refusal) → held-tree nodes ≡ o → refusal-with (nodes .bins) (short-nodes nodes) book list o ≡ some r → TrialPromise nodes book list (reported r)
+  unfolding trial-call join-call joined
+  refused-so o r e h =
+      demand (reported r)
+      (ap (λ x. joined x (joined-tree nodes list) nodes book list .answer) (sym (refusal-is ∙ ap (refusal-with (nodes .bins) (short-nodes nodes) book list) e ∙ h)))
+
+  done-so : (t : Forest) (k : ℕ) → k ≡ book .count + 1 → held-tree nodes ≡ some t → refusal-with (nodes .bins) (short-nodes nodes) book list (some t) ≡ none → TrialPromise nodes book list (reply 0 k)
+  unfolding trial-call join-call joined
+  done-so t k q e h =
+      demand (reply 0 k)
+      (ap (reply 0) q ∙ ap (λ x. joined x (joined-tree nodes list) nodes book list .answer) (sym (refusal-is ∙ ap (refusal-with (nodes .bins) (short-nodes nodes) book list) e ∙ h)))
+
+  -- Where only the tree can refuse.
+  judged : (S : Restriction) (t : Forest) → BookPasses (nodes .bins) (short-nodes nodes) book → bad-list (nodes .bins) list ≡ none → book .count ≢ 96 → Side (nodes .bins) list S → held-tree nodes ≡ some t
+      → refusal-with (nodes .bins) (short-nodes nodes) book list (some t) ≡ first-refusal (refuse (is-none (reduce S t)) Not-possible ∷ [])
+  judged S t w e f m is =
+      by-tree (nodes .bins) (short-nodes nodes) book list w e f t
+      ∙ ap (λ o. first-refusal (refuse (is-none o) Not-possible ∷ [])) (m t (tree-in-holds (nodes .bins) (nodes .rows) t (w .few-leaves) .0 is .in-form))
+
+  passes : (o : Option Forest) → o ≢ none → first-refusal (refuse (is-none o) Not-possible ∷ []) ≡ none
+  passes none h = absurd (h refl)
+  passes (some t) h = refl
+
+  -- The verdict and what waits.
+  settles : (S : Restriction) (v : Verdict) (x : Answer) → (BookPasses (nodes .bins) (short-nodes nodes) book → Told (nodes .bins) S (nodes .rows) v)
+      → Waits (nodes .bins) (short-nodes nodes) book list (Side (nodes .bins) list S) x → TrialPromise nodes book list (report (settled v x))
+  settles S Possible (Refused r) told (sooner a b) = refused-so (held-tree nodes) r refl (b (held-tree nodes))
+  settles S Impossible (Refused r) told (sooner a b) = refused-so (held-tree nodes) r refl (b (held-tree nodes))
+  settles S NoTree (Refused r) told (sooner a b) = rw (le-leb (reported r .number) 3 a) (refused-so (held-tree nodes) r refl (b (held-tree nodes)))
+  settles S Possible (Refused r) told (later a w b) = let h = told w in refused-so (some (h .0)) r (h .1) (b (h .0))
+  settles S Impossible (Refused r) told (later a w b) = let h = told w in refused-so (some (h .0)) r (h .1) (b (h .0))
+  settles S NoTree (Refused r) told (later a w b) = rw (lt-leb (reported r .number) 3 a) (refused-so none NotInForm (told w) (no-tree (nodes .bins) (short-nodes nodes) book list w))
+  settles S Possible (Done k) told (counts q w e f m) = let h = told w in done-so (h .0) k q (h .1) (judged S (h .0) w e f m (h .1) ∙ passes (reduce S (h .0)) (h .2))
+  settles S Impossible (Done k) told (counts q w e f m) =
+      let h = told w in
+      refused-so (some (h .0)) Not-possible (h .1) (judged S (h .0) w e f m (h .1) ∙ ap (λ o. first-refusal (refuse (is-none o) Not-possible ∷ [])) (h .2))
+  settles S NoTree (Done k) told (counts q w e f m) = refused-so none NotInForm (told w) (no-tree (nodes .bins) (short-nodes nodes) book list w)
+
+  pub concluded : (work : List ℕ) (v : Verdict) (x : Answer)
+      → ((S : Restriction) (table : List ℕ) → 1 ≤ nodes .bins → nodes .bins ≤ 256 → 65792 ≤ length table → Swept (nodes .bins) S table 0 work → Told (nodes .bins) S table v)
+      → AfterSweep nodes book list work x → TrialPromise nodes book list (report (settled v x))
+  concluded work v x verdict h =
+      settles (h .side) v x (λ w. verdict (h .side) (nodes .rows) (w .some-leaf) (w .few-leaves) (nodes-whole nodes (w .long) .1) (h .swept)) (h .waits)
+
+  -- The node table is too short.
+  pub refused-short : (too-short : Bool) (work : List ℕ) (other : Answer) → short-nodes nodes ≡ too-short → too-short ≡ true → Ready (nodes .bins) too-short book list work other
+      → TrialPromise nodes book list (report other)
+  refused-short too-short work other e s h = go other (h .waits)
+    where
+      go : (x : Answer) → Waits (nodes .bins) too-short book list (Side (nodes .bins) list (h .side)) x → TrialPromise nodes book list (report x)
+      go (Refused r) (sooner a b) = refused-so (held-tree nodes) r refl (ap (λ c. refusal-with (nodes .bins) c book list (held-tree nodes)) e ∙ b (held-tree nodes))
+      go (Refused r) (later a w b) = absurd (true≢false (sym s ∙ w .long))
+      go (Done k) (counts q w f m y) = absurd (true≢false (sym s ∙ w .long))
+
+-- The node table was swept.
+pub swept-read : {n : ℕ} {records : ℕ} {rows : List ℕ} {too-short : Bool} {book : Book} {list work new : List ℕ} {other : Answer}
+    → short-nodes (lent-nodes n records rows) ≡ too-short → Ready n too-short book list work other → ((S : Restriction) → Started n S work → Swept n S rows 0 new) → AfterSweep (lent-nodes n records rows) book list new other
+swept-read {n} {book = book} {list = list} {other = other} e h s = record {
+  side = h .side;
+  waits = subst (λ b. Waits n b book list (Side n list (h .side)) other) (sym e) (h .waits);
+  swept = s (h .side) (h .started);
+}

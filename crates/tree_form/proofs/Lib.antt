@@ -1,2 +1,0 @@
-pub mod Sorting
-pub mod Leaves
