@@ -1,5 +1,5 @@
--- The trial's answer from what the other checks and the sweep say.
-use mathlib.Core.Path.{_≡_, refl, sym, _∙_, ap, subst}
+-- The trial's answer from what the other checks and the sweep say; joining's from the trial's.
+use mathlib.Core.Path.{_≡_, refl, sym, _∙_, ap, ap₂, subst}
 use mathlib.Core.Logic.{_≢_}
 use mathlib.Core.Bool.{Bool, true, false, cond, not, _||_, true≢false}
 use mathlib.Core.Option.{Option, none, some}
@@ -20,24 +20,26 @@ use Rattle.spec_calls.specs.declared.Refusal.{Refusal}
 use Rattle.spec_calls.specs.declared.Refusal.the-variants.{RingSize, ShortTable, NotInForm, OutsideRing, Repeated, BookFull, Impossible as Not-possible}
 use Rattle.spec_calls.specs.declared.Answer.{Answer}
 use Rattle.spec_calls.specs.declared.Answer.the-variants.{Done, Refused}
-use Rattle.spec_calls.specs.Tables.{Nodes, lent-nodes, Book}
-use Rattle.spec_calls.specs.Book.{book-in-form?}
-use Rattle.spec_calls.specs.NodeTable.{held-tree}
+use Rattle.spec_calls.specs.Tables.{Nodes, lent-nodes, leaves, Book, lent-book, over}
+use Rattle.spec_calls.specs.Book.{book-in-form?, booked}
+use Rattle.spec_calls.specs.NodeTable.{table-of, held-tree}
 use Rattle.spec_calls.specs.Refusals.{Reply, reply, reported, report, refuse, first-refusal, bad-size, short, short-nodes, bad-leaf, bad-list}
-use Rattle.spec_calls.specs.Calls.{is-none, joined-tree, join-refusal, joined, join-call, trial-call}
-use Rattle.spec_calls.specs.Demands.{ImpossibleIff}
-use Rattle.spec_calls.specs.Promises.{TrialPromise}
+use Rattle.spec_calls.specs.Calls.{ring, is-none, joined-tree, join-refusal, joined, join-call, trial-call}
+use Rattle.spec_calls.specs.Demands.{Joins, ImpossibleIff}
+use Rattle.spec_calls.specs.Promises.{JoinPromise, TrialPromise}
 use Rattle.spec_calls.proofs.Demands.{size-fine, nodes-whole, join-meets}
 use Rattle.spec_calls.proofs.NodeTables.{tree-in-holds}
+use Rattle.spec_calls.proofs.Reports.{refused-number}
 use Rattle.call_checks.specs.Lent.{book-checks}
 use Rattle.call_checks.proofs.Laws.{book-lent}
+use Rattle.table_book.proofs.Laws.{few-groups}
 use Rattle.table_book.proofs.Lists.{group-held}
 use Rattle.table_sweep.specs.declared.Verdict.{Verdict}
 use Rattle.table_sweep.specs.declared.Verdict.the-variants.{NoTree, Impossible, Possible}
 use Rattle.table_sweep.specs.Kept.{Started, Swept, Told}
 use Rattle.tree_update.proofs.Agree.{join-outside, join-inside}
 use Rattle.tree_update.proofs.Updates.{form-within}
-use Rattle.call_trial.specs.Trials.{refusal-with, BookPasses, Waits, sooner, later, counts, GroupWords, Side, Ready, AfterSweep, settled}
+use Rattle.call_trial.specs.Trials.{refusal-with, BookPasses, Waits, sooner, later, counts, GroupWords, Side, Ready, AfterSweep, TrialSays, Joinable, settled}
 
 some-none : {A : Type 0} {x : A} → _≡_ {A = Option A} none (some x) → ⊥
 some-none e = let z : _≡_ {A = ℕ} 0 1 = cc in omega arith
@@ -97,6 +99,24 @@ module _ (n : ℕ) (too-short : Bool) (book : Book) (list : List ℕ) where
 
       by-tree : book .count ≢ 96 → (t : Forest) → refusal-with n too-short book list (some t) ≡ first-refusal (refuse (is-none (join (group-of n list) t)) Not-possible ∷ [])
       by-tree q t = with-tree t ∙ rw (e, ne-eqb (book .count) 96 q)
+
+  -- Where no check refuses, the other checks pass.
+  passed : {Fact : Type 0} {x : Answer} (o : Option Forest) → refusal-with n too-short book list o ≡ none → Waits n too-short book list Fact x
+      → BookPasses n too-short book × (bad-list n list ≡ none) × (book .count ≢ 96) × Fact
+  passed o e (sooner a b) = absurd (some-none (sym e ∙ b o))
+  passed none e (later a w b) = absurd (some-none (sym e ∙ no-tree w))
+  passed (some t) e (later a w b) = absurd (some-none (sym e ∙ b t))
+  passed o e (counts q w f m y) = (w, f, m, y)
+
+  -- And there is a tree that the group can join.
+  can-join : (o : Option Forest) → refusal-with n too-short book list o ≡ none → BookPasses n too-short book → bad-list n list ≡ none → book .count ≢ 96
+      → (t : Forest) × (new : Forest) × (o ≡ some t) × (join (group-of n list) t ≡ some new)
+  can-join none e w f m = absurd (some-none (sym e ∙ no-tree w))
+  can-join (some t) e w f m = let r = go (join (group-of n list) t) refl (sym (by-tree w f m t) ∙ e) in (t, r .0, refl, r .1)
+    where
+      go : (p : Option Forest) → join (group-of n list) t ≡ p → first-refusal (refuse (is-none p) Not-possible ∷ []) ≡ none → (new : Forest) × (join (group-of n list) t ≡ some new)
+      go none q h = absurd (some-none (sym h))
+      go (some new) q h = (new, q)
 
 -- ---- the side of the group that leaf 1 is not in
 
@@ -172,7 +192,7 @@ module _ (nodes : Nodes) (book : Book) (list : List ℕ) where
       settles (h .side) v x (λ w. verdict (h .side) (nodes .rows) (w .some-leaf) (w .few-leaves) (nodes-whole nodes (w .long) .1) (h .swept)) (h .waits)
 
   -- The node table is too short.
-  pub refused-short : (too-short : Bool) (work : List ℕ) (other : Answer) → short-nodes nodes ≡ too-short → too-short ≡ true → Ready (nodes .bins) too-short book list work other
+  refused-short : (too-short : Bool) (work : List ℕ) (other : Answer) → short-nodes nodes ≡ too-short → too-short ≡ true → Ready (nodes .bins) too-short book list work other
       → TrialPromise nodes book list (report other)
   refused-short too-short work other e s h = go other (h .waits)
     where
@@ -189,3 +209,84 @@ swept-read {n} {book = book} {list = list} {other = other} e h s = record {
   waits = subst (λ b. Waits n b book list (Side n list (h .side)) other) (sym e) (h .waits);
   swept = s (h .side) (h .started);
 }
+
+-- ---- joining
+
+module _ (nodes : Nodes) (book : Book) (list : List ℕ) where
+  -- What joining's definition says meets the demand.
+  promised : (r : Reply) (rows′ : List ℕ) (book′ : Book) → ring r rows′ book′ ≡ join-call nodes book list → JoinPromise nodes book list rows′ book′ r
+  promised r rows′ book′ e = (
+    e,
+    λ t h b l w. subst (λ x. Joins (leaves nodes) (group-of (nodes .bins) list) t (x .answer) (x .rows)) (sym e) (join-meets nodes book list t h b l w),
+  )
+
+  -- A refusal of the trial is joining's.
+  pub join-refused : (r : Refusal) → TrialPromise nodes book list (reported r) → JoinPromise nodes book list (nodes .rows) book (reported r)
+  unfolding trial-call join-call joined
+  join-refused r h = promised (reported r) (nodes .rows) book (go (join-refusal nodes book list) (h .0))
+    where
+      go : (o : Option Refusal) → reported r ≡ joined o (joined-tree nodes list) nodes book list .answer → ring (reported r) (nodes .rows) book ≡ joined o (joined-tree nodes list) nodes book list
+      go none e = absurd (refused-number r (ap (λ (s : Reply). s .number) e))
+      go (some x) e = ap (λ s. ring s (nodes .rows) book) e
+
+  -- Where the trial answers with a count, no check refuses, and it is the next count.
+  no-refusal : {k : ℕ} → TrialPromise nodes book list (reply 0 k) → (join-refusal nodes book list ≡ none) × (k ≡ book .count + 1)
+  unfolding trial-call join-call joined
+  no-refusal {k} h = go (join-refusal nodes book list) refl (h .0)
+    where
+      go : (o : Option Refusal) → join-refusal nodes book list ≡ o → reply 0 k ≡ joined o (joined-tree nodes list) nodes book list .answer → (join-refusal nodes book list ≡ none) × (k ≡ book .count + 1)
+      go none q e = (q, ap (λ (s : Reply). s .value) e)
+      go (some x) q e = absurd (refused-number x (sym (ap (λ (s : Reply). s .number) e)))
+
+  -- Where the trial answers with a count, the group can join the tree that the table holds.
+  joinable : {marks : List ℕ} {S : Restriction} {k : ℕ} {waiting : Answer} → TrialPromise nodes book list (reply 0 k)
+      → Waits (nodes .bins) (short-nodes nodes) book list (GroupWords (nodes .bins) list marks) waiting → Waits (nodes .bins) (short-nodes nodes) book list (Side (nodes .bins) list S) waiting
+      → Joinable nodes book list marks S k
+  joinable h a b =
+      let r = no-refusal h in
+      let e = sym (refusal-is nodes book list) ∙ r .0 in
+      let p = passed (nodes .bins) (short-nodes nodes) book list (held-tree nodes) e a in
+      let w = p .0 in
+      let j = can-join (nodes .bins) (short-nodes nodes) book list (held-tree nodes) e w (p .1) (p .2) in
+      record {
+        tree = j .0;
+        held = j .2;
+        new = j .1;
+        joined = j .3;
+        is = sym (passed (nodes .bins) (short-nodes nodes) book list (held-tree nodes) e b .3 (j .0) (tree-in-holds (nodes .bins) (nodes .rows) (j .0) (w .few-leaves) .0 (j .2) .in-form)) ∙ j .3;
+        some-leaf = w .some-leaf;
+        few-leaves = w .few-leaves;
+        groups = w .groups;
+        place = omega (arith, few-groups (nodes .bins) book (w .groups .in-form), p .2);
+        words = p .3;
+        passes = r .0;
+        count-is = r .1;
+      }
+
+  -- The new tree over the table, and the group in the book's next place.
+  pub join-stored : {marks : List ℕ} {S : Restriction} {k : ℕ} (j : Joinable nodes book list marks S k) (rows′ words′ : List ℕ) → rows′ ≡ over (table-of (j .new)) (nodes .rows)
+      → words′ ≡ booked (book .words) (book .count) (group-of (nodes .bins) list) → JoinPromise nodes book list rows′ (lent-book words′ (book .count)) (reply 0 k)
+  unfolding join-call joined joined-tree
+  join-stored {k = k} j rows′ words′ p q =
+      promised (reply 0 k) rows′ (lent-book words′ (book .count))
+      (ap₂ (λ r w. ring (reply 0 k) r (lent-book w (book .count))) p q
+      ∙ ap (λ c. ring (reply 0 c) (over (table-of (j .new)) (nodes .rows)) (lent-book (booked (book .words) (book .count) (group-of (nodes .bins) list)) (book .count))) (j .count-is)
+      ∙ ap₂ (λ o t. joined o t nodes book list) (sym (j .passes)) (sym (ap (λ o. then o (join (group-of (nodes .bins) list))) (j .held) ∙ j .joined)))
+
+  -- What a trial says: of a table that is too short, and of one that was swept.
+  pub says-short : (marks work : List ℕ) {too-short : Bool} {r : Answer} → short-nodes nodes ≡ too-short → too-short ≡ true → Ready (nodes .bins) too-short book list work r
+      → TrialSays nodes book list marks work r
+  says-short marks work {too-short} {r} e s h = record {
+    promise = refused-short nodes book list too-short work r e s h;
+    joins = λ k q. go (subst (Waits (nodes .bins) too-short book list (Side (nodes .bins) list (h .side))) q (h .waits));
+  }
+    where
+      go : {k : ℕ} {A : Type 0} → Waits (nodes .bins) too-short book list (Side (nodes .bins) list (h .side)) (Done k) → A
+      go (counts q w f m y) = absurd (true≢false (sym s ∙ w .long))
+
+  pub says-swept : (marks work : List ℕ) {too-short : Bool} {waiting r : Answer} → short-nodes nodes ≡ too-short → TrialPromise nodes book list (report r)
+      → Waits (nodes .bins) too-short book list (GroupWords (nodes .bins) list marks) waiting → AfterSweep nodes book list work waiting → TrialSays nodes book list marks work r
+  says-swept marks work {waiting = waiting} e p w h = record {
+    promise = p;
+    joins = λ k q. (h .side, joinable (subst (λ x. TrialPromise nodes book list (report x)) q p) (subst (λ b. Waits (nodes .bins) b book list (GroupWords (nodes .bins) list marks) waiting) (sym e) w) (h .waits), h .swept);
+  }

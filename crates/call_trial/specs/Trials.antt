@@ -1,4 +1,4 @@
--- The trial's refusal, split: what the other checks say, and what the node table adds.
+-- The trial's refusal, split: what the other checks say, and what the node table adds; and what a trial says to joining.
 use mathlib.Core.Path.{_≡_}
 use mathlib.Core.Logic.{_≢_}
 use mathlib.Core.Bool.{Bool, false, cond, not, _||_}
@@ -18,9 +18,11 @@ use Rattle.spec_calls.specs.declared.Answer.{Answer}
 use Rattle.spec_calls.specs.declared.Answer.the-variants.{Done, Refused}
 use Rattle.spec_calls.specs.Tables.{Nodes, Book}
 use Rattle.spec_calls.specs.Book.{book-in-form?}
-use Rattle.spec_calls.specs.Refusals.{reported, refuse, first-refusal, bad-size, short, short-nodes, bad-list}
-use Rattle.spec_calls.specs.Calls.{is-none}
+use Rattle.spec_calls.specs.NodeTable.{held-tree}
+use Rattle.spec_calls.specs.Refusals.{reported, report, refuse, first-refusal, bad-size, short, short-nodes, bad-list}
+use Rattle.spec_calls.specs.Calls.{is-none, join-refusal}
 use Rattle.spec_calls.specs.Demands.{LentBook}
+use Rattle.spec_calls.specs.Promises.{TrialPromise}
 use Rattle.table_sweep.specs.declared.Verdict.{Verdict}
 use Rattle.table_sweep.specs.declared.Verdict.the-variants.{NoTree, Impossible, Possible}
 use Rattle.table_sweep.specs.Kept.{Started, Swept}
@@ -51,7 +53,7 @@ pub data Waits (n : ℕ) (too-short : Bool) (book : Book) (list : List ℕ) (Fac
 abbrev pub GroupWords : ℕ → List ℕ → List ℕ → Type 0
 GroupWords n list words = words ≡ words-of 4 (group-of n list)
 
--- A restriction that a tree can be reduced by just when the group can join it.
+-- A restriction by which a tree is reduced to what the group's joining gives.
 abbrev pub Side : ℕ → List ℕ → Restriction → Type 0
 Side n list S = (t : Forest) → InForm n t → join (group-of n list) t ≡ reduce S t
 
@@ -66,6 +68,27 @@ pub record AfterSweep (nodes : Nodes) (book : Book) (list work : List ℕ) (wait
   pub side : Restriction
   pub waits : Waits (nodes .bins) (short-nodes nodes) book list (Side (nodes .bins) list side) waiting
   pub swept : Swept (nodes .bins) side (nodes .rows) 0 work
+
+-- What is known where the trial answers with the count k: the tree that the table holds, and the one with the group, which is the tree reduced by S;
+-- every check passes, and the book has a place left for the group, whose four words are `marks`.
+pub record Joinable (nodes : Nodes) (book : Book) (list marks : List ℕ) (S : Restriction) (k : ℕ) : Type 0 where
+  pub tree : Forest
+  pub held : held-tree nodes ≡ some tree
+  pub new : Forest
+  pub joined : join (group-of (nodes .bins) list) tree ≡ some new
+  pub is : reduce S tree ≡ some new
+  pub some-leaf : 1 ≤ nodes .bins
+  pub few-leaves : nodes .bins ≤ 256
+  pub groups : LentBook (nodes .bins) book
+  pub place : book .count < 96
+  pub words : GroupWords (nodes .bins) list marks
+  pub passes : join-refusal nodes book list ≡ none
+  pub count-is : k ≡ book .count + 1
+
+-- What a trial says: its promise; and where it answers with a count, the group can join the tree of the table, which was swept with the side S.
+pub record TrialSays (nodes : Nodes) (book : Book) (list marks work : List ℕ) (r : Answer) : Type 0 where
+  pub promise : TrialPromise nodes book list (report r)
+  pub joins : (k : ℕ) → r ≡ Done k → (S : Restriction) × Joinable nodes book list marks S k × Swept (nodes .bins) S (nodes .rows) 0 work
 
 -- The first of two answers, down the table of refusals: what the node table says, and what waits for it.
 abbrev pub settled : Verdict → Answer → Answer

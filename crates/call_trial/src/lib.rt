@@ -1,5 +1,5 @@
-// The trial in two steps, for a node table of rows and for one of records: the checks that need no node table, and the answer when the table
-// was swept. Between them the table is read once, and nothing of it is written anywhere.
+// The trial in two steps, for a node table of rows and for one of records, with which joining begins too: the checks that need no node table, and
+// the answer when the table was swept. Between them the table is read once, and none of its records is written anywhere.
 ghost use mathlib.Core.Path.{_≡_};
 ghost use mathlib.Core.Option.{none};
 ghost use mathlib.Core.List.{List};
@@ -15,8 +15,8 @@ use spec_calls::Refusal;
 use table_book::Checked;
 use table_sweep::Verdict;
 
-// Checks 1, 2, 3 on the book, 5, 6 and 7; `short` says that the node table is too short. Answers the new count of groups, or refuses. Writes the
-// group's four words to marks.
+// Checks 1, 2, 3 on the book, 5, 6 and 7; `short` says that the node table is too short. Answers the new count of groups, or refuses. Where it does
+// not refuse, marks has the group's four words.
 fn check_group(
     n: usize,
     short: bool,
@@ -51,8 +51,29 @@ fn take_side(marks: &mut [u64], n: usize)
     }
 }
 
-// What the trial answers if the node table holds a tree that the group can join; `short` says that the table is too short. Makes work ready for the
-// sweep of the table, with the side of the group that leaf 1 is not in.
+// What the trial answers if the node table holds a tree that the group can join; `short` says that the table is too short. Where it does not refuse,
+// marks has the group's four words. Makes work ready for the sweep of the table, with the side of the group that leaf 1 is not in.
+pub fn prepare(
+    n: usize,
+    short: bool,
+    book: &[u64],
+    count: usize,
+    list: &[u16],
+    marks: &mut [u64],
+    work: &mut [u64],
+) -> Answer
+    requires { ⌜ (length (now marks) ≡ 4) × (length (now work) ≡ 265) ⌝ }
+    ensures { λ r. ⌜ (Waits n short (lent-book (now (book .entry)) count) (now (list .entry)) (GroupWords n (now (list .entry)) (now (marks .exit))) r)
+        × (Ready n short (lent-book (now (book .entry)) count) (now (list .entry)) (now (work .exit)) r) ⌝ }
+{
+    let answer = check_group(n, short, book, count, list, marks);
+    let mut side = [marks[0], marks[1], marks[2], marks[3]];
+    take_side(&mut side, n);
+    table_sweep::begin(&side, work);
+    answer
+}
+
+// The same with four words of its own, for a caller that does not need the group's.
 pub fn ready(
     n: usize,
     short: bool,
@@ -65,10 +86,7 @@ pub fn ready(
     ensures { λ r. ⌜ Ready n short (lent-book (now (book .entry)) count) (now (list .entry)) (now (work .exit)) r ⌝ }
 {
     let mut marks = [0u64; 4];
-    let answer = check_group(n, short, book, count, list, &mut marks);
-    take_side(&mut marks, n);
-    table_sweep::begin(&marks, work);
-    answer
+    prepare(n, short, book, count, list, &mut marks, work)
 }
 
 // The first of two answers, down the table of refusals: what the node table says, 3 or 8, and what waits for it.

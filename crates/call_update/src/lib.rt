@@ -1,10 +1,11 @@
 // The calls of document 01 that make and change a ring's lent tables: opening it, joining a group, trying one. A node table is lent as rows of 257
 // numbers, with the number of records that they are.
+ghost use mathlib.Core.Path.{_≡_};
+ghost use lib.ListN.{length};
 ghost use Rattle.spec_calls.specs.Tables.{lent-nodes, lent-book};
 ghost use Rattle.spec_calls.specs.Refusals.{report};
 ghost use Rattle.spec_calls.specs.Promises.{OpenPromise, JoinPromise, TrialPromise};
-use call_attempt::Tried;
-use call_checks::Lent;
+ghost use Rattle.call_trial.specs.Trials.{TrialSays};
 use spec_calls::Answer;
 use table_book::Checked;
 
@@ -22,6 +23,30 @@ pub fn open(n: usize, nodes: &mut [u16], have: usize, book: &mut [u64]) -> Answe
     Answer::Done(0)
 }
 
+// Answers as joining the list's group would. Where it does not refuse, marks has the group's four words, and work what the sweep of the node table
+// keeps.
+fn tried(
+    n: usize,
+    nodes: &[u16],
+    have: usize,
+    book: &[u64],
+    count: usize,
+    list: &[u16],
+    marks: &mut [u64],
+    work: &mut [u64],
+) -> Answer
+    requires { ⌜ (length (now marks) ≡ 4) × (length (now work) ≡ 265) ⌝ }
+    ensures { λ r. ⌜ TrialSays (lent-nodes n have (now (nodes .entry))) (lent-book (now (book .entry)) count) (now (list .entry)) (now (marks .exit)) (now (work .exit)) r ⌝ }
+{
+    let short = call_checks::short(nodes, have);
+    let waiting = call_trial::prepare(n, short, book, count, list, marks, work);
+    if short {
+        return waiting;
+    }
+    table_sweep::sweep(nodes, n, work);
+    call_trial::conclude(n, work, waiting)
+}
+
 // Joins the list's group: the node table gets the new tree, and the group takes the book's next place. Answers the new count of groups; or
 // refuses (1 to 3, 5 to 8), and leaves both tables as they were.
 pub fn join(
@@ -34,20 +59,15 @@ pub fn join(
 ) -> Answer
     ensures { λ r. ⌜ JoinPromise (lent-nodes n have (now (nodes .entry))) (lent-book (now (book .entry)) count) (now (list .entry)) (now (nodes .exit)) (lent-book (now (book .exit)) count) (report r) ⌝ }
 {
-    let mut toks = [0u16; 512];
-    let k = match call_checks::lent_ring(n, nodes, have, book, count, &mut toks) {
-        Lent::Refused(refusal) => return Answer::Refused(refusal),
-        Lent::Tree(k) => k,
-    };
     let mut marks = [0u64; 4];
-    let mut out = [0u16; 512];
-    let m = match call_attempt::attempt(&toks[0..k], n, count, list, &mut marks, &mut out) {
-        Tried::Refused(refusal) => return Answer::Refused(refusal),
-        Tried::Joined(m) => m,
+    let mut work = [0u64; 265];
+    let answer = tried(n, nodes, have, book, count, list, &mut marks, &mut work);
+    let Answer::Done(next) = answer else {
+        return answer;
     };
-    table_store::replace(&toks[0..k], &out[0..m], nodes);
+    table_update::update(n, nodes, &work);
     table_book::put(book, count, &marks);
-    Answer::Done(count + 1)
+    Answer::Done(next)
 }
 
 // Answers as joining the list's group would, and changes nothing.
@@ -61,12 +81,7 @@ pub fn trial(
 ) -> Answer
     ensures { λ r. ⌜ TrialPromise (lent-nodes n have (now (nodes .entry))) (lent-book (now (book .entry)) count) (now (list .entry)) (report r) ⌝ }
 {
+    let mut marks = [0u64; 4];
     let mut work = [0u64; 265];
-    let short = call_checks::short(nodes, have);
-    let waiting = call_trial::ready(n, short, book, count, list, &mut work);
-    if short {
-        return waiting;
-    }
-    table_sweep::sweep(nodes, n, &mut work);
-    call_trial::conclude(n, &work, waiting)
+    tried(n, nodes, have, book, count, list, &mut marks, &mut work)
 }

@@ -26,8 +26,8 @@ use Rattle.spec_calls.proofs.Books.{groups-booked}
 use Rattle.table_book.proofs.Lists.{group-held}
 use Rattle.tree_tokens.specs.Tokens.{Wrote, flat, TreeTokens}
 use Rattle.tree_tokens.proofs.Writes.{read-part, wrote-most}
-use Rattle.call_attempt.specs.Attempts.{group-refusal, JoinedTree}
-use Rattle.call_attempt.proofs.Laws.{list-passed}
+use Rattle.list_attempt.specs.Attempts.{group-refusal, JoinedTree}
+use Rattle.list_attempt.proofs.Laws.{list-passed}
 use Rattle.spec_listing.specs.Listing.{Outcome, kept, refused, full, RingState, opened, joined, outcome, next}
 use Rattle.list_ring.specs.Stands.{RingStands, Line}
 

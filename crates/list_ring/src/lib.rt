@@ -5,7 +5,7 @@ ghost use lib.ListN.{length};
 ghost use Rattle.file_read.specs.RingFile.{FileHolds};
 ghost use Rattle.spec_listing.specs.Listing.{RingState, opened, outcome, next};
 ghost use Rattle.list_ring.specs.Stands.{RingStands, Line, StandsAt, Tables};
-use call_attempt::Tried;
+use list_attempt::Tried;
 
 // The sizes of a ring in lent tables: how many tokens its tree has, and how many groups its book.
 pub struct Ring {
@@ -44,7 +44,7 @@ pub fn advance(
     let count = ring.count;
     let mut marks = [0u64; 4];
     let mut tree = [0u16; 512];
-    let tried = call_attempt::attempt(&toks[0..m], n, count, list, &mut marks, &mut tree);
+    let tried = list_attempt::attempt(&toks[0..m], n, count, list, &mut marks, &mut tree);
     let Tried::Joined(k) = tried else {
         return ring;
     };

@@ -120,10 +120,11 @@ shape-some (j-node s P i j) ne = omega arith
 shape-some (j-node s C i j) ne = omega arith
 
 -- A row has 257 numbers.
+pub row-size : (k : ℕ) (es : List ℕ) → length es ≤ 255 → length (row k es) ≡ 257
+row-size k es h = omega (arith, padded-length 255 es h)
+
 pub row-length : (k r : ℕ) (i : Judged) → length (items (tree i)) ≤ 255 → length (row k (entries r (tree i))) ≡ 257
-row-length k r i h =
-    let e = entries-length r (tree i) in
-    omega (arith, padded-length 255 (entries r (tree i)) (omega arith))
+row-length k r i h = row-size k (entries r (tree i)) (omega (arith, entries-length r (tree i)))
 
 -- The row of the first item, a node of shape s, and the rows after it.
 abbrev pub here-row : ℕ → ℕ → Judged → List ℕ

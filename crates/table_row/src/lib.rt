@@ -5,7 +5,7 @@ ghost use Prim.Native.Nat.{ℕ, _<_, _≤_};
 ghost use lib.ListN.{length, replicate};
 ghost use Rattle.spec_calls.specs.NodeTable.{entries};
 ghost use Rattle.tree_tokens.specs.Tokens.{Judged, tree, encode, Wrote};
-ghost use Rattle.table_row.specs.Rows.{records-from, row, Placed, Blank};
+ghost use Rattle.table_row.specs.Rows.{records-from, row, Placed, RowThere};
 
 // Writes for each token the record of the first node from it on, that is how many nodes stand before it; says how many numbers.
 pub fn write_records(toks: &[u16], out: &mut [u16]) -> usize
@@ -58,14 +58,17 @@ pub fn zeros(k: usize, out: &mut [u16]) -> usize
     i
 }
 
-// Writes the row of a node over zeros, 257 numbers: `kind` is the number of its kind, `inner` are its items, and `records` the numbers that
-// write_records wrote for their tokens.
+// Writes the row of a node over the row that stands there, and says how many numbers, 257: `kind` is the number of its kind, `inner` are its items,
+// and `records` the numbers that write_records wrote for their tokens.
 pub fn write_row(kind: u16, inner: &[u16], records: &[u16], out: &mut [u16]) -> usize
-    requires { ⌜ (Placed (now inner) (now records) 255) × (Blank 257 (now out)) ⌝ }
+    requires { ⌜ (Placed (now inner) (now records) 255) × (RowThere (now out)) ⌝ }
     ensures { λ k. ⌜ ((r : ℕ) (i : Judged) → now (records .entry) ≡ records-from r (now (inner .entry)) → now (inner .entry) ≡ encode i
         → Wrote (row kind (entries r (tree i))) (now (out .entry)) (now (out .exit)) k) ⌝ }
 {
+    let old = out[1] as usize;
     let m = write_entries(inner, records, &mut out[2..]);
+    let left = if m < old { old - m } else { 0 };
+    let _ = zeros(left, &mut out[2 + m..]);
     out[0] = kind;
     out[1] = m as u16;
     257

@@ -1,4 +1,5 @@
 -- What the proofs of several functions use.
 pub mod Rowing
 pub mod Forms
+pub mod Standing
 pub mod Erasing

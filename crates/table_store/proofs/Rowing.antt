@@ -1,10 +1,9 @@
 -- Writing the rows of the nodes, one after the other.
 use mathlib.Core.Path.{_≡_, sym, ap, subst, _∙_}
 use mathlib.Core.List.{List, _++_}
-use Prim.Native.Nat.{ℕ, _+_, _-_, _≤_, _<_}
+use Prim.Native.Nat.{ℕ, _+_, _-_, _*_, _≤_, _<_}
 use native.Mathlib.Omega.{arith}
-use lib.ListN.{length, take, drop}
-use lib.Seq.{drop-append-seam}
+use lib.ListN.{length, take, drop, length-drop}
 use borrow.Rule.Slice.PartMut.{putMid}
 use Rattle.spec_orders.proofs.ListLaws.{part-to-end}
 use Rattle.spec_calls.specs.NodeTable.{rows}
@@ -13,10 +12,11 @@ use Rattle.tree_tokens.specs.Tokens.{Judged, tree, encode, Wrote}
 use Rattle.tree_tokens.specs.Views.{shape-of, items-of}
 use Rattle.tree_tokens.proofs.Steps.{Here, opened}
 use Rattle.tree_tokens.proofs.Writes.{Written, written-start, written-same, written-then, written-length}
-use Rattle.table_row.specs.Rows.{Placed, Rowed, Blank}
-use Rattle.table_row.proofs.Writing.{blank-first, blank-from}
+use Rattle.table_row.specs.Rows.{Placed, Rowed, RowThere, RowsThere}
+use Rattle.table_row.proofs.Writing.{wrote-after, there-long}
 use Rattle.table_row.proofs.Rows.{rows-leaf, here-row, rows-first, nodes-node, nodes-items, narrow-open, narrow-items}
 use Rattle.table_row.proofs.Records.{before, before-leaf, before-node, before-here, records-length, records-items}
+use Rattle.table_store.proofs.Standing.{first-there, left-there}
 
 -- Of the rows of j, whose tokens are l, k numbers were written; those of h, at index i, are left.
 pub record Rowing (l : List ℕ) (i : ℕ) (old new : List ℕ) (k : ℕ) (j h : Judged) : Type 0 where
@@ -49,37 +49,42 @@ rowing-node {l} {i} {h = h} s p n e x w g =
     }
 
 -- There is a record beside each token.
-pub rowed-long : {toks records : List ℕ} {room : ℕ} → Rowed toks records room → length records ≡ length toks
+pub rowed-long : {toks records : List ℕ} → Rowed toks records → length records ≡ length toks
 rowed-long {toks} p = ap length (p .beside) ∙ records-length 0 toks
 
--- A node is next: there is room for its row, and its items have their places.
-pub next-room : {toks records : List ℕ} {room i k : ℕ} {old new : List ℕ} {h : Judged} (p : Rowed toks records room) → Here toks i h
-    → (shape-of h ≡ 1 → ⊥) → Rowing toks i old new k (p .seq) h → k + 257 ≤ room
-next-room {toks} {i = i} {h = h} p q s g =
-    omega (
-      arith,
-      p .few,
-      written-length (g .written),
-      rows-length 0 (tree (p .seq)) (p .narrow),
-      rows-length (before toks i) (tree h) (g .narrow (p .narrow)),
-      nodes-node h (q .some) s,
-    )
+-- A node is next: a row stands there, and its items have their places.
+module _ {toks records : List ℕ} {i k : ℕ} {old new : List ℕ} {h : Judged} (p : Rowed toks records) (q : Here toks i h) (s : shape-of h ≡ 1 → ⊥)
+    (g : Rowing toks i old new k (p .seq) h) where
+  next-at : (k ≡ 257 * before toks i) × (before toks i < 256)
+  next-at =
+      omega (
+        arith,
+        p .last,
+        written-length (g .written),
+        rows-length 0 (tree (p .seq)) (p .narrow),
+        rows-length (before toks i) (tree h) (g .narrow (p .narrow)),
+        before-here (p .seq) (p .is) q,
+        nodes-node h (q .some) s,
+      )
 
-pub next-items : {toks records inner : List ℕ} {room i k : ℕ} {old new : List ℕ} {h : Judged} (p : Rowed toks records room) → Here toks i h
-    → i < length toks → (shape-of h ≡ 1 → ⊥) → Rowing toks i old new k (p .seq) h → inner ≡ encode (items-of h)
-    → Placed inner (take (i + 1 + length inner - (i + 1)) (drop (i + 1) records)) 255
-next-items {toks} {i = i} {h = h} p q n s g e = record {
-  seq = items-of h;
-  is = e;
-  start = before toks i + 1;
-  beside = records-items (p .beside) q n s e;
-  last = omega (arith, p .last, before-here (p .seq) (p .is) q, nodes-node h (q .some) s, nodes-items h);
-  few = narrow-items h (g .narrow (p .narrow));
-}
+  next-row : RowsThere 256 old → RowThere (drop k old)
+  next-row t =
+      subst (λ (x : ℕ). RowThere (drop x old)) (sym (next-at .0))
+      (first-there {c = 256 - before toks i} (omega (arith, next-at)) (left-there (before toks i) (omega (arith, next-at)) t))
 
-pub next-blank : {l : List ℕ} {room i k : ℕ} {old new : List ℕ} {j h : Judged} → k + 257 ≤ room → Blank room old → Rowing l i old new k j h
-    → Blank 257 (take (length new - k) (drop k new))
-next-blank {room = room} {k = k} {old} {new} n b g =
-    let w = g .written .wrote in
-    let same : drop k new ≡ drop k old = rw (w .text, w .many) (drop-append-seam (g .written .done) _) in
-    subst (Blank 257) (sym (part-to-end new k ∙ same)) (blank-first {room = room - k} (omega arith) (blank-from {k = k} (omega arith) b))
+  pub next-room : RowsThere 256 old → k + 257 ≤ length old
+  next-room t = omega (arith, there-long (next-row t), length-drop k old)
+
+  pub next-over : RowsThere 256 old → RowThere (take (length new - k) (drop k new))
+  next-over t = subst RowThere (sym (part-to-end new k ∙ wrote-after (g .written .wrote))) (next-row t)
+
+  pub next-items : {inner : List ℕ} → i < length toks → inner ≡ encode (items-of h)
+      → Placed inner (take (i + 1 + length inner - (i + 1)) (drop (i + 1) records)) 255
+  next-items n e = record {
+    seq = items-of h;
+    is = e;
+    start = before toks i + 1;
+    beside = records-items (p .beside) q n s e;
+    last = omega (arith, p .last, before-here (p .seq) (p .is) q, nodes-node h (q .some) s, nodes-items h);
+    few = narrow-items h (g .narrow (p .narrow));
+  }

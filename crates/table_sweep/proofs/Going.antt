@@ -16,8 +16,9 @@ use Rattle.tree_judge.specs.Automaton.{Run, start, step, code}
 use Rattle.table_sweep.specs.declared.Found.{Found}
 use Rattle.table_sweep.specs.declared.Found.the-variants as found
 use Rattle.table_reading.specs.Reading.{Within, least, head, known, at-record, after-leaf, after-root, ItemsRead, read-none, read-leaf, read-root}
-use Rattle.table_sweep.specs.Kept.{Roots, Inside, Small, LeafSays, RootSays, EntrySays, RowIs}
+use Rattle.table_sweep.specs.Kept.{Labels, Roots, Inside, SameRecords, Small, LeafSays, RootSays, EntrySays, RowIs}
 use Rattle.table_reading.proofs.Same.{kind-first}
+use Rattle.table_sweep.proofs.Keeping.{roots-labels, labels-leaf, labels-root, labels-none, labels-on}
 
 -- An entry, from what a leaf and a root say.
 pub leaf-entry : (n : ℕ) (S : Restriction) (x : ℕ) (g : Forest) (ls : List ℕ) (v : ℕ) (work : List ℕ) (r : Found) → v ≤ 256 → LeafSays n S x g ls v work r → EntrySays n S x g ls v work r
@@ -38,7 +39,7 @@ root-taken S {new} {x} {y} {i = i} {f} t e =
         long = t .kept .long;
         side = t .kept .side;
         seen = t .kept .seen;
-        roots = subst (λ (p : ℕ). Roots S new p f) q (t .kept .roots .2);
+        roots = subst (λ (p : ℕ). Roots S new p f) q (t .kept .roots .3);
         low = omega (arith, t .kept .low);
       };
       used = omega (arith, t .used);
@@ -66,7 +67,8 @@ module _ (n : ℕ) (S : Restriction) (k : Kind) where
     pub its-next : x ≡ here .next
     pub its-run : q ≡ code (here .run)
     pub inside : Inside S work (here .next) (here .roots) (here .leaves)
-    pub on : (i : Forest) (z : Within) → ItemsRead n S k (drop j places) here i z → (u : Forest) × ItemsRead n S k places (at-record n S k r (known n S g ls)) u z
+    pub on : (i : Forest) (z : Within) → ItemsRead n S k (drop j places) here i z
+        → (u : Forest) × ItemsRead n S k places (at-record n S k r (known n S g ls)) u z × (Labels S work (here .next) i → Labels S work (suc r) u)
     pub off : (i : Forest) (z : Within) → ItemsRead n S k places (at-record n S k r (known n S g ls)) i z → (u : Forest) × ItemsRead n S k (drop j places) here u z
 
   pub going-start : (r : ℕ) (g : Forest) (ls places work : List ℕ) (q : ℕ) → q ≡ code (start k) → Inside S work (suc r) g ls → Going r g ls places 0 work 0 0 (r + 1) q
@@ -77,7 +79,7 @@ module _ (n : ℕ) (S : Restriction) (k : Kind) where
     its-next = add-one r;
     its-run = e;
     inside = h;
-    on = λ i z x. (i, x);
+    on = λ i z x. (i, x, λ l. l);
     off = λ i z x. (i, x);
   }
 
@@ -86,7 +88,7 @@ module _ (n : ℕ) (S : Restriction) (k : Kind) where
     going-end l =
         let none = drop-of-length-le places {i = j} l in
         let t = h .on nil (h .here) (subst (λ (vs : List ℕ). ItemsRead n S k vs (h .here) nil (h .here)) (sym none) read-none) in
-        record { items = t .0; end = h .here; reads = t .1; its-first = h .its-first; its-last = h .its-last; its-next = h .its-next; its-run = h .its-run; inside = h .inside }
+        record { items = t .0; end = h .here; reads = t .1; its-first = h .its-first; its-last = h .its-last; its-next = h .its-next; its-run = h .its-run; labels = t .2 (labels-none S work (h .here .next)); inside = h .inside }
 
     module _ (l : j < length places) where
       abbrev v : ℕ
@@ -124,8 +126,8 @@ module _ (n : ℕ) (S : Restriction) (k : Kind) where
                 omega (arith, o .its-first, ap first (w .1), same-least)
 
         -- It is read.
-        pub going-more : {y q′ : ℕ} → y ≡ least k d → y < b → ((p : Run) (z : State) → q ≡ code p → s ≡ number z → q′ ≡ code (step p z)) → Going r g ls places (j + 1) new (head c b) b (x + m) q′
-        going-more {y} {q′} e high run = go said
+        pub going-more : {y q′ : ℕ} → SameRecords work new → y ≡ least k d → y < b → ((p : Run) (z : State) → q ≡ code p → s ≡ number z → q′ ≡ code (step p z)) → Going r g ls places (j + 1) new (head c b) b (x + m) q′
+        going-more {y} {q′} same e high run = go said
           where
             above : least k (h .here .last) < b
             above = omega (arith, e, ap (least k) (h .its-last))
@@ -141,7 +143,9 @@ module _ (n : ℕ) (S : Restriction) (k : Kind) where
                   its-next = omega (arith, h .its-next, is-m);
                   its-run = run (a .run) (leaf-state (S v)) (h .its-run) is-s;
                   inside = subst (λ (t : ℕ). Inside S new t (a .roots) (v ∷ a .leaves)) (h .its-next) kept;
-                  on = λ i z t. h .on (leaf v i) z (subst (λ (vs : List ℕ). ItemsRead n S k vs a (leaf v i) z) (sym rest) (read-leaf small w up t));
+                  on = λ i z t.
+                      let u = h .on (leaf v i) z (subst (λ (vs : List ℕ). ItemsRead n S k vs a (leaf v i) z) (sym rest) (read-leaf small w up t)) in
+                      (u .0, u .1, λ l. labels-on S work new (a .next) (suc r) (leaf v i) (u .0) same (u .2) (labels-leaf S new (a .next) v i l));
                   off = λ i z t. let u = h .off i z t in leaf-tail small (subst (λ (vs : List ℕ). ItemsRead n S k vs a (u .0) z) rest (u .1));
                 }
             go (inr (large, place, o, kept)) =
@@ -149,6 +153,8 @@ module _ (n : ℕ) (S : Restriction) (k : Kind) where
                 let up : least k (a .last) < first (o .items) = omega (arith, above, o .its-first) in
                 let at : v ≡ 256 + a .next = place ∙ ap (λ (t : ℕ). 256 + t) (h .its-next) in
                 let next-is : x + m ≡ a .next + suc (nodes (o .items)) = omega (arith, h .its-next, o .its-records) in
+                let here : Inside S new (a .next) (a .roots) (a .leaves) = subst (λ (y : ℕ). Inside S new y (a .roots) (a .leaves)) (h .its-next) kept in
+                let its : Labels S new (a .next) (node (o .kind) (o .items) (o .rest)) = subst (Labels S new (a .next)) (o .is) (roots-labels S new (a .next) (a .roots) (here .kept .roots) (here .kept .low)) in
                 record {
                   here = after-root n S a (o .kind) (o .items) (o .rest);
                   its-first = ap (λ (t : ℕ). head t b) (h .its-first) ∙ ap (head (a .first)) (o .its-first);
@@ -156,7 +162,9 @@ module _ (n : ℕ) (S : Restriction) (k : Kind) where
                   its-next = next-is;
                   its-run = run (a .run) (node-state (o .kind) (states (judge S (o .items)))) (h .its-run) (o .its-state);
                   inside = root-taken S (subst (λ (f : Forest). Inside S new x f (a .leaves)) (o .is) kept) (h .its-next);
-                  on = λ i z t. h .on (node (o .kind) (o .items) i) z (subst (λ (vs : List ℕ). ItemsRead n S k vs a (node (o .kind) (o .items) i) z) (sym rest) (read-root large at (o .is) up t));
+                  on = λ i z t.
+                      let u = h .on (node (o .kind) (o .items) i) z (subst (λ (vs : List ℕ). ItemsRead n S k vs a (node (o .kind) (o .items) i) z) (sym rest) (read-root large at (o .is) up t)) in
+                      (u .0, u .1, λ l. labels-on S work new (a .next) (suc r) (node (o .kind) (o .items) i) (u .0) same (u .2) (labels-root S new (a .next) (o .kind) (o .items) (o .rest) i its refl l));
                   off = λ i z t. let u = h .off i z t in root-tail (o .kind) (o .items) (o .rest) large (o .is) (subst (λ (vs : List ℕ). ItemsRead n S k vs a (u .0) z) rest (u .1));
                 }
 

@@ -21,10 +21,10 @@ use Rattle.tree_judge.proofs.Automaton.{judges}
 use Rattle.table_sweep.specs.declared.Row.{Row}
 use Rattle.table_sweep.specs.declared.Row.the-variants as row
 use Rattle.table_reading.specs.Reading.{Within, known, at-record, ItemsRead}
-use Rattle.table_sweep.specs.Kept.{packed, Roots, Inside, RowIs, RowSays, RowSmall, NodeIs}
+use Rattle.table_sweep.specs.Kept.{packed, Labels, Roots, Inside, RowIs, RowSays, RowSmall, NodeIs}
 use Rattle.table_reading.proofs.Reading.{reads-next, reads-first, reads-run}
 use Rattle.table_reading.proofs.Same.{reads-same}
-use Rattle.table_sweep.proofs.Keeping.{roots-same}
+use Rattle.table_sweep.proofs.Keeping.{labels-same, roots-same}
 
 pub kind-range : (k : Kind) → (1 ≤ kind-number k) × (kind-number k ≤ 2)
 kind-range P = (omega arith, omega arith)
@@ -74,9 +74,10 @@ module _ (n : ℕ) (S : Restriction) (k : Kind) (r : ℕ) (g : Forest) (ls place
 
 -- The new root is kept.
 node-inside : (S : Restriction) {new : List ℕ} {x : ℕ} {f : Forest} {ls : List ℕ} (k : Kind) (i : Forest) (r v : ℕ) → Inside S new x f ls → x ≡ suc r + nodes i
-    → v ≡ packed (first i) (suc (nodes i)) (number (node-state k (states (judge S i)))) → first i ≤ 511 → r < 256 → Inside S (set new (8 + r) v) r (node k i f) ls
+    → v ≡ packed (first i) (suc (nodes i)) (number (node-state k (states (judge S i)))) → first i ≤ 511 → Labels S new (suc r) i → r < 256
+    → Inside S (set new (8 + r) v) r (node k i f) ls
 unfolding Roots
-node-inside S {new} {x} {f} k i r v h e q m l =
+node-inside S {new} {x} {f} k i r v h e q m n l =
     let long = h .kept .long in
     let at : 8 + r ≡ 4 + (4 + r) = omega arith in
     record {
@@ -87,7 +88,8 @@ node-inside S {new} {x} {f} k i r v h e q m l =
         roots = (
           getD-set-same new (8 + r) v 0 (omega arith) ∙ q,
           m,
-          roots-same S new (set new (8 + r) v) (suc r + nodes i) f (λ j y z. getD-set-other new (8 + r) j v 0 (λ d. omega arith)) (subst (λ (y : ℕ). Roots S new y f) e (h .kept .roots)),
+          labels-same S new (set new (8 + r) v) (suc r) i (λ j y. getD-set-other new (8 + r) j v 0 (λ d. omega arith)) n,
+          roots-same S new (set new (8 + r) v) (suc r + nodes i) f (λ j y. getD-set-other new (8 + r) j v 0 (λ d. omega arith)) (subst (λ (y : ℕ). Roots S new y f) e (h .kept .roots)),
         );
         low = omega (arith, h .kept .low);
       };
@@ -124,5 +126,5 @@ module _ (n : ℕ) (S : Restriction) (r kind count : ℕ) (places : List ℕ) (g
         most = omega arith;
         reads = o .reads;
         rises = omega (arith, o .its-first, o .its-last);
-        inside = node-inside S k (o .items) r (c + 512 * ((x - r) + 512 * w)) (o .inside) nexts (omega (arith, its, o .its-next, nexts, state)) (omega (arith, its, small-row is small .3)) low;
+        inside = node-inside S k (o .items) r (c + 512 * ((x - r) + 512 * w)) (o .inside) nexts (omega (arith, its, o .its-next, nexts, state)) (omega (arith, its, small-row is small .3)) (o .labels) low;
       }

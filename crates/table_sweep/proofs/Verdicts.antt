@@ -135,6 +135,6 @@ module _ (n : ℕ) (S : Restriction) (table work : List ℕ) (one : 1 ≤ n) (mo
         let t = kind-first f (r .rest) w (r .kind) i (r .items) (r .is) in
         let none-left : nodes f ≡ 0 = omega (arith, k .used, u, r .its-records, ap nodes (t .1)) in
         told-tree (getD work 8 0 / 262144 % 5)
-        (subst (λ (y : Forest). Behind n S table 0 (known n S (node w i y) ls)) (no-more-roots f (suc 0 + nodes i) (k .kept .roots .2) none-left) b)
+        (subst (λ (y : Forest). Behind n S table 0 (known n S (node w i y) ls)) (no-more-roots f (suc 0 + nodes i) (k .kept .roots .3) none-left) b)
         (sym (size-is (k .kept) b) ∙ m)
         (r .its-state ∙ ap (λ (y : Kind). number (node-state y (states (judge S (r .items))))) (sym (t .0)) ∙ ap (λ (y : Forest). number (node-state w (states (judge S y)))) (sym (t .1)))

@@ -4,7 +4,7 @@ use mathlib.Core.Logic.{_≢_, _⊎_}
 use mathlib.Core.Bool.{Bool, true, false}
 use mathlib.Core.Option.{none, some}
 use mathlib.Core.List.{List, [], _∷_}
-use Prim.Native.Nat.{ℕ, suc, _+_, _-_, _*_, _≤_, _<_}
+use Prim.Native.Nat.{ℕ, suc, _+_, _-_, _*_, _≤_, _<_, _/_, _%_}
 use lib.ListN.{length, getD, take, drop, replicate}
 use Rattle.spec_orders.specs.Lists.{elem}
 use Rattle.spec_orders.specs.CircularOrder.{Restriction}
@@ -33,12 +33,24 @@ use Rattle.table_reading.specs.Reading.{Known, Within, New, known, at-record, I
 unfoldable pub packed : ℕ → ℕ → ℕ → ℕ
 packed b m s = b + 512 * (m + 512 * s)
 
+-- The state in such a number.
+abbrev pub state-in : ℕ → ℕ
+state-in w = w / 262144 % 5
+
+-- The nodes of a sequence stand in the records from x on: the state of each is in its place, roots and those below them.
+unfoldable pub Labels : Restriction → List ℕ → ℕ → Forest → Type 0
+Labels S work x nil = Unit {0}
+Labels S work x (leaf b f) = Labels S work x f
+Labels S work x (node k i f) =
+    (state-in (getD work (8 + x) 0) ≡ number (node-state k (states (judge S i)))) × Labels S work (suc x) i × Labels S work (suc x + nodes i) f
+
 -- The roots from record x on, each in its place.
 unfoldable pub Roots : Restriction → List ℕ → ℕ → Forest → Type 0
 Roots S work x nil = Unit {0}
 Roots S work x (leaf b f) = ⊥
 Roots S work x (node k i f) =
-    (getD work (8 + x) 0 ≡ packed (first i) (suc (nodes i)) (number (node-state k (states (judge S i))))) × (first i ≤ 511) × Roots S work (suc x + nodes i) f
+    (getD work (8 + x) 0 ≡ packed (first i) (suc (nodes i)) (number (node-state k (states (judge S i))))) × (first i ≤ 511) × Labels S work (suc x) i
+    × Roots S work (suc x + nodes i) f
 
 -- The marks of the restriction, those of the leaves read, and the roots, all in records up to the last.
 pub record Kept (S : Restriction) (work : List ℕ) (x : ℕ) (g : Forest) (ls : List ℕ) : Type 0 where
@@ -52,6 +64,10 @@ pub record Kept (S : Restriction) (work : List ℕ) (x : ℕ) (g : Forest) (ls :
 pub record Inside (S : Restriction) (work : List ℕ) (x : ℕ) (g : Forest) (ls : List ℕ) : Type 0 where
   pub kept : Kept S work x g ls
   pub used : getD work 264 0 ≡ x + nodes g
+
+-- What is kept of the records stays.
+abbrev pub SameRecords : List ℕ → List ℕ → Type 0
+SameRecords old new = (j : ℕ) → 8 ≤ j → getD new j 0 ≡ getD old j 0
 
 -- An item's numbers are small, whatever `work` holds.
 abbrev pub Small : Found → Type 0
@@ -90,6 +106,7 @@ pub record RowIs (n : ℕ) (S : Restriction) (k : Kind) (r : ℕ) (g : Forest) (
   pub its-last : d ≡ end .last
   pub its-next : x ≡ end .next
   pub its-run : q ≡ code (end .run)
+  pub labels : Labels S work (suc r) items
   pub inside : Inside S work (end .next) (end .roots) (end .leaves)
 
 abbrev pub RowSays : ℕ → Restriction → Kind → ℕ → Forest → List ℕ → List ℕ → List ℕ → Row → Type 0

@@ -3,7 +3,7 @@
 // leaf, how many records the node takes, and its state under a restriction. `work`, 265 numbers, holds what is kept:
 //     0 to 3      the marks of the restriction
 //     4 to 7      the marks of the leaves read so far
-//     8 to 263    of the root in record r, at 8 + r: first leaf + 512 * (records + 512 * state)
+//     8 to 263    of the node in record r, at 8 + r: first leaf + 512 * (records + 512 * state); it stays when the node is no root any more
 //     264         0: all records so far are blank; else how many records are used, or 257: this is the table of no tree
 
 ghost use mathlib.Core.Path.{_≡_};
@@ -19,7 +19,7 @@ ghost use Rattle.spec_calls.specs.Calls.{is-none};
 ghost use Rattle.tree_judge.specs.Automaton.{start, code};
 ghost use Rattle.table_reading.specs.Reading.{least, head, row-at};
 ghost use Rattle.mark_words.specs.Marks.{marked};
-ghost use Rattle.table_sweep.specs.Kept.{Inside, Small, LeafSays, RootSays, EntrySays, RowSays, RowSmall, NodeSays, Finished, Swept, Started, Told};
+ghost use Rattle.table_sweep.specs.Kept.{Inside, Small, SameRecords, LeafSays, RootSays, EntrySays, RowSays, RowSmall, NodeSays, Finished, Swept, Started, Told};
 
 // What an item comes to: its first leaf, how many records it takes, its state; or it can't stand there.
 pub enum Found {
@@ -34,8 +34,8 @@ pub enum Found {
 // The item that leaf b is; Bad where it is not from 2 to n, or was read before. Marks it as read.
 fn read_leaf(b: u16, n: usize, work: &mut [u64]) -> Found
     requires { ⌜ (b ≤ 256) × (length (now work) ≡ 265) ⌝ }
-    ensures { λ r. ⌜ (Small r) × ((S : Restriction) (x : ℕ) (g : Forest) (ls : List ℕ) → Inside S (now (work .entry)) x g ls
-        → LeafSays n S x g ls b (now (work .exit)) r) ⌝ }
+    ensures { λ r. ⌜ (Small r) × (SameRecords (now (work .entry)) (now (work .exit)))
+        × ((S : Restriction) (x : ℕ) (g : Forest) (ls : List ℕ) → Inside S (now (work .entry)) x g ls → LeafSays n S x g ls b (now (work .exit)) r) ⌝ }
 {
     if b < 2 {
         return Found::Bad;
@@ -83,8 +83,8 @@ fn read_root(next: usize, work: &[u64]) -> Found
 // The item that an entry of a record names, where the next root is in record `next`; Bad where it names no leaf that is new, and not that root.
 fn read_entry(v: u16, next: usize, n: usize, work: &mut [u64]) -> Found
     requires { ⌜ (next ≤ 200000) × (length (now work) ≡ 265) ⌝ }
-    ensures { λ r. ⌜ (Small r) × ((S : Restriction) (g : Forest) (ls : List ℕ) → Inside S (now (work .entry)) next g ls
-        → EntrySays n S next g ls v (now (work .exit)) r) ⌝ }
+    ensures { λ r. ⌜ (Small r) × (SameRecords (now (work .entry)) (now (work .exit)))
+        × ((S : Restriction) (g : Forest) (ls : List ℕ) → Inside S (now (work .entry)) next g ls → EntrySays n S next g ls v (now (work .exit)) r) ⌝ }
 {
     if v <= 256 {
         return read_leaf(v, n, work);
@@ -136,6 +136,7 @@ fn read_entries(kind: u16, places: &[u16], r: usize, n: usize, work: &mut [u64])
     let mut last: u16 = 0;
     let mut next = r + 1;
     let mut run = start(kind);
+    let moves = tree_judge::MOVES;
     let mut i = 0;
     while i < places.len() {
         let Found::Item {
@@ -152,7 +153,7 @@ fn read_entries(kind: u16, places: &[u16], r: usize, n: usize, work: &mut [u64])
         first = head(first, b);
         last = b;
         next += records;
-        run = tree_judge::next(run, state);
+        run = tree_judge::moved(&moves, run, state);
         i += 1;
     }
     Row::Read {
@@ -237,7 +238,7 @@ fn blank(kind: u16, count: u16, places: &[u16]) -> bool
     all_zero(places)
 }
 
-// ItemsRead the record r, which is used; where it is no node's, this is noted.
+// Reads the record r, which is used; where it is no node's, this is noted.
 fn used_record(r: usize, kind: u16, count: u16, places: &[u16], n: usize, work: &mut [u64])
     requires { ⌜ (r < 256) × (length (now places) ≡ 255) × (length (now work) ≡ 265) ⌝ }
     ensures { λ _. ⌜ ((S : Restriction) (g : Forest) (ls : List ℕ) → Inside S (now (work .entry)) (suc r) g ls
@@ -249,7 +250,7 @@ fn used_record(r: usize, kind: u16, count: u16, places: &[u16], n: usize, work: 
     work[264] = 257;
 }
 
-// ItemsRead the record r, those behind it being read. `places` are its 255 places for items.
+// Reads the record r, those behind it being read. `places` are its 255 places for items.
 pub fn record(r: usize, kind: u16, count: u16, places: &[u16], n: usize, work: &mut [u64])
     requires { ⌜ (r < 256) × (length (now places) ≡ 255) × (length (now work) ≡ 265) ⌝ }
     ensures { λ _. ⌜ ((S : Restriction) (table : List ℕ) → row-at table r ≡ kind ∷ count ∷ now (places .entry)
@@ -282,7 +283,8 @@ pub fn begin(marks: &[u64], work: &mut [u64])
     work[3] = marks[3];
 }
 
-// ItemsRead the 256 records of a table, from the last to the first; work is ready before, and afterwards has what `at_end` needs.
+// Reads the 256 records of a table, from the last to the first; work is ready before, and afterwards has what `at_end` needs, and the state of
+// every node.
 pub fn sweep(table: &[u16], n: usize, work: &mut [u64])
     requires { ⌜ (65792 ≤ length (now table)) × (length (now work) ≡ 265) ⌝ }
     ensures { λ _. ⌜ ((S : Restriction) → Started n S (now (work .entry)) → Swept n S (now (table .entry)) 0 (now (work .exit))) ⌝ }

@@ -23,7 +23,7 @@ pub no-tree : (o : Option Forest) {b : Bool} → b ≡ not (is-none o) → not b
 no-tree none e h = refl
 no-tree (some t) e h = absurd (let z : _≡_ {A = ℕ} 0 1 = cc in omega arith)
 
-some-tree : (o : Option Forest) {b : Bool} → b ≡ not (is-none o) → not b ≡ false → (t : Forest) × (o ≡ some t)
+pub some-tree : (o : Option Forest) {b : Bool} → b ≡ not (is-none o) → not b ≡ false → (t : Forest) × (o ≡ some t)
 some-tree none e h = absurd (let z : _≡_ {A = ℕ} 0 1 = cc in omega arith)
 some-tree (some t) e h = (t, refl)
 
@@ -50,26 +50,23 @@ tree-stands n table t room l m h = record {
   short = omega (arith, form-size n t (h .in-form) l);
 }
 
--- What is loaded.
-module _ (n : ℕ) (table old : List ℕ) (one : 1 ≤ n) (most : n ≤ 256) {b : Bool} (e : b ≡ not (is-none (tree-in n table))) (h : not b ≡ false) where
-  held : (t : Forest) × (tree-in n table ≡ some t) × Holds n table t
-  held = let p = some-tree (tree-in n table) e h in (p .0, p .1, tree-in-holds n table (p .0) most .0 (p .1))
+-- What is written of the tree t that the table holds.
+module _ {n : ℕ} {t : Forest} (table old : List ℕ) (one : 1 ≤ n) (most : n ≤ 256) (is : tree-in n table ≡ some t) where
+  held : Holds n table t
+  held = tree-in-holds n table t most .0 is
 
-  pub small-loaded : {new : List ℕ} {k : ℕ} → n ≤ 2 → Wrote (flat (fresh n)) old new k → (t : Forest) × (tree-in n table ≡ some t) × Wrote (flat t) old new k
-  small-loaded {new} {k} l w =
-      let p = held in
-      (p .0, p .1, subst (λ (x : List ℕ). Wrote x old new k) (small-tree n (p .0) one l (p .2 .in-form)) w)
+  pub small-loaded : {new : List ℕ} {k : ℕ} → n ≤ 2 → Wrote (flat (fresh n)) old new k → Wrote (flat t) old new k
+  small-loaded {new} {k} l w = subst (λ (x : List ℕ). Wrote x old new k) (small-tree n t one l (held .in-form)) w
 
   module _ (more : 3 ≤ n) (room : 512 ≤ length old) where
-    root : (k : Kind) × (i : Forest) × (held .0 ≡ node k i nil)
-    root = form-more n (held .0) (held .2 .in-form) more
+    root : (k : Kind) × (i : Forest) × (t ≡ node k i nil)
+    root = form-more n t (held .in-form) more
 
     root-stands : RowsStand table 0 (node (root .0) (root .1) nil) (length old)
-    root-stands = subst (λ (u : Forest). RowsStand table 0 u (length old)) (root .2) (tree-stands n table (held .0) (length old) most room (held .2))
+    root-stands = subst (λ (u : Forest). RowsStand table 0 u (length old)) (root .2) (tree-stands n table t (length old) most room held)
 
     pub root-there : NodeThere table 0 (length old)
     root-there = (root .0, root .1, root-stands)
 
-    pub large-loaded : {new : List ℕ} {k : ℕ} → NodeWritten table 0 old new k → (t : Forest) × (tree-in n table ≡ some t) × Wrote (flat t) old new k
-    large-loaded {new} {k} w =
-        (held .0, held .1, subst (λ (u : Forest). Wrote (flat u) old new k) (sym (root .2)) (w (root .0) (root .1) root-stands))
+    pub large-loaded : {new : List ℕ} {k : ℕ} → NodeWritten table 0 old new k → Wrote (flat t) old new k
+    large-loaded {new} {k} w = subst (λ (u : Forest). Wrote (flat u) old new k) (sym (root .2)) (w (root .0) (root .1) root-stands)

@@ -1,9 +1,11 @@
 // The tree that a node table holds, loaded into tokens: the sweep says whether there is one, and a walk from the first record on writes its tokens.
 ghost use mathlib.Core.Path.{_≡_};
+ghost use mathlib.Core.Option.{some};
 ghost use Prim.Native.Nat.{_≤_};
 ghost use lib.ListN.{length};
-ghost use Rattle.spec_calls.specs.NodeTable.{kind-of};
-ghost use Rattle.tree_tokens.specs.Tokens.{E, node-token};
+ghost use Rattle.spec_orders.specs.Tree.{Forest};
+ghost use Rattle.spec_calls.specs.NodeTable.{kind-of, tree-in};
+ghost use Rattle.tree_tokens.specs.Tokens.{E, node-token, Wrote, flat};
 ghost use Rattle.table_walk.specs.Walks.{NodeThere, ItemsThere, NodeWritten, ItemsWritten, Loads};
 
 // What a table holds: the tree in so many tokens; or no tree.
@@ -55,6 +57,17 @@ fn walk_items(table: &[u16], places: &[u16], out: &mut [u16]) -> usize
     k
 }
 
+// Writes the tokens of the tree of n leaves that the table is known to hold to the start of out, and says how many.
+pub fn walk(table: &[u16], n: usize, out: &mut [u16]) -> usize
+    requires { ⌜ (1 ≤ n) × (n ≤ 256) × (512 ≤ length (now out)) × ((t : Forest) × (tree-in n (now table) ≡ some t)) ⌝ }
+    ensures { λ k. ⌜ ((t : Forest) → tree-in n (now (table .entry)) ≡ some t → Wrote (flat t) (now (out .entry)) (now (out .exit)) k) ⌝ }
+{
+    if n <= 2 {
+        return tree_tokens::fresh(n, out);
+    }
+    walk_node(table, 0, out)
+}
+
 // Writes the tokens of the tree of n leaves that the table holds to the start of out, and says how many; or that it holds none.
 pub fn load(table: &[u16], n: usize, out: &mut [u16]) -> Loaded
     requires { ⌜ (1 ≤ n) × (n ≤ 256) × (65792 ≤ length (now table)) × (512 ≤ length (now out)) ⌝ }
@@ -63,8 +76,5 @@ pub fn load(table: &[u16], n: usize, out: &mut [u16]) -> Loaded
     if !table_sweep::holds(table, n) {
         return Loaded::NoTree;
     }
-    if n <= 2 {
-        return Loaded::Tree(tree_tokens::fresh(n, out));
-    }
-    Loaded::Tree(walk_node(table, 0, out))
+    Loaded::Tree(walk(table, n, out))
 }

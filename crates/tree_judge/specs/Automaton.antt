@@ -4,7 +4,7 @@ use mathlib.Core.List.{List, [], _∷_}
 use Prim.Native.Nat.{ℕ, _<_}
 use lib.ListN.{getD}
 use Rattle.spec_orders.specs.Tree.{Kind, P, C}
-use Rattle.tree_tokens.specs.Tokens.{State, E, F, L, R, X, number, Judged, j-nil, j-leaf, j-node}
+use Rattle.tree_tokens.specs.Tokens.{State, E, F, L, R, X, number}
 use Rattle.tree_judge.specs.Judge.{node-state}
 
 -- What was read of a node's items. P: nothing; E's; F's; both; one L; two L's; an R and E's; a word with no order.
@@ -12,15 +12,10 @@ use Rattle.tree_judge.specs.Judge.{node-state}
 pub data Run : Type 0 where
   p0 pE pF pM p1 p2 pR pX c0 cE cF cL cEL cU cD cR cX : Run
 
+-- Where it starts on a node's items.
 abbrev pub start : Kind → Run
 start P = p0
 start C = c0
-
--- Where the automaton starts on the first item's items.
-unfoldable pub start-of : Judged → Run
-start-of j-nil = p0
-start-of (j-leaf s b j) = p0
-start-of (j-node s k i j) = start k
 
 -- The run after one more item, by its state.
 abbrev pub by : State → Run → Run → Run → Run → Run → Run

@@ -7,8 +7,7 @@ ghost use Rattle.spec_orders.specs.Tree.{Forest, append, rev};
 ghost use Rattle.spec_orders.specs.Form.{first};
 ghost use Rattle.spec_orders.specs.Reduce.{pack, put-sorted};
 ghost use Rattle.tree_tokens.specs.Tokens.{Judged, tree, encode, Tokens, flat};
-ghost use Rattle.tree_judge.specs.Total.{whole-of, c-node-of, totals};
-ghost use Rattle.tree_pieces.specs.Writers.{with-state};
+ghost use Rattle.tree_judge.specs.Total.{c-node-of};
 ghost use Rattle.tree_laid.specs.Lying.{Lies, Midway, StandsIn, lower};
 
 // Where a tree lies in a buffer, from..to, and its first leaf.
@@ -79,7 +78,7 @@ fn wrap(l: &[u16], t: Laid, r: &[u16], kind: u16, first: u16, buf: &mut [u16]) -
     }
 }
 
-// Lays the items a before and b behind what lies at t, as one C-node in the direction of the published form. tmp is scratch.
+// Lays the items a before and b behind what lies at t, as one C-node in the direction of the published form. Says where it lies. tmp is scratch.
 pub fn circle(a: &[u16], t: Laid, b: &[u16], buf: &mut [u16], tmp: &mut [u16]) -> Laid
     requires { ⌜ (Tokens (now a)) × (Tokens (now b)) × ((g : Forest) × Lies g (now buf) t) × (Midway t)
         × (length (now a) + length (now b) + (t .to - t .from) < 512) × (length (now buf) ≡ 1024) × (length (now tmp) ≡ 512) ⌝ }
@@ -96,14 +95,16 @@ pub fn circle(a: &[u16], t: Laid, b: &[u16], buf: &mut [u16], tmp: &mut [u16]) -
     wrap(a, t, b, 24, first, buf)
 }
 
-// Lays the empty items of x round what lies at t, sorted by their first leaves, as at most one item. tmp is scratch.
-pub fn seat(x: &[u16], t: Laid, buf: &mut [u16], tmp: &mut [u16]) -> Laid
-    requires { ⌜ ((j : Judged) × (now x ≡ encode j) × (length (flat (whole-of (with-state 0 (totals j)))) + (t .to - t .from) < 512))
-        × ((g : Forest) × Lies g (now buf) t) × (Midway t) × (length (now buf) ≡ 1024) × (length (now tmp) ≡ 512) ⌝ }
-    ensures { λ u. ⌜ (Midway u) × ((j : Judged) (g : Forest) → now (x .entry) ≡ encode j → Lies g (now (buf .entry)) t
-        → Lies (pack (put-sorted g (whole-of (with-state 0 (totals j))))) (now (buf .exit)) u) ⌝ }
+// Lays the items a and b, in this sequence, round what lies at t, which goes before the first of them with a larger first leaf, as one item: a P-node
+// where there are any. Says where it lies. tmp is scratch.
+pub fn seat(a: &[u16], t: Laid, b: &[u16], buf: &mut [u16], tmp: &mut [u16]) -> Laid
+    requires { ⌜ (Tokens (now a)) × (Tokens (now b)) × ((g : Forest) × Lies g (now buf) t) × (Midway t)
+        × (length (now a) + length (now b) + (t .to - t .from) < 512) × (length (now buf) ≡ 1024) × (length (now tmp) ≡ 512) ⌝ }
+    ensures { λ u. ⌜ (Midway u) × ((p q : Judged) (g : Forest) → now (a .entry) ≡ encode p → now (b .entry) ≡ encode q
+        → Lies g (now (buf .entry)) t → Lies (pack (put-sorted g (append (tree p) (tree q)))) (now (buf .exit)) u) ⌝ }
 {
-    let m = tree_pieces::only(x, 0, tmp);
+    let i = tree_tokens::strip(a, tmp);
+    let m = i + tree_tokens::strip(b, &mut tmp[i..]);
     if m == 0 {
         return t;
     }

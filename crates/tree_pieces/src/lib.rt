@@ -1,6 +1,5 @@
 // Parts of a judged sequence: items by state, and the small trees that are made of them.
 ghost use mathlib.Core.Path.{_≡_};
-ghost use mathlib.Core.List.{reverse};
 ghost use Prim.Native.Nat.{_+_, _<_, _≤_};
 ghost use lib.Dec.{leb};
 ghost use lib.ListN.{length};
@@ -59,7 +58,7 @@ fn put_first(x: &[u16], out: &mut [u16]) -> usize
 }
 
 // Writes the items of state s, in their order.
-pub fn only(x: &[u16], s: u16, out: &mut [u16]) -> usize
+fn only(x: &[u16], s: u16, out: &mut [u16]) -> usize
     requires { ⌜ (Fits (λ ts. whole-of (with-state s ts)) (now x) (now out)) × (s ≤ 4) ⌝ }
     ensures { λ r. ⌜ ((j : Judged) → now (x .entry) ≡ encode j
         → Wrote (flat (whole-of (with-state s (totals j)))) (now (out .entry)) (now (out .exit)) r) ⌝ }

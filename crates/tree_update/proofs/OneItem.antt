@@ -1,5 +1,5 @@
 -- Sequences in which just one item is not empty, and trees whose nodes have two items or more.
-use mathlib.Core.Path.{_≡_, refl, sym, ap, subst, _∙_}
+use mathlib.Core.Path.{_≡_, refl, sym, ap, ap₂, subst, _∙_}
 use mathlib.Core.Bool.{Bool, true, false}
 use mathlib.Core.Logic.{_⊎_, inl, inr, ⊎-elim}
 use mathlib.Core.List.{List, [], _∷_, _++_}
@@ -8,7 +8,7 @@ use native.Mathlib.Omega.{arith}
 use borrow.Author.Tests.{eqb-true, eqb-false, ltb-false}
 use lib.Dec.{eqb, ltb}
 use lib.ListN.{length, length-append}
-use Rattle.spec_orders.specs.Tree.{P, Forest, nil, node, items, append}
+use Rattle.spec_orders.specs.Tree.{P, Forest, nil, leaf, node, items, append}
 use Rattle.spec_orders.specs.Reduce.{put-sorted, pack}
 use Rattle.spec_orders.proofs.Tests.{cond-cases}
 use Rattle.tree_tokens.specs.Tokens.{E, F, L, R, X, number, Judged, j-nil, j-leaf, j-node, tree, encode, flat}
@@ -96,6 +96,38 @@ gather-lone (j-node F k i j) h = rw (none-when j h .0, none-when j h .1)
 gather-lone (j-node L k i j) h = rw (none-when j h .0, none-when j h .1)
 gather-lone (j-node R k i j) h = rw (none-when j h .0, none-when j h .1)
 gather-lone (j-node X k i j) h = rw (none-when j h .0, none-when j h .1)
+
+-- Empty items, whole; those before and behind the one item that is not empty.
+empties-whole : (j : Judged) → all-with-state 0 (totals j) ≡ true → whole-of (with-state 0 (totals j)) ≡ tree j
+unfolding totals total-by
+empties-whole j-nil h = refl
+empties-whole (j-leaf E b j) h = ap (leaf b) (empties-whole j h)
+empties-whole (j-leaf F b j) h = no-way h
+empties-whole (j-leaf L b j) h = no-way h
+empties-whole (j-leaf R b j) h = no-way h
+empties-whole (j-leaf X b j) h = no-way h
+empties-whole (j-node E k i j) h = ap (node k (tree i)) (empties-whole j h)
+empties-whole (j-node F k i j) h = no-way h
+empties-whole (j-node L k i j) h = no-way h
+empties-whole (j-node R k i j) h = no-way h
+empties-whole (j-node X k i j) h = no-way h
+
+abbrev empties-round : Judged → Forest
+empties-round j = append (tree (passing (is 0) j)) (tree (rest-of (beyond (is 0) j)))
+
+empties-lone : (j : Judged) → lone-of (totals (beyond (is 0) j)) ≡ true → whole-of (with-state 0 (totals j)) ≡ empties-round j
+unfolding totals total-by beyond passing rest-of
+empties-lone j-nil h = no-way h
+empties-lone (j-leaf E b j) h = ap (leaf b) (empties-lone j h)
+empties-lone (j-leaf F b j) h = empties-whole j h
+empties-lone (j-leaf L b j) h = empties-whole j h
+empties-lone (j-leaf R b j) h = empties-whole j h
+empties-lone (j-leaf X b j) h = empties-whole j h
+empties-lone (j-node E k i j) h = ap (node k (tree i)) (empties-lone j h)
+empties-lone (j-node F k i j) h = empties-whole j h
+empties-lone (j-node L k i j) h = empties-whole j h
+empties-lone (j-node R k i j) h = empties-whole j h
+empties-lone (j-node X k i j) h = empties-whole j h
 
 -- A C-node's items round the one that is not empty; round the first one that is not empty.
 pub lone-rest : {j : Judged} (a : AtFirst j) → lone-of (totals j) ≡ all-with-state 0 (totals (rest-of j))
@@ -206,8 +238,9 @@ pub round-c : (j : Judged) → shape-of j ≡ 3 → (number (state-of j) < 2 →
 round-c j s z l = reduced-c j s z ∙ ap c-node-of (middle-lone (items-of j) (lone-some (beyond (is 0) (items-of j)) l) l)
 
 pub round-p : (j : Judged) → (shape-of j ≡ 1 → ⊥) → (shape-of j ≡ 3 → ⊥) → (number (state-of j) < 2 → ⊥) → lone-of (totals (beyond (is 0) (items-of j))) ≡ true
-    → first-reduced (totals j) ≡ pack (put-sorted (inner j) (whole-of (with-state 0 (totals (items-of j)))))
-round-p j s n z l = reduced-p j s n z ∙ ap (λ (g : Forest). pack (put-sorted g (whole-of (with-state 0 (totals (items-of j)))))) (gather-lone (items-of j) l)
+    → first-reduced (totals j) ≡ pack (put-sorted (inner j) (append (tree (passing (is 0) (items-of j))) (tree (rest-of (beyond (is 0) (items-of j))))))
+round-p j s n z l =
+    reduced-p j s n z ∙ ap₂ (λ (g f : Forest). pack (put-sorted g f)) (gather-lone (items-of j) l) (empties-lone (items-of j) l)
 
 pub round-c-length : (j : Judged) → shape-of j ≡ 3 → (number (state-of j) < 2 → ⊥) → lone-of (totals (beyond (is 0) (items-of j))) ≡ true
     → length (flat (first-reduced (totals j))) ≡ 1 + (length (encode (passing (is 0) (items-of j))) + (length (flat (inner j)) + length (encode (rest-of (beyond (is 0) (items-of j))))))
@@ -224,14 +257,19 @@ round-c-length j s z l =
     )
 
 pub round-p-length : (j : Judged) → (shape-of j ≡ 1 → ⊥) → (shape-of j ≡ 3 → ⊥) → (number (state-of j) < 2 → ⊥) → lone-of (totals (beyond (is 0) (items-of j))) ≡ true
-    → length (flat (inner j)) + length (flat (whole-of (with-state 0 (totals (items-of j))))) ≤ length (flat (first-reduced (totals j)))
+    → length (encode (passing (is 0) (items-of j))) + (length (flat (inner j)) + length (encode (rest-of (beyond (is 0) (items-of j))))) ≤ length (flat (first-reduced (totals j)))
 round-p-length j s n z l =
-    let e = whole-of (with-state 0 (totals (items-of j))) in
+    let p = passing (is 0) (items-of j) in
+    let q = rest-of (beyond (is 0) (items-of j)) in
+    let e = append (tree p) (tree q) in
     omega (
       arith,
       ap (λ (f : Forest). length (flat f)) (round-p j s n z l),
       pack-ge (put-sorted (inner j) e),
       put-sorted-length (inner j) e,
+      ap length (flat-append (tree p) (tree q)) ∙ length-append (flat (tree p)) (flat (tree q)),
+      plain-length p,
+      plain-length q,
     )
 
 pub inner-short : (j : Judged) → (shape-of j ≡ 1 → ⊥) → (number (state-of j) < 2 → ⊥) → lone-of (totals (beyond (is 0) (items-of j))) ≡ true

@@ -1,8 +1,8 @@
 -- The update of a tree of some leaves: its tokens are few, and the judged tree says what is written.
 use mathlib.Core.Path.{_≡_, refl, sym, ap, _∙_}
 use mathlib.Core.Logic.{_≢_}
-use mathlib.Core.Bool.{true}
-use mathlib.Core.Option.{none, some}
+use mathlib.Core.Bool.{Bool, true, false}
+use mathlib.Core.Option.{Option·none-ne-some, Option·some-injective, none, some}
 use mathlib.Core.List.{List, [], _∷_}
 use Prim.Native.Nat.{ℕ, zero, suc, _-_, _≤_}
 use native.Mathlib.Omega.{arith}
@@ -28,12 +28,12 @@ use Rattle.tree_tokens.proofs.Counts.{flat-counts}
 use Rattle.tree_tokens.proofs.Sequences.{tree-plain}
 use Rattle.tree_judge.specs.Judge.{can-reduce, judge}
 use Rattle.tree_judge.specs.Total.{first-reduced, totals, when}
-use Rattle.tree_judge.proofs.Judged.{tree-judge}
+use Rattle.tree_judge.proofs.Judged.{tree-judge, judge-length}
 use Rattle.tree_judge.proofs.Reduces.{reduce-total}
 use Rattle.tree_tokens.proofs.Sequences.{flat-injective}
 use Rattle.tree_stays.specs.Stays.{stays}
 use Rattle.tree_stays.proofs.Same.{stays-same}
-use Rattle.tree_update.specs.Update.{Forks, FormWithin, TokensWithin}
+use Rattle.tree_update.specs.Update.{Forks, FormWithin, TokensWithin, JudgedTree}
 use Rattle.tree_update.proofs.Laws.{begins, read-part}
 
 -- A tree in form for n leaves is one of leaves 2 to n.
@@ -104,6 +104,14 @@ reduce-no n S t f h = reduce-total S t (canonical-forked t (f .canonical)) ∙ w
 pub reduce-yes : (n : ℕ) (S : Restriction) (t : Forest) → FormWithin n t → (number (state-of (judge S t)) ≡ 4 → ⊥) → reduce S t ≡ some (first-reduced (totals (judge S t)))
 reduce-yes n S t f h = reduce-total S t (canonical-forked t (f .canonical)) ∙ when-not-x (state-of (judge S t)) (first-reduced (totals (judge S t))) h
 
+-- The tree that it can be reduced to is the one that the judged tree says.
+when-some : (b : Bool) (f u : Forest) → when b f ≡ some u → f ≡ u
+when-some true f u h = Option·some-injective f u h
+when-some false f u h = absurd (Option·none-ne-some u h)
+
+pub reduce-is : (n : ℕ) (S : Restriction) (t u : Forest) → FormWithin n t → reduce S t ≡ some u → first-reduced (totals (judge S t)) ≡ u
+reduce-is n S t u f h = when-some (can-reduce (state-of (judge S t))) (first-reduced (totals (judge S t))) u (sym (reduce-total S t (canonical-forked t (f .canonical))) ∙ h)
+
 -- Where the item stays, the tree does.
 first-only : (j : Judged) → Single (items (tree j)) → tree (first-of j) ≡ tree j
 unfolding first-of
@@ -115,16 +123,12 @@ first-only (j-node s k i j-nil) h = refl
 first-only (j-node s k i (j-leaf r a j)) h = absurd h
 first-only (j-node s k i (j-node r m l j)) h = absurd h
 
-pub reduce-stays : (n : ℕ) (S : Restriction) (t : Forest) → FormWithin n t → (number (state-of (judge S t)) ≡ 4 → ⊥) → true ≡ stays (judge S t) → reduce S t ≡ some t
-reduce-stays n S t f z h =
+pub reduce-stays : (n : ℕ) (S : Restriction) (t u : Forest) → FormWithin n t → reduce S t ≡ some u → true ≡ stays (judge S t) → t ≡ u
+reduce-stays n S t u f z h =
     let e = tree-judge S t in
     let c : Canonical (tree (judge S t)) = rw e (f .canonical) in
     let o : Single (items (tree (judge S t))) = rw e (f .single) in
-    reduce-yes n S t f z ∙ ap some (stays-same (judge S t) c (sym h) ∙ first-only (judge S t) o ∙ e)
-
-pub reduced-short : (n : ℕ) (S : Restriction) (t : Forest) → FormWithin n t → n ≤ 256 → (number (state-of (judge S t)) ≡ 4 → ⊥)
-    → length (flat (first-reduced (totals (judge S t)))) ≤ 510
-reduced-short n S t f h z = form-short n _ (reduce-form n S t _ f (reduce-yes n S t f z)) h
+    sym (stays-same (judge S t) c (sym h) ∙ first-only (judge S t) o ∙ e) ∙ reduce-is n S t u f z
 
 -- The form of every tree with these tokens.
 pub the-form : (n : ℕ) (l : List ℕ) (p : TokensWithin n l) (t : Forest) → l ≡ flat t → FormWithin n t
@@ -137,9 +141,23 @@ tokens-short n l p = omega (arith, ap length (p .1), form-short n (p .0) (p .2) 
 pub judged-part : (S : Restriction) (t : Forest) {old new : List ℕ} {m : ℕ} → Wrote (encode (judge S (tree (plain t)))) old new m → take (m - 0) (drop 0 new) ≡ encode (judge S t)
 judged-part S t w = read-part (begins w) ∙ ap (λ (f : Forest). encode (judge S f)) (tree-plain t)
 
--- The judged tree's nodes have two items or more.
-pub judged-forks : (n : ℕ) (S : Restriction) (t : Forest) → FormWithin n t → Forks (judge S t)
-judged-forks n S t f = rw (tree-judge S t) (canonical-forked t (f .canonical))
+-- A judged tree that can be reduced: its tokens are few, every tree with them has the form, its nodes have two items or more, and what is written
+-- has few tokens too.
+module _ {n : ℕ} {S : Restriction} {t : Forest} {toks judged : List ℕ} (p : JudgedTree n S t toks judged) where
+  tokens-within : TokensWithin n toks
+  tokens-within = (t, p .is, p .form, p .few-leaves)
+
+  pub judged-short : (length judged ≡ length toks) × (length toks ≤ 510)
+  judged-short = (ap length (p .states) ∙ judge-length S t ∙ sym (ap length (p .is)), tokens-short n toks tokens-within)
+
+  pub judged-form : {u : Forest} → toks ≡ flat u → FormWithin n u
+  judged-form {u} e = the-form n toks tokens-within u e
+
+  pub judged-forks : Forks (judge S t)
+  judged-forks = rw (tree-judge S t) (canonical-forked t (p .form .canonical))
+
+  pub reduced-short : length (flat (first-reduced (totals (judge S t)))) ≤ 510
+  reduced-short = form-short n _ (reduce-form n S t _ (p .form) (reduce-yes n S t (p .form) (λ e. p .possible (reduce-no n S t (p .form) e)))) (p .few-leaves)
 
 pub wrote-as : {xs ys old new : List ℕ} {k : ℕ} → xs ≡ ys → Wrote xs old new k → Wrote ys old new k
 wrote-as e w = rw (← e) w

@@ -1,16 +1,19 @@
 -- What the update reads, writes and answers.
 use mathlib.Core.Path.{_≡_}
+use mathlib.Core.Logic.{_≢_}
 use mathlib.Core.Option.{Option, none, some}
 use mathlib.Core.Bool.{Bool, false}
 use mathlib.Core.List.{List, [], _∷_}
-use Prim.Native.Nat.{ℕ, _≤_}
+use Prim.Native.Nat.{ℕ, _≤_, _<_}
 use lib.ListN.{length, take}
 use Rattle.spec_orders.specs.Lists.{All, Distinct}
+use Rattle.spec_orders.specs.CircularOrder.{Restriction}
 use Rattle.spec_orders.specs.Tree.{Forest, items, frontier}
 use Rattle.spec_orders.specs.Form.{Every, TwoItems, Canonical, Single}
-use Rattle.spec_orders.specs.Reduce.{pack, put-sorted}
+use Rattle.spec_orders.specs.Reduce.{pack, put-sorted, reduce}
 use Rattle.tree_tokens.specs.Tokens.{Judged, tree, encode, Wrote, flat}
 use Rattle.tree_spans.specs.Spans.{is, beyond}
+use Rattle.tree_judge.specs.Judge.{judge}
 use Rattle.tree_judge.specs.Total.{Total, whole-of, totals}
 use Rattle.tree_pieces.specs.Writers.{with-state, all-with-state, gathered}
 use Rattle.tree_update.specs.declared.Updated.{Updated}
@@ -47,6 +50,15 @@ pub record FormWithin (n : ℕ) (t : Forest) : Type 0 where
 -- The tokens are those of such a tree, n at most 256.
 abbrev pub TokensWithin : ℕ → List ℕ → Type 0
 TokensWithin n toks = (t : Forest) × (toks ≡ flat t) × FormWithin n t × (n ≤ 256)
+
+-- The tokens of a tree of some of the leaves 2 to n, and the same with their states under S, by which it can be reduced.
+pub record JudgedTree (n : ℕ) (S : Restriction) (t : Forest) (toks judged : List ℕ) : Type 0 where
+  pub is : toks ≡ flat t
+  pub states : judged ≡ encode (judge S t)
+  pub form : FormWithin n t
+  pub few-leaves : n ≤ 256
+  pub some-token : 0 < length toks
+  pub possible : reduce S t ≢ none
 
 -- The answer: there is no tree, and out stays as it was; or the tree is written to its start, and the answer says how many tokens.
 pub data Answers : Option Forest → List ℕ → List ℕ → Updated → Type 0 where

@@ -1,19 +1,22 @@
 // The update of a tree in tokens by a restriction, and a group that joins. It writes the reduced form of the judged tree: one item whose full
 // leaves are consecutive.
 ghost use mathlib.Core.Path.{_≡_};
+ghost use mathlib.Core.Option.{some};
 ghost use Prim.Native.Nat.{ℕ, _+_, _<_, _≤_};
 ghost use lib.ListN.{length};
 ghost use Rattle.tree_tokens.specs.Tokens.{Judged, tree, encode, Tokens, Wrote, flat};
 ghost use Rattle.tree_tokens.specs.Views.{first-of};
+ghost use Rattle.tree_judge.specs.Judge.{judge};
 ghost use Rattle.tree_judge.specs.Total.{first-reduced, c-node-of, middle-of, totals};
 ghost use Rattle.tree_pieces.specs.Writers.{Fits, FitsBoth, gathered};
 ghost use Rattle.tree_laid.specs.Lying.{Lies, Midway};
+ghost use Rattle.spec_orders.specs.CircularOrder.{Restriction};
 ghost use Rattle.spec_orders.specs.Tree.{Forest};
 ghost use Rattle.spec_orders.specs.Form.{first};
 ghost use Rattle.spec_orders.specs.Reduce.{reduce};
 ghost use Rattle.spec_orders.specs.Join.{join};
 ghost use Rattle.mark_words.specs.Marks.{marked};
-ghost use Rattle.tree_update.specs.Update.{lone-of, NotLone, Forks, placed-again, TokensWithin, Answers};
+ghost use Rattle.tree_update.specs.Update.{lone-of, NotLone, Forks, placed-again, TokensWithin, JudgedTree, Answers};
 use tree_laid::Laid;
 use tree_laid::circle;
 use tree_laid::seat;
@@ -139,12 +142,29 @@ fn reduced(x: &[u16], buf: &mut [u16], tmp: &mut [u16]) -> Laid
         if k == 3 {
             return circle(&w[0..i], t, tree_tokens::rest(y), buf, tmp);
         }
-        return seat(w, t, buf, tmp);
+        return seat(&w[0..i], t, tree_tokens::rest(y), buf, tmp);
     }
     if k == 3 {
         return base_c(w, buf, tmp);
     }
     base_p(w, buf, tmp)
+}
+
+// Writes the tree with its full leaves consecutive to the start of out, and says how many tokens; `judged` are its tokens with their states.
+pub fn rewrite(toks: &[u16], judged: &[u16], out: &mut [u16]) -> usize
+    requires { ⌜ ((n : ℕ) × (S : Restriction) × (t : Forest) × JudgedTree n S t (now toks) (now judged)) × (512 ≤ length (now out)) ⌝ }
+    ensures { λ k. ⌜ ((S : Restriction) (t u : Forest) → now (toks .entry) ≡ flat t → now (judged .entry) ≡ encode (judge S t) → reduce S t ≡ some u
+        → Wrote (flat u) (now (out .entry)) (now (out .exit)) k) ⌝ }
+{
+    if tree_stays::stays(judged) {
+        return tree_tokens::copy(toks, out);
+    }
+    let mut buf = [0u16; 1024];
+    let mut spare = [0u16; 512];
+    let t = reduced(judged, &mut buf, &mut spare);
+    let from = t.from;
+    let to = t.to;
+    tree_tokens::copy(&buf[from..to], out)
 }
 
 // The answer to an update: there is no tree; or how many tokens it has.
@@ -168,15 +188,7 @@ fn update(toks: &[u16], marks: &[u64], out: &mut [u16]) -> Updated
     if tree_tokens::state(&judged[0..m]) == 4 {
         return Updated::Impossible;
     }
-    if tree_stays::stays(&judged[0..m]) {
-        return Updated::Tokens(tree_tokens::copy(toks, out));
-    }
-    let mut buf = [0u16; 1024];
-    let mut spare = [0u16; 512];
-    let t = reduced(&judged[0..m], &mut buf, &mut spare);
-    let from = t.from;
-    let to = t.to;
-    Updated::Tokens(tree_tokens::copy(&buf[from..to], out))
+    Updated::Tokens(rewrite(toks, &judged[0..m], out))
 }
 
 // A group joins: the same with the side of the group that leaf 1 is not in. group is four words.

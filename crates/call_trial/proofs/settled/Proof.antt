@@ -8,6 +8,9 @@ use Rattle.call_trial.proofs.settled.Tie as tie
 returns : tie.Need-returns
 returns c = rw (c .before .before .before .before .before .enum-told5 .given .1, c .before .before .before .waiting .given .1, le-leb (reported (c .before .before .before .waiting .given .0 .0) .number) 3 (omega (arith, c .if1 .taken, c .before .number .ensures)))
 
+returns-2 : tie.Need-returns-2
+returns-2 c = rw (c .enum-told .given .1)
+
 returns-4 : tie.Need-returns-4
 returns-4 c = rw (c .before .before .enum-told2 .given .1, c .enum-told4 .given .1)
 
@@ -30,7 +33,7 @@ settled-spec =
     (λ c κs. search needs)
     returns
     (λ c. search needs)
-    (λ c. search needs)
+    returns-2
     (λ c. search needs)
     returns-4
     returns-5

@@ -6,7 +6,7 @@ use lib.ListN.{replicate}
 use Rattle.spec_orders.specs.CircularOrder.{group-of}
 use Rattle.spec_listing.specs.Listing.{RingState}
 use Rattle.tree_tokens.proofs.Writes.{wrote-most}
-use Rattle.call_attempt.specs.Attempts.{JoinedTree, Attempts}
+use Rattle.list_attempt.specs.Attempts.{JoinedTree, Attempts}
 use Rattle.list_ring.specs.Stands.{RingStands}
 use Rattle.list_ring.proofs.Outcomes.{tree-tokens, stays, kept-few, kept-stands}
 use Rattle.list_ring.proofs.advance.Statement.{statement}

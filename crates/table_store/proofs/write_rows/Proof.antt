@@ -2,12 +2,12 @@ use mathlib.Core.Path.{_≡_, refl, sym, _∙_}
 use Prim.Native.Nat.{_+_, _-_, _≤_}
 use native.Mathlib.Omega.{arith}
 use lib.ListN.{length}
+use Rattle.tree_tokens.specs.Views.{shape-of}
 use Rattle.tree_tokens.proofs.Steps.{Left, from-start, part-left, here, at-last, next-token}
 use Rattle.tree_tokens.proofs.Writes.{written-end}
 use Rattle.table_row.proofs.Rows.{shape-some, here-long}
-use Rattle.table_row.proofs.Writing.{blank-long}
 use Rattle.table_row.proofs.Records.{before, records-items}
-use Rattle.table_store.proofs.Rowing.{Rowing, rowing-start, rowing-leaf, rowing-node, rowed-long, next-room, next-items, next-blank}
+use Rattle.table_store.proofs.Rowing.{Rowing, rowing-start, rowing-leaf, rowing-node, rowed-long, next-room, next-items, next-over}
 use Rattle.table_store.proofs.write_rows.Statement.{statement}
 use Rattle.table_store.proofs.write_rows.Tie as tie
 use Rattle.table_store.proofs.write_rows.Reads as reads
@@ -26,24 +26,24 @@ loop-holds : tie.Need-loop-holds Inv-loop μ-loop
 loop-holds c = (omega arith, refl, from-start _ (rowing-start _ _))
 
 shape-requires : tie.Need-shape-requires Inv-loop μ-loop
-shape-requires c κs = (part-left (c .before .before .loop .inv .2) (c .before .before .before .before .before .before .pre .1 .seq, c .before .before .before .before .before .before .pre .1 .is), omega arith)
+shape-requires c κs = (part-left (c .before .before .loop .inv .2) (c .before .before .before .before .before .before .pre .0 .seq, c .before .before .before .before .before .before .pre .0 .is), omega arith)
 
 loop-again : tie.Need-loop-again Inv-loop μ-loop
 loop-again c = (omega arith, c .before .before .before .before .loop .inv .1, next-token (c .before .before .before .before .loop .inv .2) (c .before .before .before .loop-test .taken) (λ j h p g. rowing-leaf p (c .before .before .before .loop-test .taken) (sym (c .before .shape .ensures h (p .part)) ∙ c .if1 .taken) g))
 
 items-requires : tie.Need-items-requires Inv-loop μ-loop
-items-requires c κs = (part-left (c .before .before .before .before .before .loop .inv .2) (c .before .before .before .before .before .before .before .before .before .pre .1 .seq, c .before .before .before .before .before .before .before .before .before .pre .1 .is), omega arith)
+items-requires c κs = (part-left (c .before .before .before .before .before .loop .inv .2) (c .before .before .before .before .before .before .before .before .before .pre .0 .seq, c .before .before .before .before .before .before .before .before .before .pre .0 .is), omega arith)
 
 -- A node is next: there is room for its row, and a record beside each token of its items.
 room : (c : lts.After-items (shape-reads.Asked, shape-reads.Learnt, items-reads.Asked, items-reads.Learnt, write-row-reads.Asked, write-row-reads.Learnt) reads.Pre reads.Post Inv-loop μ-loop)
-    → (c .before .before .before .before .before .before .loop .k + 257 ≤ c .before .before .before .before .before .before .before .before .before .before .pre .0) × (c .before .before .before .before .before .before .before .before .before .before .pre .0 ≤ length (c .before .before .before .before .before .before .before .before .before .before .args .out .now)) × (c .before .before .before .before .before .before .loop .i + 1 + length (c .items .result .now) ≤ length (c .before .before .before .before .before .before .before .before .before .before .args .records .now))
+    → (c .before .before .before .before .before .before .loop .k + 257 ≤ length (c .before .before .before .before .before .before .before .before .before .before .args .out .now)) × (c .before .before .before .before .before .before .loop .i + 1 + length (c .items .result .now) ≤ length (c .before .before .before .before .before .before .before .before .before .before .args .records .now))
 room c =
-    let q = here (c .before .before .before .before .before .before .loop .inv .2) (c .before .before .before .before .before .loop-test .taken) (c .before .before .before .before .before .before .before .before .before .before .pre .1 .seq) (c .before .before .before .before .before .before .before .before .before .before .pre .1 .is) in
-    (next-room (c .before .before .before .before .before .before .before .before .before .before .pre .1) (q .1) (λ h. c .before .before .if1 .left (c .before .before .before .shape .ensures (q .0) (q .1 .part) ∙ h)) (q .2), blank-long (c .before .before .before .before .before .before .before .before .before .before .pre .2), omega (arith, rowed-long (c .before .before .before .before .before .before .before .before .before .before .pre .1), c .items .ensures .0, c .before .items-arg .given))
+    let q = here (c .before .before .before .before .before .before .loop .inv .2) (c .before .before .before .before .before .loop-test .taken) (c .before .before .before .before .before .before .before .before .before .before .pre .0 .seq) (c .before .before .before .before .before .before .before .before .before .before .pre .0 .is) in
+    (next-room (c .before .before .before .before .before .before .before .before .before .before .pre .0) (q .1) (λ h. c .before .before .if1 .left (c .before .before .before .shape .ensures (q .0) (q .1 .part) ∙ h)) (q .2) (c .before .before .before .before .before .before .before .before .before .before .pre .1), omega (arith, rowed-long (c .before .before .before .before .before .before .before .before .before .before .pre .0), c .items .ensures .0, c .before .items-arg .given))
 
 sub-write-row : tie.Need-sub-write-row Inv-loop μ-loop
 sub-write-row c =
-    let q = here (c .before .before .before .before .before .before .loop .inv .2) (c .before .before .before .before .before .loop-test .taken) (c .before .before .before .before .before .before .before .before .before .before .pre .1 .seq) (c .before .before .before .before .before .before .before .before .before .before .pre .1 .is) in
+    let q = here (c .before .before .before .before .before .before .loop .inv .2) (c .before .before .before .before .before .loop-test .taken) (c .before .before .before .before .before .before .before .before .before .before .pre .0 .seq) (c .before .before .before .before .before .before .before .before .before .before .pre .0 .is) in
     omega (arith, c .before .before .before .shape .ensures (q .0) (q .1 .part), shape-some (q .0) (q .1 .some))
 
 add-write-row : tie.Need-add-write-row Inv-loop μ-loop
@@ -75,15 +75,16 @@ part-write-row-end-2 c = omega (arith, room (c .before))
 
 write-row-requires : tie.Need-write-row-requires Inv-loop μ-loop
 write-row-requires c κs =
-    let q = here (c .before .before .before .before .before .before .before .before .loop .inv .2) (c .before .before .before .before .before .before .before .loop-test .taken) (c .before .before .before .before .before .before .before .before .before .before .before .before .pre .1 .seq) (c .before .before .before .before .before .before .before .before .before .before .before .before .pre .1 .is) in
-    (next-items (c .before .before .before .before .before .before .before .before .before .before .before .before .pre .1) (q .1) (c .before .before .before .before .before .before .before .loop-test .taken) (λ h. c .before .before .before .before .if1 .left (c .before .before .before .before .before .shape .ensures (q .0) (q .1 .part) ∙ h)) (q .2) (c .before .before .items .ensures .1 (q .0) (q .1 .part)), next-blank (room (c .before .before) .0) (c .before .before .before .before .before .before .before .before .before .before .before .before .pre .2) (q .2))
+    let q = here (c .before .before .before .before .before .before .before .before .loop .inv .2) (c .before .before .before .before .before .before .before .loop-test .taken) (c .before .before .before .before .before .before .before .before .before .before .before .before .pre .0 .seq) (c .before .before .before .before .before .before .before .before .before .before .before .before .pre .0 .is) in
+    let s : shape-of (q .0) ≡ 1 → ⊥ = λ h. c .before .before .before .before .if1 .left (c .before .before .before .before .before .shape .ensures (q .0) (q .1 .part) ∙ h) in
+    (next-items (c .before .before .before .before .before .before .before .before .before .before .before .before .pre .0) (q .1) s (q .2) (c .before .before .before .before .before .before .before .loop-test .taken) (c .before .before .items .ensures .1 (q .0) (q .1 .part)), next-over (c .before .before .before .before .before .before .before .before .before .before .before .before .pre .0) (q .1) s (q .2) (c .before .before .before .before .before .before .before .before .before .before .before .before .pre .1))
 
 add-k : tie.Need-add-k Inv-loop μ-loop
 add-k c =
-    let q = here (c .before .before .before .before .before .before .before .before .before .before .before .loop .inv .2) (c .before .before .before .before .before .before .before .before .before .before .loop-test .taken) (c .before .before .before .before .before .before .before .before .before .before .before .before .before .before .before .pre .1 .seq) (c .before .before .before .before .before .before .before .before .before .before .before .before .before .before .before .pre .1 .is) in
+    let q = here (c .before .before .before .before .before .before .before .before .before .before .before .loop .inv .2) (c .before .before .before .before .before .before .before .before .before .before .loop-test .taken) (c .before .before .before .before .before .before .before .before .before .before .before .before .before .before .before .pre .0 .seq) (c .before .before .before .before .before .before .before .before .before .before .before .before .before .before .before .pre .0 .is) in
     let e = c .before .before .before .before .before .items .ensures .1 (q .0) (q .1 .part) in
-    let b = records-items (c .before .before .before .before .before .before .before .before .before .before .before .before .before .before .before .pre .1 .beside) (q .1) (c .before .before .before .before .before .before .before .before .before .before .loop-test .taken) (λ h. c .before .before .before .before .before .before .before .if1 .left (c .before .before .before .before .before .before .before .before .shape .ensures (q .0) (q .1 .part) ∙ h)) e in
-    omega (arith, room (c .before .before .before .before .before), c .before .before .write-row .ensures _ _ b e .many ∙ here-long (c .before .before .before .before .before .before .before .before .shape .result) (before (c .before .before .before .before .before .before .before .before .before .before .before .before .before .before .before .args .toks .now) (c .before .before .before .before .before .before .before .before .before .before .before .loop .i)) (q .0) (q .2 .narrow (c .before .before .before .before .before .before .before .before .before .before .before .before .before .before .before .pre .1 .narrow)))
+    let b = records-items (c .before .before .before .before .before .before .before .before .before .before .before .before .before .before .before .pre .0 .beside) (q .1) (c .before .before .before .before .before .before .before .before .before .before .loop-test .taken) (λ h. c .before .before .before .before .before .before .before .if1 .left (c .before .before .before .before .before .before .before .before .shape .ensures (q .0) (q .1 .part) ∙ h)) e in
+    omega (arith, room (c .before .before .before .before .before), c .before .before .write-row .ensures _ _ b e .many ∙ here-long (c .before .before .before .before .before .before .before .before .shape .result) (before (c .before .before .before .before .before .before .before .before .before .before .before .before .before .before .before .args .toks .now) (c .before .before .before .before .before .before .before .before .before .before .before .loop .i)) (q .0) (q .2 .narrow (c .before .before .before .before .before .before .before .before .before .before .before .before .before .before .before .pre .0 .narrow)))
 
 loop-again-2 : tie.Need-loop-again-2 Inv-loop μ-loop
 loop-again-2 c = (
@@ -91,7 +92,7 @@ loop-again-2 c = (
   c .before .out .given .1 ∙ c .before .before .before .before .before .before .before .before .before .before .before .loop .inv .1,
   next-token (c .before .before .before .before .before .before .before .before .before .before .before .loop .inv .2) (c .before .before .before .before .before .before .before .before .before .before .loop-test .taken) (λ j h p g.
       let e = c .before .before .before .before .before .items .ensures .1 h (p .part) in
-      let b = records-items (c .before .before .before .before .before .before .before .before .before .before .before .before .before .before .before .pre .1 .beside) p (c .before .before .before .before .before .before .before .before .before .before .loop-test .taken) (λ x. c .before .before .before .before .before .before .before .if1 .left (c .before .before .before .before .before .before .before .before .shape .ensures h (p .part) ∙ x)) e in
+      let b = records-items (c .before .before .before .before .before .before .before .before .before .before .before .before .before .before .before .pre .0 .beside) p (c .before .before .before .before .before .before .before .before .before .before .loop-test .taken) (λ x. c .before .before .before .before .before .before .before .if1 .left (c .before .before .before .before .before .before .before .before .shape .ensures h (p .part) ∙ x)) e in
       rowing-node (c .before .before .before .before .before .before .before .before .shape .result) p (c .before .before .before .before .before .before .before .before .before .before .loop-test .taken) (c .before .before .before .before .before .before .before .before .shape .ensures h (p .part)) (c .before .before .before .before .before .before .before .if1 .left) (c .before .before .write-row .ensures _ _ b e) g),
 )
 

@@ -2,17 +2,18 @@ use mathlib.Core.Path.{refl, sym, _∙_}
 use mathlib.Core.Bool.{true≢false}
 use Prim.Native.Nat.{_≤_}
 use native.Mathlib.Omega.{arith}
-use Rattle.table_sweep.proofs.Keeping.{leaf-kept, leaf-read, leaf-in, leaf-out}
+use Rattle.table_sweep.proofs.Keeping.{same-records, leaf-kept, leaf-read, leaf-in, leaf-out}
 use borrow.Author.Needs.{needs}
 use Rattle.table_sweep.proofs.read_leaf.Statement.{statement}
 use Rattle.table_sweep.proofs.read_leaf.Tie as tie
 
 returns-3 : tie.Need-returns-3
-returns-3 c = (tt, λ S x g ls k w. true≢false (sym (c .if3 .taken) ∙ c .before .test .ensures ∙ leaf-read (c .before .before .before .before .before .before .before .args .n) (c .before .before .before .before .before .before .before .args .b) k (w .low) (c .before .before .before .before .before .before .before .pre .0) ∙ w .unread))
+returns-3 c = (tt, (λ j l. refl), λ S x g ls k w. true≢false (sym (c .if3 .taken) ∙ c .before .test .ensures ∙ leaf-read (c .before .before .before .before .before .before .before .args .n) (c .before .before .before .before .before .before .before .args .b) k (w .low) (c .before .before .before .before .before .before .before .pre .0) ∙ w .unread))
 
 returns-4 : tie.Need-returns-4
 returns-4 c = (
   (omega arith, omega arith, omega arith),
+  same-records (c .before .before .before .before .before .before .before .before .before .before .before .before .before .before .before .args .work .now) (c .before .before .before .before .before .before .set .last .0) (c .before .before .before .before .before .before .before .before .before .before .before .before .before .before .before .pre .1) (c .before .before .before .before .before .before .set .kept .0),
   λ S x g ls k.
       let z = leaf-kept (c .before .before .before .before .before .before .before .before .before .before .before .before .before .before .before .args .b) (c .before .before .before .before .before .before .set .last .0) k (c .before .before .before .before .before .before .set .ensures) in
       let low : 2 ≤ c .before .before .before .before .before .before .before .before .before .before .before .before .before .before .before .args .b = omega arith in (
@@ -27,6 +28,7 @@ returns-4 c = (
 returns-5 : tie.Need-returns-5
 returns-5 c = (
   (omega arith, omega arith, omega arith),
+  same-records (c .before .before .before .before .before .before .before .before .before .before .before .before .before .before .before .args .work .now) (c .before .before .before .before .before .before .set .last .0) (c .before .before .before .before .before .before .before .before .before .before .before .before .before .before .before .pre .1) (c .before .before .before .before .before .before .set .kept .0),
   λ S x g ls k.
       let z = leaf-kept (c .before .before .before .before .before .before .before .before .before .before .before .before .before .before .before .args .b) (c .before .before .before .before .before .before .set .last .0) k (c .before .before .before .before .before .before .set .ensures) in
       let low : 2 ≤ c .before .before .before .before .before .before .before .before .before .before .before .before .before .before .before .args .b = omega arith in (

@@ -1,20 +1,16 @@
-use native.Mathlib.Omega.{arith}
 use borrow.Author.Needs.{needs}
-use Rattle.table_walk.proofs.Roots.{no-tree, small-loaded, root-there, large-loaded}
+use Rattle.table_walk.proofs.Roots.{no-tree, some-tree}
 use Rattle.table_walk.proofs.load.Statement.{statement}
 use Rattle.table_walk.proofs.load.Tie as tie
 
 returns : tie.Need-returns
 returns c = no-tree _ (c .before .holds .ensures) (c .if1 .taken)
 
+walk-requires : tie.Need-walk-requires
+walk-requires c κs = (c .before .before .before .before .before .pre .0, c .before .before .before .before .before .pre .1, c .before .before .before .before .before .pre .3, some-tree _ (c .before .before .holds .ensures) (c .before .if1 .left))
+
 returns-2 : tie.Need-returns-2
-returns-2 c = small-loaded (c .before .before .before .before .before .before .before .before .before .args .n) (c .before .before .before .before .before .before .before .before .before .args .table .now) (c .before .before .before .before .before .before .before .before .before .args .out .now) (c .before .before .before .before .before .before .before .before .before .pre .0) (c .before .before .before .before .before .before .before .before .before .pre .1) (c .before .before .before .before .before .before .holds .ensures) (c .before .before .before .before .before .if1 .left) (c .before .before .before .before .if2 .taken) (c .before .before .fresh .ensures .1)
-
-walk-node-requires : tie.Need-walk-node-requires
-walk-node-requires c κs = root-there (c .before .before .before .before .before .before .args .n) (c .before .before .before .before .before .before .args .table .now) (c .before .before .before .before .before .before .args .out .now) (c .before .before .before .before .before .before .pre .0) (c .before .before .before .before .before .before .pre .1) (c .before .before .before .holds .ensures) (c .before .before .if1 .left) (omega arith) (c .before .before .before .before .before .before .pre .3)
-
-returns-3 : tie.Need-returns-3
-returns-3 c = large-loaded (c .before .before .before .before .before .before .before .before .before .args .n) (c .before .before .before .before .before .before .before .before .before .args .table .now) (c .before .before .before .before .before .before .before .before .before .args .out .now) (c .before .before .before .before .before .before .before .before .before .pre .0) (c .before .before .before .before .before .before .before .before .before .pre .1) (c .before .before .before .before .before .before .holds .ensures) (c .before .before .before .before .before .if1 .left) (omega arith) (c .before .before .before .before .before .before .before .before .before .pre .3) (c .before .before .walk-node .ensures)
+returns-2 c = let p = some-tree _ (c .before .before .before .before .before .holds .ensures) (c .before .before .before .before .if1 .left) in (p .0, p .1, c .before .before .walk .ensures (p .0) (p .1))
 
 pub load-spec : {M : Type 1} → statement M
 load-spec =
@@ -22,9 +18,6 @@ load-spec =
     (tie.spec
     (λ c κs. search needs)
     returns
-    (λ c κs. search needs)
+    walk-requires
     (λ c. search needs)
-    returns-2
-    walk-node-requires
-    (λ c. search needs)
-    returns-3)
+    returns-2)

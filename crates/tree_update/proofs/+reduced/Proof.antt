@@ -165,25 +165,40 @@ reduced-returns-3 t c = (
       (c .before .before .before .before .circle .ensures .1 _ _ (inner j) (front t (c .before .before .before .before .before .before .before .before .before .before .before .before .before .before .before .before .before .before .before .before) j e) (c .before .before .before .before .before .before .before .rest .ensures .1 _ y) (c .before .before .before .before .before .before .before .before .before .before .before .before .before .before .reduced .ensures .1 _ y)),
 )
 
+reduced-sub-seat : (t : ℕ) → reduced-lts.Need-sub-seat (reduced-calls t) (reduced-at t) reduced.Post
+reduced-sub-seat t c = omega arith
+
+reduced-part-seat-start : (t : ℕ) → reduced-lts.Need-part-seat-start (reduced-calls t) (reduced-at t) reduced.Post
+reduced-part-seat-start t c = omega arith
+
+reduced-part-seat-end : (t : ℕ) → reduced-lts.Need-part-seat-end (reduced-calls t) (reduced-at t) reduced.Post
+reduced-part-seat-end t c = omega (arith, c .before .before .before .before .before .before .before .before .before .before .before .span .ensures .0)
+
+reduced-rest-requires-2 : (t : ℕ) → reduced-lts.Need-rest-requires-2 (reduced-calls t) (reduced-at t) reduced.Post
+reduced-rest-requires-2 t c κs = let y = others t (c .before .before .before .before .before .before .before .before .before .before .before .before) (c .before .before .before .before .before .before .before .before .before .before .before .before .before .before .before .before .before .before .before .before .before .pre .1 .0 .0) (c .before .before .before .before .before .before .before .before .before .before .before .before .before .before .before .before .before .before .before .before .before .pre .1 .0 .1) in ((_, y), omega (arith, ap length y, lone-some (beyond (is-state 0) (items-of (c .before .before .before .before .before .before .before .before .before .before .before .before .before .before .before .before .before .before .before .before .before .pre .1 .0 .0))) (only t (c .before .before .before .before .before .before .before .before .before) (c .before .before .before .before .before .before .before .before .before .before .before .before .before .before .before .before .before .before .before .before .before .pre .1 .0 .0) (c .before .before .before .before .before .before .before .before .before .before .before .before .before .before .before .before .before .before .before .before .before .pre .1 .0 .1))))
+
 reduced-seat-requires : (t : ℕ) → reduced-lts.Need-seat-requires (reduced-calls t) (reduced-at t) reduced.Post
 reduced-seat-requires t c κs =
-    let y = others t (c .before .before .before .before .before .before .before .before .before .before .before .before .before) (c .before .before .before .before .before .before .before .before .before .before .before .before .before .before .before .before .before .before .before .before .before .before .pre .1 .0 .0) (c .before .before .before .before .before .before .before .before .before .before .before .before .before .before .before .before .before .before .before .before .before .before .pre .1 .0 .1) in
-    let i = c .before .before .before .before .before .before .before .reduced .ensures .1 _ y in
-    let l = round-p-length (c .before .before .before .before .before .before .before .before .before .before .before .before .before .before .before .before .before .before .before .before .before .before .pre .1 .0 .0) (node t (c .before .before .before .before .before .before .before .before .before .before .before .before .before .before .before .before .before) (c .before .before .before .before .before .before .before .before .before .before .before .before .before .before .before .before .before .before .before .before .before .before .pre .1 .0 .0) (c .before .before .before .before .before .before .before .before .before .before .before .before .before .before .before .before .before .before .before .before .before .before .pre .1 .0 .1)) (λ h. c .before .before .if4 .left (c .before .before .before .before .before .before .before .before .before .before .before .before .before .before .before .before .before .before .shape .ensures (c .before .before .before .before .before .before .before .before .before .before .before .before .before .before .before .before .before .before .before .before .before .before .pre .1 .0 .0) (c .before .before .before .before .before .before .before .before .before .before .before .before .before .before .before .before .before .before .before .before .before .before .pre .1 .0 .1) ∙ h)) (partial t (c .before .before .before .before .before .before .before .before .before .before .before .before .before .before .before) (c .before .before .before .before .before .before .before .before .before .before .before .before .before .before .before .before .before .before .before .before .before .before .pre .1 .0 .0) (c .before .before .before .before .before .before .before .before .before .before .before .before .before .before .before .before .before .before .before .before .before .before .pre .1 .0 .1)) (only t (c .before .before .before .before .before .before .before .before .before .before) (c .before .before .before .before .before .before .before .before .before .before .before .before .before .before .before .before .before .before .before .before .before .before .pre .1 .0 .0) (c .before .before .before .before .before .before .before .before .before .before .before .before .before .before .before .before .before .before .before .before .before .before .pre .1 .0 .1)) in
-    ((_, c .before .before .before .before .before .before .before .before .before .before .before .before .before .before .items .ensures .1 (c .before .before .before .before .before .before .before .before .before .before .before .before .before .before .before .before .before .before .before .before .before .before .pre .1 .0 .0) (c .before .before .before .before .before .before .before .before .before .before .before .before .before .before .before .before .before .before .before .before .before .before .pre .1 .0 .1), omega (arith, i .held .many, l, c .before .before .before .before .before .before .before .before .before .before .before .before .before .before .before .before .before .before .before .before .before .before .pre .1 .0 .3)), (_, i), c .before .before .before .before .before .before .before .reduced .ensures .0, c .before .before .before .before .before .before .before .reduced .kept .1 .0 ∙ c .before .before .before .before .before .before .before .before .before .before .before .before .before .before .before .before .before .before .before .before .before .before .pre .1 .3, c .before .before .before .before .before .before .before .reduced .kept .1 .1 .0 ∙ c .before .before .before .before .before .before .before .before .before .before .before .before .before .before .before .before .before .before .before .before .before .before .pre .1 .4)
+    let a = front t (c .before .before .before .before .before .before .before .before .before .before .before .before .before .before .before) (c .before .before .before .before .before .before .before .before .before .before .before .before .before .before .before .before .before .before .before .before .before .before .before .before .pre .1 .0 .0) (c .before .before .before .before .before .before .before .before .before .before .before .before .before .before .before .before .before .before .before .before .before .before .before .before .pre .1 .0 .1) in
+    let y = others t (c .before .before .before .before .before .before .before .before .before .before .before .before .before .before .before) (c .before .before .before .before .before .before .before .before .before .before .before .before .before .before .before .before .before .before .before .before .before .before .before .before .pre .1 .0 .0) (c .before .before .before .before .before .before .before .before .before .before .before .before .before .before .before .before .before .before .before .before .before .before .before .before .pre .1 .0 .1) in
+    let b = c .before .before .rest2 .ensures .1 _ y in
+    let i = c .before .before .before .before .before .before .before .before .before .reduced .ensures .1 _ y in
+    let l = round-p-length (c .before .before .before .before .before .before .before .before .before .before .before .before .before .before .before .before .before .before .before .before .before .before .before .before .pre .1 .0 .0) (node t (c .before .before .before .before .before .before .before .before .before .before .before .before .before .before .before .before .before .before .before) (c .before .before .before .before .before .before .before .before .before .before .before .before .before .before .before .before .before .before .before .before .before .before .before .before .pre .1 .0 .0) (c .before .before .before .before .before .before .before .before .before .before .before .before .before .before .before .before .before .before .before .before .before .before .before .before .pre .1 .0 .1)) (λ h. c .before .before .before .before .if4 .left (c .before .before .before .before .before .before .before .before .before .before .before .before .before .before .before .before .before .before .before .before .shape .ensures (c .before .before .before .before .before .before .before .before .before .before .before .before .before .before .before .before .before .before .before .before .before .before .before .before .pre .1 .0 .0) (c .before .before .before .before .before .before .before .before .before .before .before .before .before .before .before .before .before .before .before .before .before .before .before .before .pre .1 .0 .1) ∙ h)) (partial t (c .before .before .before .before .before .before .before .before .before .before .before .before .before .before .before .before .before) (c .before .before .before .before .before .before .before .before .before .before .before .before .before .before .before .before .before .before .before .before .before .before .before .before .pre .1 .0 .0) (c .before .before .before .before .before .before .before .before .before .before .before .before .before .before .before .before .before .before .before .before .before .before .before .before .pre .1 .0 .1)) (only t (c .before .before .before .before .before .before .before .before .before .before .before .before) (c .before .before .before .before .before .before .before .before .before .before .before .before .before .before .before .before .before .before .before .before .before .before .before .before .pre .1 .0 .0) (c .before .before .before .before .before .before .before .before .before .before .before .before .before .before .before .before .before .before .before .before .before .before .before .before .pre .1 .0 .1)) in
+    ((_, a), (_, b), (_, i), c .before .before .before .before .before .before .before .before .before .reduced .ensures .0, omega (arith, ap length a, ap length b, i .held .many, l, c .before .before .before .before .before .before .before .before .before .before .before .before .before .before .before .before .before .before .before .before .before .before .before .before .pre .1 .0 .3), c .before .before .before .before .before .before .before .before .before .reduced .kept .1 .0 ∙ c .before .before .before .before .before .before .before .before .before .before .before .before .before .before .before .before .before .before .before .before .before .before .before .before .pre .1 .3, c .before .before .before .before .before .before .before .before .before .reduced .kept .1 .1 .0 ∙ c .before .before .before .before .before .before .before .before .before .before .before .before .before .before .before .before .before .before .before .before .before .before .before .before .pre .1 .4)
 
 reduced-same-length-5 : (t : ℕ) → reduced-lts.Need-same-length-5 (reduced-calls t) (reduced-at t) reduced.Post
-reduced-same-length-5 t c = c .before .before .before .before .seat .kept .1 .1 .0 ∙ c .before .before .before .before .before .before .before .before .before .before .before .before .reduced .kept .1 .0
+reduced-same-length-5 t c = c .before .before .before .before .seat .kept .1 .1 .1 .0 ∙ c .before .before .before .before .before .before .before .before .before .before .before .before .before .before .reduced .kept .1 .0
 
 reduced-same-length-6 : (t : ℕ) → reduced-lts.Need-same-length-6 (reduced-calls t) (reduced-at t) reduced.Post
-reduced-same-length-6 t c = c .before .before .before .before .seat .kept .1 .1 .1 .0 ∙ c .before .before .before .before .before .before .before .before .before .before .before .before .reduced .kept .1 .1 .0
+reduced-same-length-6 t c = c .before .before .before .before .seat .kept .1 .1 .1 .1 .0 ∙ c .before .before .before .before .before .before .before .before .before .before .before .before .before .before .reduced .kept .1 .1 .0
 
 reduced-returns-4 : (t : ℕ) → reduced-lts.Need-returns-4 (reduced-calls t) (reduced-at t) reduced.Post
 reduced-returns-4 t c = (
   c .before .before .before .before .seat .ensures .0,
   λ j e.
-      rw (round-p j (node t (c .before .before .before .before .before .before .before .before .before .before .before .before .before .before .before .before .before .before .before .before .before .before) j e) (λ h. c .before .before .before .before .before .before .before .if4 .left (c .before .before .before .before .before .before .before .before .before .before .before .before .before .before .before .before .before .before .before .before .before .before .before .shape .ensures j e ∙ h)) (partial t (c .before .before .before .before .before .before .before .before .before .before .before .before .before .before .before .before .before .before .before .before) j e) (only t (c .before .before .before .before .before .before .before .before .before .before .before .before .before .before .before) j e))
-      (c .before .before .before .before .seat .ensures .1 _ (inner j) (c .before .before .before .before .before .before .before .before .before .before .before .before .before .before .before .before .before .before .before .items .ensures .1 j e) (c .before .before .before .before .before .before .before .before .before .before .before .before .reduced .ensures .1 _ (others t (c .before .before .before .before .before .before .before .before .before .before .before .before .before .before .before .before .before .before) j e))),
+      let y = others t (c .before .before .before .before .before .before .before .before .before .before .before .before .before .before .before .before .before .before .before .before) j e in
+      rw (round-p j (node t (c .before .before .before .before .before .before .before .before .before .before .before .before .before .before .before .before .before .before .before .before .before .before .before .before) j e) (λ h. c .before .before .before .before .before .before .before .before .before .if4 .left (c .before .before .before .before .before .before .before .before .before .before .before .before .before .before .before .before .before .before .before .before .before .before .before .before .before .shape .ensures j e ∙ h)) (partial t (c .before .before .before .before .before .before .before .before .before .before .before .before .before .before .before .before .before .before .before .before .before .before) j e) (only t (c .before .before .before .before .before .before .before .before .before .before .before .before .before .before .before .before .before) j e))
+      (c .before .before .before .before .seat .ensures .1 _ _ (inner j) (front t (c .before .before .before .before .before .before .before .before .before .before .before .before .before .before .before .before .before .before .before .before) j e) (c .before .before .before .before .before .before .before .rest2 .ensures .1 _ y) (c .before .before .before .before .before .before .before .before .before .before .before .before .before .before .reduced .ensures .1 _ y)),
 )
 
 reduced-base-c-requires : (t : ℕ) → reduced-lts.Need-base-c-requires (reduced-calls t) (reduced-at t) reduced.Post
@@ -244,6 +259,10 @@ pub +reduced-spec : {M : Type 1} → statement M
     (reduced-same-length-3 t)
     (reduced-same-length-4 t)
     (reduced-returns-3 t)
+    (reduced-sub-seat t)
+    (reduced-part-seat-start t)
+    (reduced-part-seat-end t)
+    (reduced-rest-requires-2 t)
     (reduced-seat-requires t)
     (reduced-same-length-5 t)
     (reduced-same-length-6 t)

@@ -1,0 +1,34 @@
+use mathlib.Core.Path.{_∙_}
+use Rattle.mark_words.specs.Marks.{marked}
+use Rattle.mark_words.proofs.Steps.{four-words}
+use Rattle.call_trial.proofs.Laws.{side-waits}
+use borrow.Author.Needs.{needs}
+use Rattle.call_trial.proofs.prepare.Statement.{statement}
+use Rattle.call_trial.proofs.prepare.Tie as tie
+
+returns : tie.Need-returns
+returns c = (
+  c .before .before .before .before .before .before .before .before .before .before .before .before .before .before .check-group .ensures,
+  record {
+    side = marked (c .before .before .before .before .before .before .take-side .last .0);
+    waits = side-waits (marked (c .before .before .before .before .before .before .take-side .last .0)) (λ m. c .before .before .before .before .before .before .take-side .ensures (c .before .before .before .before .before .before .before .before .before .before .before .before .before .before .before .before .before .before .before .before .args .list .now) (four-words (c .before .before .before .before .before .before .before .before .before .before .before .before .before .before .check-group .last .1 .1 .1 .1 .1 .0) (c .before .before .before .before .before .before .before .before .before .before .before .before .before .before .check-group .kept .1 .1 .1 .1 .1 .0 ∙ c .before .before .before .before .before .before .before .before .before .before .before .before .before .before .before .before .before .before .before .before .pre .0) ∙ m)) (c .before .before .before .before .before .before .before .before .before .before .before .before .before .before .check-group .ensures);
+    started = c .before .before .begin .ensures (c .before .before .before .before .before .before .before .before .before .before .before .before .before .before .before .before .before .before .before .before .args .n);
+  },
+)
+
+pub prepare-spec : {M : Type 1} → statement M
+prepare-spec =
+    tie.close
+    (tie.spec
+    (λ c κs. search needs)
+    (λ c. search needs)
+    (λ c. search needs)
+    (λ c. search needs)
+    (λ c. search needs)
+    (λ c. search needs)
+    (λ c κs. search needs)
+    (λ c. search needs)
+    (λ c κs. search needs)
+    (λ c. search needs)
+    (λ c. search needs)
+    returns)
