@@ -51,7 +51,7 @@ enum tokuwhape_answer {
 
 /* A node record, 257 numbers: docs/NODE-TABLE.md. */
 typedef struct {
-    uint16_t kind;                  /* 0 unused, 1 a P-node, 2 a C-node */
+    uint16_t kind;                  /* 0 unused, 1 a P-node, 2 a C-node, which has three items or more */
     uint16_t count;                 /* how many items */
     uint16_t items[TOKUWHAPE_ITEMS]; /* a bin, or 256 plus the number of a record; then zeros */
 } tokuwhape_node;
@@ -89,13 +89,12 @@ uint8_t tokuwhape_conflict(size_t n, const uint64_t *book, size_t words, size_t 
 /* Writes the tree text, then zeros, to the first 2,048 bytes. *value: the length of the text. */
 uint8_t tokuwhape_write(size_t n, const tokuwhape_node *nodes, size_t numbers, uint8_t *bytes, size_t places, size_t *value);
 
-/* Reads a tree text for n bins, lent without zeros after it: the node table gets its tree, and the book is emptied. *value: the count of
- * groups, 0. */
+/* Reads a tree text for n bins, lent without zeros after it: the node table gets its tree, a P-node where the text has a C-node with two
+ * items, and the book is emptied. *value: the count of groups, 0. */
 uint8_t tokuwhape_read(size_t n, tokuwhape_node *nodes, size_t numbers, uint64_t *book, size_t words, const uint8_t *text, size_t length,
                        size_t *value);
 
-/* Writes the tree that allows exactly the orders allowed by the tree of n bins and by that of m to the third node table. A node with three
- * neighbours is a P-node there. *value: 0. */
+/* Writes the tree that allows exactly the orders allowed by the tree of n bins and by that of m to the third node table. *value: 0. */
 uint8_t tokuwhape_intersect(size_t n, const tokuwhape_node *nodes, size_t nodes_numbers, size_t m, const tokuwhape_node *other,
                             size_t other_numbers, tokuwhape_node *third, size_t third_numbers, size_t *value);
 

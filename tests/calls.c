@@ -89,12 +89,19 @@ static void reading(void) {
     nodes[0].kind = 258;
     EXPECT(tokuwhape_order(5, nodes, NUMBERS, order, 5, &value), TOKUWHAPE_NOT_IN_FORM, 0);
     nodes[0].kind = 2;
+    nodes[1].kind = 2; /* a C-node with two items */
+    EXPECT(tokuwhape_order(5, nodes, NUMBERS, order, 5, &value), TOKUWHAPE_NOT_IN_FORM, 0);
+    nodes[1].kind = 1;
 }
 
 /* The reader of texts, which overwrites the tables, and a full book, its first group an empty one. */
 static void filling(void) {
     EXPECT(tokuwhape_read(5, nodes, NUMBERS, book, WORDS, (const uint8_t *)"1 P(2 3 4)", 10, &value), TOKUWHAPE_TREE_TEXT, 9);
+    EXPECT(tokuwhape_read(5, nodes, NUMBERS, book, WORDS, (const uint8_t *)"1 C(C(4 2) 3 5)", 15, &value), TOKUWHAPE_TREE_TEXT, 6);
     HOLDS(memcmp(kept, nodes, sizeof nodes) == 0);
+    nodes[0].kind = nodes[1].kind = 7;
+    EXPECT(tokuwhape_read(5, nodes, NUMBERS, book, WORDS, (const uint8_t *)"1 C(C(2 4) 5 3)", 15, &value), TOKUWHAPE_DONE, 0);
+    HOLDS(memcmp(kept, nodes, sizeof nodes) == 0 && book[0] == 0);
     EXPECT(tokuwhape_read(5, nodes, MORE, book, WORDS + 1, (const uint8_t *)"1 P(2 3 4 5)", 12, &value), TOKUWHAPE_DONE, 0);
     HOLDS(nodes[0].kind == 1 && nodes[0].count == 4 && nodes[0].items[3] == 5 && nodes[1].kind == 0 && book[0] == 0);
     EXPECT(tokuwhape_join(5, nodes, MORE, book, WORDS + 1, 0, order, 0, &value), TOKUWHAPE_DONE, 1);

@@ -176,7 +176,8 @@ RING = [
         rows="call_text",
         promise="ReadPromise",
         lent="n nodes! book! text",
-        does="Reads a tree text for n leaves, lent without zeros after it: the node table gets its tree, and the book is emptied.",
+        does="Reads a tree text for n leaves, lent without zeros after it: the node table gets its tree, a P-node where the text has a C-node with two "
+        "items, and the book is emptied.",
         value="the count of groups, 0",
         refuses="1, 2, 12",
     ),
@@ -186,8 +187,7 @@ RING = [
         rows="call_intersection",
         promise="IntersectPromise",
         lent="n nodes m other third!",
-        does="Writes the tree that allows exactly the orders allowed by the tree of n leaves and by that of m to the third node table. A node with three "
-        "neighbours is a P-node there.",
+        does="Writes the tree that allows exactly the orders allowed by the tree of n leaves and by that of m to the third node table.",
         value="0",
         refuses="1, 2, 13, 3, 8",
     ),

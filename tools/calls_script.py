@@ -274,7 +274,7 @@ def large(s):
         s.text(n)
         for k in range(1, 97, 5):
             s.aim(n, 96, k)
-    # as many nodes as there can be, 254
+    # as many nodes as there can be, 254, every second one named C: each is read as a P-node
     n = 256
     s.open(n)
     text = "1 " + "".join("%s(%d " % ("PC"[k % 2], k) for k in range(2, n)) + str(n) + ")" * (n - 2)
@@ -453,6 +453,84 @@ def random_empty(s, r):
             s.aim(n, 8, k)
 
 
+# ---- nodes with three neighbours
+
+def two_items(text):
+    """The places of a tree text's letters whose nodes have two items."""
+    places, opened = [], []
+    for i, b in enumerate(text):
+        if b in b"PC":
+            opened.append([i, 1])
+        elif b in b" " and opened:
+            opened[-1][1] += 1
+        elif b in b")":
+            i, items = opened.pop()
+            places += [i] * (items == 2)
+    return sorted(places)
+
+
+def held_threes(s, n):
+    """The table with each of its nodes of two items as a C-node, lent to each call that looks at one."""
+    kept = s.kept()
+    for i in range(0, ROWS, ROW):
+        if kept[0][i:i + 2] == [1, 2]:
+            s.node(i, 2)
+            ask(s, n, 0, [1, n], s.kept(), "JTSAW")
+            s.restore(kept)
+
+
+def threes(s):
+    """Texts that name a C-node with two items, in its direction and in the other, and tables that hold one."""
+    cases = [
+        (3, "1 C(2 3)", ["1 C(3 2)", "1 P(3 2)"]),
+        (4, "1 C(2 C(3 4))", ["1 C(C(3 4) 2)", "1 C(2 C(4 3))", "1 C(2 C(4 3)", "1 C(4 C(3 2))", "1 P(4 C(3 2))", "1 C(C(3) 4)"]),
+        (5, "1 C(C(2 5) 4 3)", ["1 C(C(5 2) 4 3)", "1 C(4 C(5 2) 3)", "1 C(3 4 C(2 5))", "1 C(5 C(4 3) 2)"]),
+        (5, "1 C(C(3 2 4) 5)", ["1 C(5 C(3 2 4))", "1 C(C(4 2 3) 5)"]),
+        (7, "1 C(C(2 6) P(3 C(4 7)) 5)", ["1 C(C(2 6) P(3 C(7 4)) 5)", "1 C(5 P(C(4 7) 3) C(2 6))", "1 P(C(2 6) P(3 C(4 7)) 5)"]),
+    ]
+    for n, text, others in cases:
+        s.open(n)
+        for t in [text] + others:
+            if s.read(n, t.encode())[0] == 0:
+                s.text(n)
+                s.order(n)
+        held_threes(s, n)
+        count = 0
+        for g in ([2, n], [1, 2], whole(n)[1:-1]):
+            s.trial(n, count, g)
+            count += s.join(n, count, g)[0] == 0
+            s.text(n)
+    # as many C-nodes one in another as there can be, 127
+    n = 256
+    text = "1 " + "".join("C(%d %d " % (k, k + 1) for k in range(2, n, 2)) + str(n) + ")" * 127
+    for last in ("256 255 254", "254 C(255 256)", "254 255 256"):
+        s.read(n, text.replace("254 255 256", last).encode())
+        s.order(n)
+        s.text(n)
+    for g in ([255, 256], [254, 256], [1, 2, 256], [2, 3], [2, 4], [4, 5], list(range(100, 257)), list(range(101, 257))):
+        s.trial(n, 0, g)
+    s.join(n, 0, [1, 256])
+    s.join(n, 1, [4, 5])
+    s.text(n)
+
+
+def random_threes(s, r):
+    """Random trees whose texts name some of the nodes with two items C."""
+    for _ in range(30):
+        n = 3 + r.below(12)
+        s.open(n)
+        count = 0
+        for g in random_groups(r, n, 6):
+            count += s.join(n, count, g)[0] == 0
+        text = s.tree_text(n)
+        places = two_items(text)
+        for i in places:
+            text[i] = r.pick(b"PC")
+        s.read(n, text)
+        s.text(n)
+        held_threes(s, n)
+
+
 def main():
     s = Script()
     r = Random(20260101)
@@ -463,6 +541,8 @@ def main():
     for part in (empty_lists, empty_marks, empty_aims):
         part(s)
     random_empty(s, r)
+    threes(s)
+    random_threes(s, r)
     folder = os.path.join(HERE, "crates", "test_calls")
     os.makedirs(os.path.join(folder, "data"), exist_ok=True)
     with open(os.path.join(folder, "data", "script.txt"), "w") as f:

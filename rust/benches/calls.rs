@@ -293,16 +293,22 @@ fn conflict_rows(n: usize) -> Vec<Row> {
     vec![("conflict, longest list", chain_conflict(n, &[1])), ("conflict, list of blocks", chain_conflict(n, &[2, 3]))]
 }
 
-/// The text of n leaves with one node in another, n - 2 deep, all of this kind (`C(` or `P(`), each before its leaf.
-fn deepest(kind: &str, n: usize) -> Vec<u8> {
+/// The text of n leaves with one P-node in another, n - 2 deep, each before its leaf.
+fn deepest(n: usize) -> Vec<u8> {
     let closed: String = (3..=n).map(|leaf| format!(" {leaf})")).collect();
-    format!("1 {}2{closed}", kind.repeat(n - 2)).into_bytes()
+    format!("1 {}2{closed}", "P(".repeat(n - 2)).into_bytes()
 }
 
-/// The text of n leaves with one C-node in another, n - 2 deep, each after its leaf.
+/// The text of n leaves with one P-node in another, n - 2 deep, each after its leaf.
 fn deepest_after(n: usize) -> Vec<u8> {
-    let opened: String = (2..n).map(|leaf| format!("C({leaf} ")).collect();
+    let opened: String = (2..n).map(|leaf| format!("P({leaf} ")).collect();
     format!("1 {opened}{n}{}", ")".repeat(n - 2)).into_bytes()
+}
+
+/// The text of n leaves, an even number, with one C-node in another, n / 2 - 1 deep, each before its two leaves.
+fn deepest_of_c_nodes(n: usize) -> Vec<u8> {
+    let closed: String = (3..n).step_by(2).map(|leaf| format!(" {leaf} {})", leaf + 1)).collect();
+    format!("1 {}2{closed}", "C(".repeat(n / 2 - 1)).into_bytes()
 }
 
 /// The text of n leaves with one C-node.
@@ -337,7 +343,7 @@ fn intersection_rows(n: usize) -> Vec<Row> {
     let groups = runs(SEED, n, 2 * GROUPS);
     let (one, other) = groups.split_at(GROUPS);
     let foreign = runs(OTHER_SEED, n, GROUPS);
-    let (before, after, rigid) = (deepest("C(", n), deepest_after(n), rigid(n));
+    let (before, after, rigid) = (deepest(n), deepest_after(n), rigid(n));
     vec![
         ("intersect", intersection(n, joining(one), joining(other), true)),
         ("intersect, none", intersection(n, joining(one), joining(&foreign), false)),
@@ -355,22 +361,24 @@ fn read_and_joined(n: usize, text: &[u8], group: &[u16]) -> [f64; 2] {
     })
 }
 
-/// The calls on the deepest tree of n leaves: the innermost pair, which it keeps together already; the next one, which changes the nodes at its end,
-/// here and in the deepest tree of P-nodes; and the pair with all nodes between.
+/// The calls on the deepest tree of n leaves: the innermost pair, which it keeps together already; the next one, which changes the nodes at its end;
+/// and the pair with all nodes between. Of the deepest tree of C-nodes: the last two pairs, and reading it.
 fn deep_rows(n: usize) -> Vec<Row> {
-    let text = deepest("C(", n);
+    let (text, of_c_nodes, last) = (deepest(n), deepest_of_c_nodes(n), n as u16);
     let deep = || changed(n, |ring| ring.read(&text));
-    let (inner, next, ends) = ([2, 3], [3, 4], [2, n as u16]);
+    let (inner, next, ends) = ([2, 3], [3, 4], [2, last]);
     vec![
         ("join, deepest tree, inner pair", read_and_joined(n, &text, &inner)),
         ("join, deepest tree, next pair", read_and_joined(n, &text, &next)),
-        ("join, deepest of P-nodes, next pair", read_and_joined(n, &deepest("P(", n), &next)),
         ("join, deepest tree, outer pair", read_and_joined(n, &text, &ends)),
+        ("join, deepest of C-nodes, next pair", read_and_joined(n, &of_c_nodes, &[4, 5])),
+        ("join, deepest of C-nodes, outer pair", read_and_joined(n, &of_c_nodes, &[2, last - 1])),
         ("trial, deepest tree, inner pair", short(deep(), |ring| ring.trial(black_box(&inner)))),
         ("trial, deepest tree, outer pair", short(deep(), |ring| ring.trial(black_box(&ends)))),
         ("order, deepest tree", short(deep(), |ring| ring.order())),
         ("write, deepest tree", short(deep(), |ring| ring.write())),
         ("read, deepest tree", short(deep(), |ring| ring.read(black_box(&text)))),
+        ("read, deepest of C-nodes", short(deep(), |ring| ring.read(black_box(&of_c_nodes)))),
     ]
 }
 

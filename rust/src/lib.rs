@@ -35,7 +35,7 @@ pub const FILE: usize = 65536;
 #[repr(C)]
 #[derive(Clone, Copy, PartialEq, Eq, Debug)]
 pub struct Node {
-    /// 0 unused, 1 a P-node, 2 a C-node.
+    /// 0 unused, 1 a P-node, 2 a C-node, which has three items or more.
     pub kind: u16,
     /// How many items.
     pub count: u16,
@@ -126,7 +126,8 @@ pub fn write(n: usize, nodes: &[Node], bytes: &mut [u8]) -> Result<usize, Refusa
     answer(|value| unsafe { symbols::tokuwhape_write(n, nodes.as_ptr(), numbers(nodes), bytes.as_mut_ptr(), bytes.len(), value) })
 }
 
-/// Reads a tree text of n leaves: writes its tree and an empty book. Returns the count of groups, 0.
+/// Reads a tree text of n leaves: writes its tree, a P-node where the text has a C-node with two items, and an empty book. Returns the count of
+/// groups, 0.
 pub fn read(n: usize, nodes: &mut [Node], book: &mut [u64], text: &[u8]) -> Result<usize, Refusal> {
     answer(|value| unsafe {
         let (tree, marks) = (nodes.as_mut_ptr(), book.as_mut_ptr());
@@ -134,8 +135,8 @@ pub fn read(n: usize, nodes: &mut [Node], book: &mut [u64], text: &[u8]) -> Resu
     })
 }
 
-/// Writes the tree that allows exactly the orders allowed by the tree of n leaves and by that of m to the third node table. A node with three
-/// neighbours is a P-node there. Returns 0.
+/// Writes the tree that allows exactly the orders allowed by the tree of n leaves and by that of m to the third node table.
+/// Returns 0.
 pub fn intersect(n: usize, nodes: &[Node], m: usize, other: &[Node], third: &mut [Node]) -> Result<usize, Refusal> {
     answer(|value| unsafe {
         let (one, two, both) = (nodes.as_ptr(), other.as_ptr(), third.as_mut_ptr());

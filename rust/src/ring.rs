@@ -40,15 +40,15 @@ impl Ring {
         Ok(ring)
     }
 
-    /// The ring of n leaves with the tree that the text describes, and an empty book.
+    /// The ring of n leaves with the tree that the text describes, a P-node where the text has a C-node with two items, and an empty book.
     pub fn from_text(n: usize, text: &str) -> Result<Ring, Refusal> {
         let mut ring = Ring::unopened(n);
         ring.count = crate::read(n, &mut ring.nodes, &mut ring.book, text.as_bytes())?;
         Ok(ring)
     }
 
-    /// The ring with the tree that allows exactly the orders allowed by both rings' trees, a node with three neighbours a P-node, and an empty book.
-    /// No book is read, so its conflict lists know no group of either ring.
+    /// The ring with the tree that allows exactly the orders allowed by both rings' trees, and an empty book. No book is read, so its conflict lists
+    /// know no group of either ring.
     pub fn intersect(&self, other: &Ring) -> Result<Ring, Refusal> {
         let mut both = Ring::unopened(self.n);
         crate::intersect(self.n, &self.nodes, other.n, &other.nodes, &mut both.nodes)?;

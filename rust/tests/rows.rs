@@ -98,19 +98,42 @@ fn circle_e_in_numbers() {
     assert_eq!(book.iter().filter(|word| **word != 0).count(), 2);
 }
 
+/// Checks that each call that looks at circle e's node table refuses it with this number at a place, and changes nothing.
+fn refused_with(at: usize, number: u16) {
+    let mut rows = circle_e(NUMBERS);
+    rows.numbers[at] = number;
+    let before = rows.clone();
+    for call in &CALLS[1..7] {
+        let mut value = 77;
+        assert_eq!((call(&mut rows, &mut value), value), (3, 0));
+        assert!(rows == before);
+    }
+}
+
 /// A kind above 255 is no kind, whatever its low byte.
 #[test]
 fn kinds_above_a_byte_are_refused() {
     for (at, kind) in [(0, 258), (0, 512), (257, 257), (257, 65_281), (514, 256), (255 * 257, 65_280)] {
-        let mut rows = circle_e(NUMBERS);
-        rows.numbers[at] = kind;
-        let before = rows.clone();
-        for call in &CALLS[1..7] {
-            let mut value = 77;
-            assert_eq!((call(&mut rows, &mut value), value), (3, 0));
-            assert!(rows == before);
-        }
+        refused_with(at, kind);
     }
+}
+
+/// A C-node has at least four neighbours: a table that holds one with three is refused, and a text that names one is read as a P-node there.
+#[test]
+fn three_neighbours() {
+    refused_with(257, 2);
+    let cases = [
+        (3, "1 C(2 3)", "1 P(2 3)"),
+        (4, "1 C(2 C(3 4))", "1 P(2 P(3 4))"),
+        (5, "1 C(C(2 4) 5 3)", "1 C(P(2 4) 5 3)"),
+        (5, "1 C(C(3 2 4) 5)", "1 P(C(3 2 4) 5)"),
+    ];
+    for (n, text, written) in cases {
+        let ring = Ring::from_text(n, text).unwrap();
+        assert_eq!((ring.text().as_str(), Ring::from_text(n, written)), (written, Ok(ring.clone())));
+    }
+    assert_eq!(Ring::from_text(3, "1 C(3 2)"), Err(Refusal::TreeText(4)));
+    assert_eq!(Ring::from_text(3, "1 P(3 2)"), Err(Refusal::TreeText(6)));
 }
 
 #[test]
@@ -212,6 +235,4 @@ fn two_rings_intersect() {
     assert_eq!(both.intersect(&joined(&[[1, 5]])), Err(Refusal::Impossible));
     assert_eq!(both.intersect(&Ring::new(6).unwrap()), Err(Refusal::BinCounts));
     assert_eq!((Refusal::BinCounts.number(), Refusal::BinCounts.place()), (13, None));
-    let narrow = Ring::from_text(3, "1 C(2 3)").unwrap();
-    assert_eq!(narrow.intersect(&narrow).unwrap().text(), "1 P(2 3)");
 }

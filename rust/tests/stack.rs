@@ -4,10 +4,18 @@ use tokuwhape::{Refusal, Ring};
 
 const STACK: usize = 1 << 20;
 
-/// The text of 256 leaves with one node in another, 254 deep, of these kinds in turn.
-fn deepest(kinds: [char; 2]) -> String {
-    let opened: String = (2..256).map(|leaf| format!("{}({leaf} ", kinds[leaf % 2])).collect();
-    format!("1 {opened}256{}", ")".repeat(254))
+/// The text of 256 leaves with one node in another, of these kinds in turn: a P-node has one leaf before the node in it, a C-node two.
+fn deepest(kinds: &str) -> String {
+    let (mut text, mut leaf, mut depth) = (String::from("1 "), 2, 0);
+    for kind in kinds.chars().cycle() {
+        if leaf == 256 {
+            break;
+        }
+        let after = leaf + if kind == 'P' { 1 } else { 2 };
+        text += &format!("{kind}({}", (leaf..after).map(|leaf| format!("{leaf} ")).collect::<String>());
+        (leaf, depth) = (after, depth + 1);
+    }
+    format!("{text}256{}", ")".repeat(depth))
 }
 
 /// Makes every call on the tree of this text.
@@ -27,6 +35,6 @@ fn every_call(text: &str) {
 
 #[test]
 fn a_mebibyte_of_stack_is_enough() {
-    let calls = || [['P', 'P'], ['P', 'C'], ['C', 'C']].map(deepest).iter().for_each(|text| every_call(text));
+    let calls = || ["P", "CP", "C"].map(deepest).iter().for_each(|text| every_call(text));
     thread::Builder::new().stack_size(STACK).spawn(calls).expect("a thread").join().expect("every call");
 }

@@ -5,8 +5,7 @@ ghost use Rattle.spec_calls.specs.Tables.{lent-rows};
 ghost use Rattle.spec_calls.specs.Refusals.{reply};
 ghost use Rattle.spec_calls.specs.Promises.{IntersectPromise};
 
-// Writes the tree that allows exactly the orders allowed by the tree of n leaves and by that of m to the third node table. A node with three
-// neighbours is a P-node there. The value is 0.
+// Writes the tree that allows exactly the orders allowed by the tree of n leaves and by that of m to the third node table. The value is 0.
 #[no_mangle]
 pub extern "C" fn tokuwhape_intersect(
     n: usize,

@@ -20,8 +20,8 @@ pub extern "C" fn tokuwhape_write(
     spec_calls::code(answer, value)
 }
 
-// Reads a tree text for n leaves, lent without zeros after it: the node table gets its tree, and the book is emptied. The value is the count of
-// groups, 0.
+// Reads a tree text for n leaves, lent without zeros after it: the node table gets its tree, a P-node where the text has a C-node with two items, and
+// the book is emptied. The value is the count of groups, 0.
 #[no_mangle]
 pub extern "C" fn tokuwhape_read(
     n: usize,

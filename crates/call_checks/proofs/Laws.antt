@@ -46,7 +46,7 @@ module _ (nodes : Nodes) (other : Bool) where
 
   -- Where none of them refuses.
   holds-lent : first-refusal (table-checks nodes other) ≡ none → (t : Forest) → Holds (leaves nodes) (nodes .rows) t → LentTree nodes t
-  holds-lent e t h = let w = tables-whole nodes other e in record { some-leaf = w .0; few-leaves = w .1; all-records = w .2; all-rows = w .3; tree = h }
+  holds-lent e t h = let w = tables-whole nodes other e in record { whole = record { some-leaf = w .0; few-leaves = w .1; all-records = w .2; all-rows = w .3 }; tree = h }
 
 -- Of a ring that is to be made: room for its tree and its book.
 pub room-passed : (nodes : Nodes) (words : List ℕ) → first-refusal (table-checks nodes (short 384 words)) ≡ none

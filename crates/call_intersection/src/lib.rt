@@ -69,8 +69,8 @@ fn common(n: usize, nodes: &[u16], other: &[u16], out: &mut [u16]) -> Lent
     Lent::Tree(size)
 }
 
-// Writes the tree that allows exactly the orders allowed by the tree of n leaves and by that of m to the third node table. A node with three
-// neighbours is a P-node there. Answers 0; or refuses (1, 2, 13, 3, 8), and leaves every table as it was.
+// Writes the tree that allows exactly the orders allowed by the tree of n leaves and by that of m to the third node table. Answers 0; or refuses
+// (1, 2, 13, 3, 8), and leaves every table as it was.
 pub fn intersect(
     n: usize,
     nodes: &[u16],

@@ -53,7 +53,7 @@ module _ (book : Book) (k : ℕ) (t : Forest) where
 pub order-room : {toks : List ℕ} {book : Book} (h : Lends toks book) → length (standard (tree (plain (h .shown)))) ≤ 256
 order-room h =
     let e = tree-plain (h .shown) in
-    rw e (omega (arith, form-length (leaves (h .nodes)) (h .shown) (h .lent .tree .in-form), h .lent .some-leaf, h .lent .few-leaves))
+    rw e (omega (arith, form-length (leaves (h .nodes)) (h .shown) (h .lent .tree .in-form), h .lent .whole .some-leaf, h .lent .whole .few-leaves))
 
 -- The checks after the ring's, as the code makes them.
 last-checks : (a e b : Bool) (v : ℕ)

@@ -24,7 +24,7 @@ module _ (nodes : Nodes) (order : List ℕ) where
 
   module _ (old toks : List ℕ) (k : ℕ) (h : TreeLent nodes (short (nodes .bins) order) old toks k) where
     pub order-length : length (standard (h .tree)) ≡ nodes .bins
-    order-length = omega (arith, form-length (leaves nodes) (h .tree) (h .lent .tree .in-form), h .lent .some-leaf)
+    order-length = omega (arith, form-length (leaves nodes) (h .tree) (h .lent .tree .in-form), h .lent .whole .some-leaf)
 
     pub order-done : (order′ : List ℕ) (m : ℕ) → Wrote (standard (h .tree)) order order′ m → filled-as (reply 0 m) order′ ≡ order-call nodes order
     unfolding order-call order-refusal

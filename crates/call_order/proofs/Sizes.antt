@@ -50,9 +50,9 @@ group-within nodes t book k h b m e =
     record {
       four = four;
       some-leaf = let x = some-mark words e in in-length (x .0) (leaves-of words) (x .1);
-      all-leaves = size-in (leaves nodes) t words f (h .some-leaf) (omega (arith, h .few-leaves)) (group-form (nodes .bins) book k b m);
+      all-leaves = size-in (leaves nodes) t words f (h .whole .some-leaf) (omega (arith, h .whole .few-leaves)) (group-form (nodes .bins) book k b m);
       some-place = omega arith;
-      few-places = omega (arith, form-length (leaves nodes) t f, h .some-leaf, h .few-leaves);
+      few-places = omega (arith, form-length (leaves nodes) t f, h .whole .some-leaf, h .whole .few-leaves);
     }
 
 -- Four words, one by one.

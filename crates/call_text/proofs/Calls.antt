@@ -40,7 +40,7 @@ module _ (nodes : Nodes) (bytes : List ℕ) where
   module _ {old toks : List ℕ} {k : ℕ} (h : TreeLent nodes (short 2048 bytes) old toks k) where
     pub lent-formed : (n : ℕ) × TreeTokens n (take (k - 0) (drop 0 toks))
     lent-formed =
-        (leaves nodes, record { shown = h .tree; is = read-part (h .wrote); in-form = h .lent .tree .in-form; few-leaves = h .lent .few-leaves })
+        (leaves nodes, record { shown = h .tree; is = read-part (h .wrote); in-form = h .lent .tree .in-form; few-leaves = h .lent .whole .few-leaves })
 
     pub lent-long : 2048 ≤ length bytes
     lent-long = ltb-false (length bytes) 2048 (h .long)

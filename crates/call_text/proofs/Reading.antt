@@ -4,8 +4,7 @@ use mathlib.Core.Option.{none, some}
 use mathlib.Core.List.{List}
 use Prim.Native.Nat.{ℕ}
 use Rattle.spec_orders.specs.Tree.{Forest}
-use Rattle.spec_orders.specs.Form.{InForm}
-use Rattle.spec_orders.specs.TreeText.{tree, refused, Reads, accepted}
+use Rattle.spec_orders.specs.TreeText.{tree, refused, Reads}
 use Rattle.spec_calls.specs.declared.Refusal.{Refusal}
 use Rattle.spec_calls.specs.declared.Refusal.the-variants.{TreeText}
 use Rattle.spec_calls.specs.Tables.{Nodes, leaves, Book, lent-book, over}
@@ -13,9 +12,6 @@ use Rattle.spec_calls.specs.Book.{emptied}
 use Rattle.spec_calls.specs.NodeTable.{table-of}
 use Rattle.spec_calls.specs.Refusals.{reply, first-refusal, short}
 use Rattle.spec_calls.specs.Calls.{ring, unchanged, table-checks, open-refusal, ReadCall, unread, read, read-outcome}
-
-pub reads-form : {n : ℕ} {x : List ℕ} {t : Forest} → Reads n x (tree t) → InForm n t
-reads-form (accepted f e) = f
 
 module _ (nodes : Nodes) (book : Book) (x : List ℕ) where
   pub not-read : (r : Refusal) → first-refusal (table-checks nodes (short 384 (book .words))) ≡ some r → ReadCall nodes book x (unchanged r nodes book)

@@ -50,8 +50,8 @@ pub fn write(n: usize, nodes: &[u16], have: usize, bytes: &mut [u8]) -> Answer
     }
 }
 
-// Reads a tree text for n leaves, lent exactly: the node table gets its tree, and the book is emptied. Answers the count of groups, 0; or refuses
-// (1, 2, 12), and leaves both tables as they were.
+// Reads a tree text for n leaves, lent exactly: the node table gets its tree, a P-node where the text has a C-node with two items, and the book is
+// emptied. Answers the count of groups, 0; or refuses (1, 2, 12), and leaves both tables as they were.
 pub fn read(n: usize, nodes: &mut [u16], have: usize, book: &mut [u64], text: &[u8]) -> Answer
     ensures { λ r. ⌜ ReadPromise (lent-nodes n have (now (nodes .entry))) (lent-book (now (book .entry)) 0) (now (text .entry)) (now (nodes .exit)) (lent-book (now (book .exit)) 0) (report r) ⌝ }
 {

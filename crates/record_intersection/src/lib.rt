@@ -7,8 +7,8 @@ ghost use Rattle.record_left.specs.Records.{lent-records, Left};
 use record_copy::Node;
 use spec_calls::Answer;
 
-// Writes the tree that allows exactly the orders allowed by the tree of n leaves and by that of m to the third node table. A node with three
-// neighbours is a P-node there. Answers 0; or refuses (1, 2, 13, 3, 8), and leaves every table as it was.
+// Writes the tree that allows exactly the orders allowed by the tree of n leaves and by that of m to the third node table. Answers 0; or refuses (1,
+// 2, 13, 3, 8), and leaves every table as it was.
 pub fn intersect(n: usize, nodes: &[Node], m: usize, other: &[Node], third: &mut [Node]) -> Answer
     ensures { λ r. ⌜ IntersectPromise (lent-records n (now (nodes .entry))) (lent-records m (now (other .entry))) (lent-records n (now (third .entry))) (node-rows (now (third .exit))) (report r) × Left (now (third .entry)) (now (third .exit)) (report r) ⌝ }
 {

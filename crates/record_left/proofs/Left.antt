@@ -13,6 +13,7 @@ use Rattle.spec_orders.specs.Tree.{Forest}
 use Rattle.spec_orders.specs.Form.{InForm}
 use Rattle.spec_orders.specs.TreeText.{Found, tree, refused, Reads}
 use Rattle.spec_orders.specs.Join.{fresh, join, then}
+use Rattle.spec_orders.proofs.TextOnce.{found-form}
 use Rattle.spec_orders.proofs.Fresh.{fresh-form}
 use Rattle.spec_orders.proofs.Joining.{join-some}
 use Rattle.spec_calls.specs.declared.Refusal.{Refusal}
@@ -25,7 +26,6 @@ use Rattle.spec_calls.specs.Calls.{Ring, ring, Filled, filled-as, filled, of-tr
 use Rattle.spec_calls.specs.Promises.{OpenPromise, JoinPromise, ReadPromise, IntersectPromise}
 use Rattle.spec_calls.proofs.NodeTables.{tree-in-holds}
 use Rattle.spec_calls.proofs.Refused.{open-keeps, join-keeps, read-call-keeps, filled-keeps}
-use Rattle.call_text.proofs.Reading.{reads-form}
 use Rattle.spec_calls.proofs.Demands.{tables-whole}
 use Rattle.record_copy.specs.declared.Node.{Node}
 use Rattle.record_copy.specs.Rows.{node-rows, with-rows, Sound}
@@ -134,7 +134,7 @@ read-rows n ns book text x (read {f = f} p h) = go f h
   where
     go : (f : Found) → Reads (leaves (lent-records n ns)) text f → Rows (leaves (lent-records n ns)) ns (read-outcome f (lent-records n ns) book .rows)
     go (refused q) h = as-before refl
-    go (tree t) h = let w = open-whole (lent-records n ns) book p in of-tree t (reads-form h) (w .0) (w .1) refl
+    go (tree t) h = let w = open-whole (lent-records n ns) book p in of-tree t (found-form h) (w .0) (w .1) refl
 
 pub read-left : (n : ℕ) (ns : List Node) (book : Book) (text : List ℕ) (said : Reply) (fs : List ℕ) (book′ : Book) → Sound (take 256 ns) → length (node-rows ns) ≡ 65792
     → ReadPromise (lent-records n ns) book text fs book′ said

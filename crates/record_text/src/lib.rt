@@ -16,8 +16,8 @@ pub fn write(n: usize, nodes: &[Node], bytes: &mut [u8]) -> Answer
     call_text::write(n, &flat, have, bytes)
 }
 
-// Reads a tree text for n leaves, lent without zeros after it: the node table gets its tree, and the book is emptied. Answers the count of groups, 0;
-// or refuses (1, 2, 12), and leaves every table as it was.
+// Reads a tree text for n leaves, lent without zeros after it: the node table gets its tree, a P-node where the text has a C-node with two items, and
+// the book is emptied. Answers the count of groups, 0; or refuses (1, 2, 12), and leaves every table as it was.
 pub fn read(n: usize, nodes: &mut [Node], book: &mut [u64], text: &[u8]) -> Answer
     ensures { λ r. ⌜ ReadPromise (lent-records n (now (nodes .entry))) (lent-book (now (book .entry)) 0) (now (text .entry)) (node-rows (now (nodes .exit))) (lent-book (now (book .exit)) 0) (report r) × Left (now (nodes .entry)) (now (nodes .exit)) (report r) ⌝ }
 {

@@ -47,8 +47,8 @@ module _ (nodes : Nodes) (book : Book) (t : Forest) (h : LentTree nodes t) (b : 
   unfolding aim-call aim-refusal
   aim-checked =
       rw (
-        size-fine (nodes .bins) (h .some-leaf) (h .few-leaves),
-        nodes-fine nodes (h .all-records) (h .all-rows),
+        size-fine (nodes .bins) (h .whole .some-leaf) (h .whole .few-leaves),
+        nodes-fine nodes (h .whole .all-records) (h .whole .all-rows),
         le-ltb (length (book .words)) 384 (b .all-words),
         lent-held nodes t h,
         b .in-form,
@@ -74,7 +74,7 @@ module _ (nodes : Nodes) (book : Book) (t : Forest) (h : LentTree nodes t) (b : 
       let r = leaf-range words x there in
       let most = leb-true x (nodes .bins) (all-passed (λ y. leb y (nodes .bins)) (leaves-of words) .0 (group-form (nodes .bins) book (k - 1) b (omega arith)) x there) in
       count-some G (standard t) x (leaf-marked words x there)
-      (perm-in x (all-standard (leaves nodes) t (h .tree .in-form) (h .some-leaf)) (numbers-in 1 (leaves nodes) x (r .0) (omega arith)))
+      (perm-in x (all-standard (leaves nodes) t (h .tree .in-form) (h .whole .some-leaf)) (numbers-in 1 (leaves nodes) x (r .0) (omega arith)))
 
   is-standard : (ord : List ℕ) → StandardOrder t ord → ord ≡ standard t
   is-standard ord s = standard-iff (leaves nodes) t (h .tree .in-form) ord .0 s

@@ -117,7 +117,7 @@ tables-whole nodes other e =
 -- ---- joining
 
 pub lent-held : (nodes : Nodes) (t : Forest) → LentTree nodes t → held-tree nodes ≡ some t
-lent-held nodes t h = tree-in-holds (leaves nodes) (nodes .rows) t (h .few-leaves) .1 (h .tree)
+lent-held nodes t h = tree-in-holds (leaves nodes) (nodes .rows) t (h .whole .few-leaves) .1 (h .tree)
 
 -- The first of some orders is the first of the same orders, however they are described.
 pub first-among : {Ok Same : List ℕ → Type 0} {ord : List ℕ} → FirstOf Ok ord → ((other : List ℕ) → Ok other ↔ Same other) → FirstOf Same ord
@@ -132,8 +132,8 @@ module _ (nodes : Nodes) (book : Book) (list : List ℕ) (t : Forest) (h : LentT
   unfolding join-refusal
   the-refusal =
       rw (
-        size-fine (nodes .bins) (h .some-leaf) (h .few-leaves),
-        nodes-fine nodes (h .all-records) (h .all-rows),
+        size-fine (nodes .bins) (h .whole .some-leaf) (h .whole .few-leaves),
+        nodes-fine nodes (h .whole .all-records) (h .whole .all-rows),
         le-ltb (length (book .words)) 384 (b .all-words),
         lent-held nodes t h,
         b .in-form,
@@ -176,7 +176,7 @@ module _ (nodes : Nodes) (book : Book) (list : List ℕ) (t : Forest) (h : LentT
             impossible = (λ q. absurd (omega (arith, ap (λ (s : Reply). s .number) q)), λ q. absurd (q (standard u) (j .orders (standard u) .0 (j .standard-first .allowed) .0) (j .orders (standard u) .0 (j .standard-first .allowed) .1)));
             otherwise = λ q. record {
               new = u;
-              held = over-holds n u (nodes .rows) (j .form) (h .few-leaves);
+              held = over-holds n u (nodes .rows) (j .form) (h .whole .few-leaves);
               orders = j .orders;
               first = first-among (j .standard-first) (j .orders);
             };
@@ -189,8 +189,8 @@ pub order-done : (nodes : Nodes) (order : List ℕ) (t : Forest) → LentTree no
 unfolding order-call order-refusal
 order-done nodes order t h l =
     rw (
-      size-fine (nodes .bins) (h .some-leaf) (h .few-leaves),
-      nodes-fine nodes (h .all-records) (h .all-rows),
+      size-fine (nodes .bins) (h .whole .some-leaf) (h .whole .few-leaves),
+      nodes-fine nodes (h .whole .all-records) (h .whole .all-rows),
       le-ltb (length order) (nodes .bins) l,
       lent-held nodes t h,
     )
@@ -203,7 +203,7 @@ order-meets nodes order t h l = rw (order-done nodes order t h l) (subst (Standa
     n = nodes .bins
 
     many : length (standard t) ≡ n
-    many = omega (arith, form-length n t (h .tree .in-form), h .some-leaf)
+    many = omega (arith, form-length n t (h .tree .in-form), h .whole .some-leaf)
 
     whole : take n (standard t ++ drop (length (standard t)) order) ≡ standard t
     whole = subst (λ k. take k (standard t ++ drop (length (standard t)) order) ≡ standard t) many (take-append-seam (standard t) (drop (length (standard t)) order))

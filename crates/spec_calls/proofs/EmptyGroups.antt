@@ -76,7 +76,7 @@ unfolding join-call joined
 join-empty nodes book t h b place-left =
     let none : EmptyGroup (group-of (nodes .bins) []) = λ x. refl in
     rw (the-refusal nodes book [] t h b place-left (empty-well-formed (nodes .bins)), the-joined nodes book [] t h b place-left (empty-well-formed (nodes .bins)), empty-joins (group-of (nodes .bins) []) t none (h .tree .in-form .single))
-    (ap₂ (λ (rows words : List ℕ). ring (reply 0 (book .count + 1)) rows (lent-book words (book .count))) (over-same (nodes .bins) t (nodes .rows) (h .few-leaves) (h .tree)) (booked-empty (nodes .bins) book (group-of (nodes .bins) []) b place-left none))
+    (ap₂ (λ (rows words : List ℕ). ring (reply 0 (book .count + 1)) rows (lent-book words (book .count))) (over-same (nodes .bins) t (nodes .rows) (h .whole .few-leaves) (h .tree)) (booked-empty (nodes .bins) book (group-of (nodes .bins) []) b place-left none))
 
 -- Where there is no place, 7 is the answer.
 pub join-empty-full : (nodes : Nodes) (book : Book) (t : Forest) → LentTree nodes t → LentBook (nodes .bins) book → book .count ≡ 96
@@ -84,8 +84,8 @@ pub join-empty-full : (nodes : Nodes) (book : Book) (t : Forest) → LentTree no
 unfolding join-call join-refusal joined
 join-empty-full nodes book t h b full =
     rw (
-      size-fine (nodes .bins) (h .some-leaf) (h .few-leaves),
-      nodes-fine nodes (h .all-records) (h .all-rows),
+      size-fine (nodes .bins) (h .whole .some-leaf) (h .whole .few-leaves),
+      nodes-fine nodes (h .whole .all-records) (h .whole .all-rows),
       le-ltb (length (book .words)) 384 (b .all-words),
       lent-held nodes t h,
       b .in-form,

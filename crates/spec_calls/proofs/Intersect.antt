@@ -82,10 +82,10 @@ module _ (nodes other third : Nodes) (t u : Forest) (h : LentTree nodes t) (g : 
   unfolding intersect-refusal
   the-refusal =
       rw (
-        size-fine (nodes .bins) (h .some-leaf) (h .few-leaves),
-        size-fine (other .bins) (g .some-leaf) (g .few-leaves),
-        nodes-fine nodes (h .all-records) (h .all-rows),
-        nodes-fine other (g .all-records) (g .all-rows),
+        size-fine (nodes .bins) (h .whole .some-leaf) (h .whole .few-leaves),
+        size-fine (other .bins) (g .whole .some-leaf) (g .whole .few-leaves),
+        nodes-fine nodes (h .whole .all-records) (h .whole .all-rows),
+        nodes-fine other (g .whole .all-records) (g .whole .all-rows),
         nodes-fine third records rows,
         eq-eqb (nodes .bins) (other .bins) same,
         lent-held nodes t h,
@@ -126,8 +126,7 @@ module _ (nodes other third : Nodes) (t u : Forest) (h : LentTree nodes t) (g : 
             impossible = (λ q. absurd (omega (arith, ap (λ (s : Reply). s .number) q)), λ q. absurd (q (standard v) (first .allowed .0) (first .allowed .1)));
             otherwise = λ q. record {
               new = v;
-              held = over-holds n v (third .rows) (i .form) (h .few-leaves);
-              wide = i .wide;
+              held = over-holds n v (third .rows) (i .form) (h .whole .few-leaves);
               orders = i .orders;
               first = first;
             };

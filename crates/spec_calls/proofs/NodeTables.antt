@@ -81,7 +81,7 @@ kind-back C = refl
 
 -- The record r of a table that has a row there.
 module _ (table : List ℕ) (r : ℕ) (k : Kind) (es more : List ℕ) (at : drop (257 * r) table ≡ row k es ++ more) where
-  at-kind : getD table (257 * r) 0 ≡ kind-number k
+  pub at-kind : getD table (257 * r) 0 ≡ kind-number k
   at-kind =
       let e : 257 * r ≡ 257 * r + 0 = omega arith in
       ap (λ j. getD table j 0) e ∙ sym (getD-drop (257 * r) table 0 0) ∙ ap (λ l. getD l 0 0) at

@@ -10,7 +10,6 @@ use Rattle.spec_orders.specs.CircularOrder.{Restriction, WellFormed, group-of, 
 use Rattle.spec_orders.specs.Tree.{Forest, Allowed}
 use Rattle.spec_orders.specs.Form.{FirstOf, StandardOrder, standard}
 use Rattle.spec_orders.specs.Conflict.{Demand-3, Numbers}
-use Rattle.spec_intersection.specs.ThreeNeighbours.{Wide}
 use Rattle.spec_calls.specs.Tables.{Nodes, leaves, Book, padded}
 use Rattle.spec_calls.specs.Book.{book-in-form?}
 use Rattle.spec_orders.specs.Lists.{numbers-from}
@@ -18,12 +17,15 @@ use Rattle.spec_calls.specs.NodeTable.{Holds}
 use Rattle.spec_calls.specs.Refusals.{Reply, reply}
 use Rattle.spec_calls.specs.Calls.{group-numbered}
 
--- A node table, lent whole, that holds the tree.
-pub record LentTree (nodes : Nodes) (t : Forest) : Type 0 where
+-- A node table, lent whole; and one that holds the tree.
+pub record LentWhole (nodes : Nodes) : Type 0 where
   pub some-leaf : 1 ≤ leaves nodes
   pub few-leaves : leaves nodes ≤ 256
   pub all-records : 256 ≤ nodes .records
   pub all-rows : 65792 ≤ length (nodes .rows)
+
+pub record LentTree (nodes : Nodes) (t : Forest) : Type 0 where
+  pub whole : LentWhole nodes
   pub tree : Holds (leaves nodes) (nodes .rows) t
 
 -- A book, lent whole, in form for n leaves.
@@ -75,11 +77,10 @@ ConflictDemand n book list conflicts said new =
     1 ≤ n → n ≤ 256 → LentBook n book → 96 ≤ length conflicts → WellFormed n list → Named n book list said new
 
 -- Document 02, No. 1: "the tree that allows exactly the orders allowed by both", its standard order the first of them. "A node with three neighbours
--- in the result is a P-node."
+-- in the result is a P-node", as in every tree that a table holds.
 pub record BothTrees (n : ℕ) (t u : Forest) (rows : List ℕ) : Type 0 where
   pub new : Forest
   pub held : Holds n rows new
-  pub wide : Wide new
   pub orders : (ord : List ℕ) → Allowed new ord ↔ (Allowed t ord × Allowed u ord)
   pub first : FirstOf (λ ord. Allowed t ord × Allowed u ord) (standard new)
 

@@ -1,5 +1,6 @@
 pub mod Refusals
 pub mod RoundTrip
+pub mod ThreeNeighbours
 pub mod EmptyGroups
 pub mod Places
 pub mod Main

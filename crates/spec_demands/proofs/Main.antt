@@ -1,5 +1,5 @@
--- The three demands and document 02's Nos. 1 to 3, proved by citing: the refusals and what they keep, the promises' own demands on joining, trial,
--- order, conflict and intersection, the round trip of a text, and the laws of empty groups and of the aim.
+-- The three demands and document 02's Nos. 1 to 3 and 5, proved by citing: the refusals and what they keep, the promises' own demands on joining,
+-- trial, order, conflict and intersection, the round trip of a text, and the laws of empty groups, of the aim and of three neighbours.
 use mathlib.Core.Path.{_≡_, refl, sym, _∙_, ap, subst}
 use mathlib.Core.Logic.{_↔_, _≢_}
 use mathlib.Core.List.{List}
@@ -9,10 +9,12 @@ use Rattle.spec_orders.specs.Tree.{Forest}
 use Rattle.spec_orders.specs.Form.{StandardOrder}
 use Rattle.spec_orders.specs.CircularOrder.{group-of, EmptyGroup, Consecutive}
 use Rattle.spec_orders.specs.Aim.{aim-of, Aimed}
+use Rattle.spec_orders.proofs.Relabel.{form-enough}
 use Rattle.spec_orders.proofs.Members.{elem-in, all-in}
 use Rattle.spec_orders.proofs.EmptyGroups.{empty-consecutive}
 use Rattle.spec_orders.proofs.Numbers.{count-some}
 use Rattle.spec_orders.proofs.Aims.{aimed, aimed-only, aimed-inside}
+use Rattle.spec_calls.specs.declared.Refusal.the-variants.{NotInForm}
 use Rattle.spec_calls.specs.Tables.{lent-nodes, same-ring, Nodes, Book, lent-book, padded}
 use Rattle.spec_calls.specs.Refusals.{Reply, reply}
 use Rattle.spec_calls.specs.Calls.{Ring, Filled, ring, filled-as, open-refusal, open-call, joined-tree, join-refusal, join-call, trial-call, order-call, aim-call, write-call, group-numbered, conflicts-of, conflict-refusal, conflict-call, intersect-refusal, intersect-call}
@@ -25,10 +27,11 @@ use Rattle.spec_calls.proofs.EmptyGroups.{next-empty, next-in-form, join-empty,
 use Rattle.spec_calls.proofs.Aims.{aim-empty, aim-middle, aim-apart}
 use Rattle.spec_calls.proofs.Reports.{never-4}
 use Rattle.spec_calls.proofs.Refused.{open-keeps, join-keeps, read-call-keeps}
-use Rattle.spec_demands.specs.Demands.{FirstDemand, Asked, NewRing, SecondDemand, ThirdDemand, AskedBoth, OneRing, TwoTrees, EmptyGroups, EvenRuns}
+use Rattle.spec_demands.specs.Demands.{FirstDemand, Asked, NewRing, SecondDemand, ThirdDemand, AskedBoth, OneRing, TwoTrees, EmptyGroups, EvenRuns, LentThreeNeighbours, Meets3, ThreeNeighbours}
 use Rattle.spec_demands.proofs.Refusals.{by-the-table, ring-by-the-table, filled-by-the-table, open-answer, join-answer, read-answer, some-refusal}
 use Rattle.spec_demands.proofs.Places.{same-numbers, filled-done}
-use Rattle.spec_demands.proofs.RoundTrip.{lent-again, written-read, read-written}
+use Rattle.spec_demands.proofs.RoundTrip.{lent-again, written-read, read-as, read-written, accepting, rule-broken}
+use Rattle.spec_demands.proofs.ThreeNeighbours.{join-meets-3, order-meets-3, aim-meets-3, write-meets-3, first-meets-3, second-meets-3}
 use Rattle.spec_demands.proofs.EmptyGroups.{possible-more, places-never-name, empty-list}
 
 pub first-demand : FirstDemand
@@ -69,7 +72,7 @@ module _ (nodes : Nodes) (book : Book) (list : List ℕ) (t : Forest) (a : Asked
             (booked-form (nodes .bins) book (group-of (nodes .bins) list) (a .groups) (a .place-left) (λ x i. all-in (λ b. (1 ≤ b) × (b ≤ nodes .bins)) x list (a .group .in-range) (elem-in list x i) .1));
         tree = j;
         standard = λ records order order′ answer r l p.
-            let h = lent-again (nodes .bins) records rows′ (j .new) (a .tree .some-leaf) (a .tree .few-leaves) r (j .held) in
+            let h = lent-again (nodes .bins) records rows′ (j .new) (a .tree .whole .some-leaf) (a .tree .whole .few-leaves) r (j .held) in
             let w = order-written (same-ring nodes records rows′) (j .new) h order order′ answer l p in
             (w .0, first-among (w .1) (j .orders));
       }
@@ -113,7 +116,7 @@ module _ (nodes other third : Nodes) (t u : Forest) (a : AskedBoth nodes other t
         done = answer ∙ intersect-done nodes other third t u (a .first) (a .second) (a .same-bins) (a .all-records) (a .all-rows) (λ z. q (answer ∙ z));
         tree = c;
         standard = λ records order order′ answer r l p.
-            let h = lent-again (nodes .bins) records third′ (c .new) (a .first .some-leaf) (a .first .few-leaves) r (c .held) in
+            let h = lent-again (nodes .bins) records third′ (c .new) (a .first .whole .some-leaf) (a .first .whole .few-leaves) r (c .held) in
             let w = order-written (same-ring nodes records third′) (c .new) h order order′ answer l p in
             (w .0, first-among (w .1) (c .orders));
       }
@@ -157,4 +160,27 @@ even-runs = record {
   aiming = λ nodes book t h b k l m ord s said e.
       subst (λ (r : Reply). ((leaf : ℕ) → (r ≡ reply 0 leaf) ↔ Aimed (group-numbered (book .words) k) ord leaf) × ((r ≡ reply 10 0) ↔ (Consecutive (group-numbered (book .words) k) ord → ⊥)))
       (sym e) (aim-middle nodes book t h b k l m ord s, aim-apart nodes book t h b k l m ord s);
+}
+
+-- Each call's refusal (proofs/ThreeNeighbours) is what the call says, by the first demand.
+meets-3 : (nodes : Nodes) → LentThreeNeighbours nodes → Meets3 nodes
+meets-3 nodes h = record {
+  joining = λ book list rows′ book′ said b e. first-demand .joining nodes book list rows′ book′ said e .refused NotInForm (join-meets-3 nodes h book list b) .0;
+  trial = λ book list said b e. first-demand .trial nodes book list said e .refused NotInForm (join-meets-3 nodes h book list b) .0;
+  ordering = λ order order′ said b e. first-demand .ordering nodes order order′ said e .refused NotInForm (order-meets-3 nodes h order b) .0;
+  aiming = λ book group said b e. first-demand .aiming nodes book group said e .refused NotInForm (aim-meets-3 nodes h book group b) .0;
+  writing = λ bytes bytes′ said b e. first-demand .writing nodes bytes bytes′ said e .refused NotInForm (write-meets-3 nodes h bytes b) .0;
+  as-first = λ other third third′ said o q r t e.
+      first-demand .intersecting nodes other third third′ said e .refused NotInForm (first-meets-3 nodes h other third o r t q) .0;
+  as-second = λ other third third′ said o q r t e.
+      first-demand .intersecting other nodes third third′ said e .refused NotInForm (second-meets-3 nodes h other third o r t q) .0;
+}
+
+pub three-neighbours : ThreeNeighbours
+three-neighbours = record {
+  four = λ n rows t h. form-enough (h .in-form);
+  accepting = accepting;
+  reading = read-as;
+  rule-broken = rule-broken;
+  refusing = meets-3;
 }

@@ -7,13 +7,14 @@ use mathlib.Core.Logic.{_↔_, _≢_}
 use mathlib.Core.Bool.{true}
 use mathlib.Core.Option.{Option, none, some}
 use mathlib.Core.List.{List, [], _∷_, _++_, map}
-use Prim.Native.Nat.{ℕ, _+_, _≤_, _<_}
+use Prim.Native.Nat.{ℕ, _+_, _*_, _≤_, _<_}
 use lib.ListN.{length, getD, take, drop}
 use Rattle.spec_orders.specs.Lists.{In, numbers-from}
 use Rattle.spec_orders.specs.CircularOrder.{Restriction, WellFormed, group-of, EmptyGroup, Consecutive, Possible}
-use Rattle.spec_orders.specs.Tree.{Forest, Allowed}
-use Rattle.spec_orders.specs.Form.{FirstOf, StandardOrder}
-use Rattle.spec_orders.specs.TreeText.{tree, refused, Reads}
+use Rattle.spec_orders.specs.Tree.{C, Forest, Allowed}
+use Rattle.spec_orders.specs.Form.{Every, Enough, FirstOf, StandardOrder}
+use Rattle.spec_orders.specs.ThreeNeighbours.{relabel}
+use Rattle.spec_orders.specs.TreeText.{tree-text, Shaped, Breaks, RuleRefused, AcceptedAs, tree, refused, Reads}
 use Rattle.spec_orders.specs.Conflict.{Numbers}
 use Rattle.spec_orders.specs.Aim.{Aimed}
 use Rattle.spec_calls.specs.declared.Refusal.{Refusal}
@@ -23,7 +24,7 @@ use Rattle.spec_calls.specs.Book.{with-group}
 use Rattle.spec_calls.specs.NodeTable.{Holds}
 use Rattle.spec_calls.specs.Refusals.{Reply, reply, reported}
 use Rattle.spec_calls.specs.Calls.{open-refusal, join-refusal, order-refusal, aim-refusal, write-refusal, conflict-refusal, conflicts-of, group-numbered, intersect-refusal}
-use Rattle.spec_calls.specs.Demands.{LentTree, LentBook, ImpossibleIff, NewTree, BothTrees}
+use Rattle.spec_calls.specs.Demands.{LentWhole, LentTree, LentBook, ImpossibleIff, NewTree, BothTrees}
 use Rattle.spec_calls.specs.Promises.{OpenPromise, JoinPromise, TrialPromise, OrderPromise, AimPromise, WritePromise, ReadPromise, ConflictPromise, IntersectPromise}
 
 -- ==== The first demand
@@ -111,9 +112,10 @@ pub record SecondDemand : Type 0 where
   -- "A tree written and read is the same tree."
   pub written-read : (nodes : Nodes) (t : Forest) → LentTree nodes t → (bytes bytes′ : List ℕ) (wrote : Reply) → 2048 ≤ length bytes
       → WritePromise nodes bytes bytes′ wrote → ReadsBack (leaves nodes) t bytes′ wrote
-  -- "An accepted text written again is the same text": its length is answered, and the 2,048 bytes are the text and zeros.
+  -- "An accepted text written again is the same text": its length is answered, and the 2,048 bytes are the text and zeros. Document 02, No. 5: "now
+  -- given for texts with no such node", none of whose C-nodes has three neighbours (`ThreeNeighbours`: what is written of the others).
   pub read-written : (nodes : Nodes) (book : Book) (text rows′ : List ℕ) (book′ : Book) (said : Reply) → ReadPromise nodes book text rows′ book′ said
-      → said .number ≡ 0 → (records : ℕ) (bytes bytes′ : List ℕ) (wrote : Reply) → 256 ≤ records → 2048 ≤ length bytes
+      → said .number ≡ 0 → (t : Forest) → AcceptedAs (leaves nodes) text t → Every Enough t → (records : ℕ) (bytes bytes′ : List ℕ) (wrote : Reply) → 256 ≤ records → 2048 ≤ length bytes
       → WritePromise (same-ring nodes records rows′) bytes bytes′ wrote
       → (wrote ≡ reply 0 (length text)) × (take 2048 bytes′ ≡ padded 2048 text)
 
@@ -157,8 +159,9 @@ pub record AskedBoth (nodes other third : Nodes) (t u : Forest) : Type 0 where
   pub all-records : 256 ≤ third .records
   pub all-rows : 65792 ≤ length (third .rows)
 
--- The rows hold "the tree that allows exactly the orders allowed by both", where a node with three neighbours is a P-node (`BothTrees`). Who then
--- calls for its standard order, with these rows in 256 records or more, has the first of those orders in the n places.
+-- The rows hold "the tree that allows exactly the orders allowed by both" (`BothTrees`). "A node with three neighbours in the result is a P-node", as in
+-- every tree that a table holds (`ThreeNeighbours`). Who then calls for its standard order, with these rows in 256 records or more, has the first of those
+-- orders in the n places.
 pub record OneRing (nodes : Nodes) (t u : Forest) (third′ : List ℕ) (said : Reply) : Type 0 where
   pub done : said ≡ reply 0 0
   pub tree : BothTrees (leaves nodes) t u third′
@@ -232,3 +235,56 @@ pub record EvenRuns : Type 0 where
       → (ord : List ℕ) → StandardOrder t ord → (said : Reply) → AimPromise nodes book k said
       → ((leaf : ℕ) → (said ≡ reply 0 leaf) ↔ Aimed (group-numbered (book .words) k) ord leaf)
       × ((said ≡ reply 10 0) ↔ (Consecutive (group-numbered (book .words) k) ord → ⊥))
+
+-- ==== Document 02, No. 5: three neighbours
+
+-- What the reader makes of a text that it accepts. A C-node with three neighbours "is read as a P-node there", and the orders are the text's; "and is
+-- printed so": who has these rows written, in 256 records or more, has the text of that tree, which read again gives the same tree. It is the text
+-- that was read if and only if no C-node in that has three neighbours.
+pub record ReadAs (nodes : Nodes) (text rows′ : List ℕ) : Type 0 where
+  pub spelled : Forest
+  pub accepted : AcceptedAs (leaves nodes) text spelled
+  pub held : Holds (leaves nodes) rows′ (relabel spelled)
+  pub orders : (ord : List ℕ) → Allowed (relabel spelled) ord ↔ Allowed spelled ord
+  pub printed : (records : ℕ) (bytes bytes′ : List ℕ) (wrote : Reply) → 256 ≤ records → 2048 ≤ length bytes
+      → WritePromise (same-ring nodes records rows′) bytes bytes′ wrote
+      → (wrote ≡ reply 0 (length (tree-text (relabel spelled)))) × (take 2048 bytes′ ≡ padded 2048 (tree-text (relabel spelled)))
+      × ReadsBack (leaves nodes) (relabel spelled) bytes′ wrote
+  pub same-text : (tree-text (relabel spelled) ≡ text) ↔ Every Enough spelled
+
+-- A node table, lent whole, that has a C-node (2) of two items, and so with three neighbours, in some record.
+pub record LentThreeNeighbours (nodes : Nodes) : Type 0 where
+  pub whole : LentWhole nodes
+  pub place : ℕ
+  pub inside : place < 256
+  pub c-node : getD (nodes .rows) (257 * place) 0 ≡ 2
+  pub two-items : getD (nodes .rows) (257 * place + 1) 0 ≡ 2
+
+-- Every call that looks at such a table, and is lent all else in full, answers 3.
+pub record Meets3 (nodes : Nodes) : Type 0 where
+  pub joining : (book : Book) (list rows′ : List ℕ) (book′ : Book) (said : Reply) → 384 ≤ length (book .words)
+      → JoinPromise nodes book list rows′ book′ said → said ≡ reply 3 0
+  pub trial : (book : Book) (list : List ℕ) (said : Reply) → 384 ≤ length (book .words) → TrialPromise nodes book list said → said ≡ reply 3 0
+  pub ordering : (order order′ : List ℕ) (said : Reply) → nodes .bins ≤ length order → OrderPromise nodes order order′ said → said ≡ reply 3 0
+  pub aiming : (book : Book) (group : ℕ) (said : Reply) → 384 ≤ length (book .words) → AimPromise nodes book group said → said ≡ reply 3 0
+  pub writing : (bytes bytes′ : List ℕ) (said : Reply) → 2048 ≤ length bytes → WritePromise nodes bytes bytes′ said → said ≡ reply 3 0
+  pub as-first : (other third : Nodes) (third′ : List ℕ) (said : Reply) → LentWhole other → nodes .bins ≡ other .bins
+      → 256 ≤ third .records → 65792 ≤ length (third .rows) → IntersectPromise nodes other third third′ said → said ≡ reply 3 0
+  pub as-second : (other third : Nodes) (third′ : List ℕ) (said : Reply) → LentWhole other → other .bins ≡ nodes .bins
+      → 256 ≤ third .records → 65792 ≤ length (third .rows) → IntersectPromise other nodes third third′ said → said ≡ reply 3 0
+
+pub record ThreeNeighbours : Type 0 where
+  -- "From now on a C-node has at least four neighbours": in every tree that a table holds. (In the lister's:
+  -- spec_listing/proofs/EmptyLines, `state-form`.)
+  pub four : (n : ℕ) (rows : List ℕ) (t : Forest) → Holds n rows t → Every Enough t
+  -- A text is accepted by its own letters, whether or not it names such a node.
+  pub accepting : (nodes : Nodes) (book : Book) (text : List ℕ) (t : Forest) → open-refusal nodes book ≡ none → AcceptedAs (leaves nodes) text t
+      → (rows′ : List ℕ) (book′ : Book) (said : Reply) → ReadPromise nodes book text rows′ book′ said → said ≡ reply 0 0
+  pub reading : (nodes : Nodes) (book : Book) (text rows′ : List ℕ) (book′ : Book) (said : Reply) → ReadPromise nodes book text rows′ book′ said
+      → said .number ≡ 0 → ReadAs nodes text rows′
+  -- "While a wrong direction still meets 12": so does any rule that the tree of a text of the shape breaks, at the first byte of those.
+  pub rule-broken : (nodes : Nodes) (book : Book) (t : Forest) (p : ℕ) → open-refusal nodes book ≡ none → Shaped (leaves nodes) t → Breaks C 0 2 t p
+      → (rows′ : List ℕ) (book′ : Book) (said : Reply) → ReadPromise nodes book (tree-text t) rows′ book′ said
+      → (q : ℕ) × (said ≡ reply 12 q) × RuleRefused t q
+  -- "A node table that holds such a node meets refusal 3."
+  pub refusing : (nodes : Nodes) → LentThreeNeighbours nodes → Meets3 nodes

@@ -1,6 +1,6 @@
 -- A circular order is allowed by a tree in form iff each characteristic group is consecutive in it. At most n − 2 groups are characteristic.
 use mathlib.Core.Path.{_∙_, _≡_, ap, subst, sym}
-use mathlib.Core.Logic.{Iff·trans, _↔_, _⊎_, inl, inr}
+use mathlib.Core.Logic.{_↔_, _⊎_, inl, inr}
 use mathlib.Core.Bool.{cond, false, true, true≢false}
 use mathlib.Core.List.{List, [], _++_, _∷_, map}
 use Prim.Native.Nat.{_+_, _-_, _≤_, ℕ}
@@ -19,11 +19,10 @@ use Rattle.spec_orders.proofs.Contiguous.{Contiguous}
 use Rattle.spec_orders.proofs.CircleAndLine.{consecutive-side}
 use Rattle.spec_orders.proofs.Laws.{Forked}
 use Rattle.spec_orders.proofs.Forms.{not-one, form-distinct, form-forked}
+use Rattle.spec_orders.proofs.Relabel.{form-enough}
 use Rattle.spec_orders.proofs.TextTree.{form-length}
-use Rattle.spec_intersection.specs.ThreeNeighbours.{Wide, relabel}
-use Rattle.spec_intersection.specs.Intersection.{pairs-after, item-pairs, p-items, all-groups, characteristic}
+use Rattle.spec_intersection.specs.Intersection.{pairs-after, item-pairs, p-items, characteristic}
 use Rattle.spec_intersection.proofs.Lists.{Within, same-members}
-use Rattle.spec_intersection.proofs.Relabel.{relabel-orders, relabel-form, relabel-wide}
 use Rattle.spec_intersection.proofs.Runs.{Run}
 use Rattle.spec_intersection.proofs.Groups.{Runs, groups-within, groups-distinct}
 use Rattle.spec_intersection.proofs.GroupOrders.{orders-by-groups}
@@ -86,28 +85,22 @@ module _ (n : ℕ) (t : Forest) (f : InForm n t) where
         let b = all-runs l (d .1) (w .1) in
         ((λ h. (a .0 (h .0), b .0 (h .1))), (λ h. (a .1 (h .0), b .1 (h .1))))
 
-  wide-orders : Wide t → (ord : List ℕ) → Allowed t ord ↔ (CircularOrder n ord × AllConsecutive (map elem (all-groups t)) ord)
-  wide-orders w ord = (to, from)
+  pub characteristic-orders : (ord : List ℕ) → Allowed t ord ↔ (CircularOrder n ord × AllConsecutive (map elem (characteristic t)) ord)
+  characteristic-orders ord = (to, from)
     where
-      runs : (xs : List ℕ) → Rearranged (frontier t) xs → AllConsecutive (map elem (all-groups t)) (1 ∷ xs) ↔ Runs (all-groups t) xs
-      runs xs p = all-runs xs p (all-groups t) (groups-distinct t (form-distinct n t f)) (groups-within t)
+      runs : (xs : List ℕ) → Rearranged (frontier t) xs → AllConsecutive (map elem (characteristic t)) (1 ∷ xs) ↔ Runs (characteristic t) xs
+      runs xs p = all-runs xs p (characteristic t) (groups-distinct t (form-distinct n t f)) (groups-within t)
 
-      to : Allowed t ord → CircularOrder n ord × AllConsecutive (map elem (all-groups t)) ord
+      to : Allowed t ord → CircularOrder n ord × AllConsecutive (map elem (characteristic t)) ord
       to a =
-          let r = orders-by-groups t (f .single) (form-forked n t f) w (form-distinct n t f) (a .after) .0 (a .order) in
-          (record { after = a .after; one-first = a .one-first; all-leaves = perm-trans (f .all-leaves) (r .0) }, subst (AllConsecutive (map elem (all-groups t))) (sym (a .one-first)) (runs (a .after) (r .0) .1 (r .1)))
+          let r = orders-by-groups t (f .single) (form-enough f) (form-distinct n t f) (a .after) .0 (a .order) in
+          (record { after = a .after; one-first = a .one-first; all-leaves = perm-trans (f .all-leaves) (r .0) }, subst (AllConsecutive (map elem (characteristic t))) (sym (a .one-first)) (runs (a .after) (r .0) .1 (r .1)))
 
-      from : CircularOrder n ord × AllConsecutive (map elem (all-groups t)) ord → Allowed t ord
+      from : CircularOrder n ord × AllConsecutive (map elem (characteristic t)) ord → Allowed t ord
       from (c, h) =
           let p = perm-trans (perm-sym (f .all-leaves)) (c .all-leaves) in
-          let r = runs (c .after) p .0 (subst (AllConsecutive (map elem (all-groups t))) (c .one-first) h) in
-          record { after = c .after; one-first = c .one-first; order = orders-by-groups t (f .single) (form-forked n t f) w (form-distinct n t f) (c .after) .1 (p, r) }
-
-pub characteristic-orders : (n : ℕ) (u : Forest) → InForm n u → (ord : List ℕ) → Allowed u ord ↔ (CircularOrder n ord × AllConsecutive (map elem (characteristic u)) ord)
-unfolding characteristic
-characteristic-orders n u f ord =
-    let r = relabel-orders u ord in
-    Iff·trans (r .1, r .0) (wide-orders n (relabel u) (relabel-form n u f) (relabel-wide u (f .canonical)) ord)
+          let r = runs (c .after) p .0 (subst (AllConsecutive (map elem (characteristic t))) (c .one-first) h) in
+          record { after = c .after; one-first = c .one-first; order = orders-by-groups t (f .single) (form-enough f) (form-distinct n t f) (c .after) .1 (p, r) }
 
 -- The groups, the items that are P-nodes and the items are together no more than the leaves.
 after-length : (before : List ℕ) (f : Forest) → length (pairs-after before f) ≡ length (items f)
@@ -120,7 +113,7 @@ item-pairs-length nil h = absurd (omega arith)
 item-pairs-length (leaf b f) h = omega (arith, after-length (b ∷ []) f)
 item-pairs-length (node k i f) h = omega (arith, after-length (frontier i) f)
 
-groups-length : (f : Forest) → Forked f → length (all-groups f) + length (p-items f) + length (items f) ≤ length (frontier f)
+groups-length : (f : Forest) → Forked f → length (characteristic f) + length (p-items f) + length (items f) ≤ length (frontier f)
 groups-length nil c = omega arith
 groups-length (leaf b f) c = omega (arith, groups-length f c)
 groups-length (node P i f) c =
@@ -129,8 +122,8 @@ groups-length (node P i f) c =
       c .0 .0,
       groups-length i (c .0 .1),
       groups-length f (c .1),
-      length-append (p-items i) (all-groups i ++ all-groups f),
-      length-append (all-groups i) (all-groups f),
+      length-append (p-items i) (characteristic i ++ characteristic f),
+      length-append (characteristic i) (characteristic f),
       length-append (frontier i) (frontier f),
     )
 groups-length (node C i f) c =
@@ -139,19 +132,15 @@ groups-length (node C i f) c =
       item-pairs-length i (omega (arith, c .0 .0)),
       groups-length i (c .0 .1),
       groups-length f (c .1),
-      length-append (item-pairs i) (all-groups i ++ all-groups f),
-      length-append (all-groups i) (all-groups f),
+      length-append (item-pairs i) (characteristic i ++ characteristic f),
+      length-append (characteristic i) (characteristic f),
       length-append (frontier i) (frontier f),
     )
 
 pub characteristic-few : (n : ℕ) (u : Forest) → InForm n u → 2 ≤ n → length (characteristic u) + 2 ≤ n
-unfolding characteristic
-characteristic-few n u f l = go (relabel u) (form-length n (relabel u) g) (groups-length (relabel u) (form-forked n (relabel u) g))
+characteristic-few n u f l = go u (form-length n u f) (groups-length u (form-forked n u f))
   where
-    g : InForm n (relabel u)
-    g = relabel-form n u f
-
-    go : (t : Forest) → length (frontier t) ≡ n - 1 → length (all-groups t) + length (p-items t) + length (items t) ≤ length (frontier t) → length (all-groups t) + 2 ≤ n
+    go : (t : Forest) → length (frontier t) ≡ n - 1 → length (characteristic t) + length (p-items t) + length (items t) ≤ length (frontier t) → length (characteristic t) + 2 ≤ n
     go nil e h = absurd (omega arith)
     go (leaf b t) e h = omega arith
     go (node k i t) e h = omega arith

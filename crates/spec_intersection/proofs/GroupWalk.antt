@@ -5,7 +5,7 @@ use mathlib.Core.List.{List, [], _++_, _∷_, append-assoc}
 use Rattle.spec_orders.specs.CircularOrder.{Restriction}
 use Rattle.spec_orders.specs.Tree.{Forest, nil, leaf, node, append}
 use Rattle.spec_orders.specs.Join.{join, then, joins}
-use Rattle.spec_intersection.specs.Intersection.{node-groups, all-groups}
+use Rattle.spec_intersection.specs.Intersection.{node-groups, characteristic}
 
 pub joins-append : (Gs Hs : List Restriction) (t : Forest) → joins (Gs ++ Hs) t ≡ then (joins Gs t) (joins Hs)
 unfolding joins
@@ -26,9 +26,9 @@ joins-keep Q h (G ∷ Gs) t u q e = go (join G t) refl e (joins-keep Q h Gs)
     go none p e rec = absurd (Option·none-ne-some u e)
     go (some v) p e rec = rec v u (h G t v q p) e
 
-pub all-groups-append : (i f : Forest) → all-groups (append i f) ≡ all-groups i ++ all-groups f
-all-groups-append nil f = refl
-all-groups-append (leaf b i) f = all-groups-append i f
-all-groups-append (node k j i) f =
-    ap (λ l. node-groups k j ++ (all-groups j ++ l)) (all-groups-append i f) ∙ ap (λ l. node-groups k j ++ l) (sym (append-assoc (all-groups j) (all-groups i) (all-groups f)))
-    ∙ sym (append-assoc (node-groups k j) (all-groups j ++ all-groups i) (all-groups f))
+pub characteristic-append : (i f : Forest) → characteristic (append i f) ≡ characteristic i ++ characteristic f
+characteristic-append nil f = refl
+characteristic-append (leaf b i) f = characteristic-append i f
+characteristic-append (node k j i) f =
+    ap (λ l. node-groups k j ++ (characteristic j ++ l)) (characteristic-append i f) ∙ ap (λ l. node-groups k j ++ l) (sym (append-assoc (characteristic j) (characteristic i) (characteristic f)))
+    ∙ sym (append-assoc (node-groups k j) (characteristic j ++ characteristic i) (characteristic f))

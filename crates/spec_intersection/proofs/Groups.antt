@@ -13,7 +13,7 @@ use Rattle.spec_orders.proofs.Members.{nonempty-left, in-left, in-right, in-all
 use Rattle.spec_orders.proofs.Laws.{turn-perm, leaves-of, flat, frontier-flat}
 use Rattle.spec_orders.proofs.Parts.{consistent-unput, item-perm, forest, forest-items}
 use Rattle.spec_orders.proofs.Mirror.{consistent-unmirror}
-use Rattle.spec_intersection.specs.Intersection.{item-pairs, p-items, node-groups, all-groups}
+use Rattle.spec_intersection.specs.Intersection.{item-pairs, p-items, node-groups, characteristic}
 use Rattle.spec_intersection.proofs.Lists.{Within}
 use Rattle.spec_intersection.proofs.Pieces.{Fair, in-flat, item-block}
 use Rattle.spec_intersection.proofs.Runs.{Run, run-left, run-right, run-unmirror, run-three}
@@ -46,22 +46,22 @@ module _ (Q : List ℕ → Type 0) where
 -- All groups, item by item.
 abbrev pub item-groups : Item → List (List ℕ)
 item-groups (leaf-item b) = []
-item-groups (node-item k i) = node-groups k i ++ all-groups i
+item-groups (node-item k i) = node-groups k i ++ characteristic i
 
 module _ (Q : List ℕ → Type 0) where
-  pub groups-items : (f : Forest) → All Q (all-groups f) → All (λ t. All Q (item-groups t)) (items f)
+  pub groups-items : (f : Forest) → All Q (characteristic f) → All (λ t. All Q (item-groups t)) (items f)
   groups-items nil h = tt
   groups-items (leaf b f) h = (tt, groups-items f h)
   groups-items (node k i f) h =
-      let g : All Q ((node-groups k i ++ all-groups i) ++ all-groups f) = rw append-assoc h in
-      (all-left Q (node-groups k i ++ all-groups i) (all-groups f) g, groups-items f (all-right Q (node-groups k i ++ all-groups i) (all-groups f) g))
+      let g : All Q ((node-groups k i ++ characteristic i) ++ characteristic f) = rw append-assoc h in
+      (all-left Q (node-groups k i ++ characteristic i) (characteristic f) g, groups-items f (all-right Q (node-groups k i ++ characteristic i) (characteristic f) g))
 
-  items-groups : (f : Forest) → All (λ t. All Q (item-groups t)) (items f) → All Q (all-groups f)
+  items-groups : (f : Forest) → All (λ t. All Q (item-groups t)) (items f) → All Q (characteristic f)
   items-groups nil h = tt
   items-groups (leaf b f) h = items-groups f (h .1)
-  items-groups (node k i f) h = subst (All Q) (append-assoc (node-groups k i) (all-groups i) (all-groups f)) (all-append Q (node-groups k i ++ all-groups i) (all-groups f) (h .0) (items-groups f (h .1)))
+  items-groups (node k i f) h = subst (All Q) (append-assoc (node-groups k i) (characteristic i) (characteristic f)) (all-append Q (node-groups k i ++ characteristic i) (characteristic f) (h .0) (items-groups f (h .1)))
 
-  groups-perm : (i j : Forest) → Rearranged (items j) (items i) → All Q (all-groups j) → All Q (all-groups i)
+  groups-perm : (i j : Forest) → Rearranged (items j) (items i) → All Q (characteristic j) → All Q (characteristic i)
   groups-perm i j p h = items-groups i (perm-all (λ t. All Q (item-groups t)) p (groups-items j h))
 
 -- In an allowed order each item's leaves stand together, and so do neighbours.
@@ -95,16 +95,16 @@ node-runs C i j xs (inl e) s = neighbour-runs i xs (subst (λ g. Consistent g xs
 node-runs C i j xs (inr e) s =
     all-map (λ L. Run L (reverse xs)) (λ L. Run L xs) (λ L. run-unmirror L xs) (item-pairs i) (neighbour-runs i (reverse xs) (consistent-unmirror i xs (subst (λ g. Consistent g xs) e s)))
 
-pub consistent-runs : {f : Forest} {xs : List ℕ} → Consistent f xs → Runs (all-groups f) xs
+pub consistent-runs : {f : Forest} {xs : List ℕ} → Consistent f xs → Runs (characteristic f) xs
 consistent-runs no-items = tt
-consistent-runs (leaf-first {b = b} {f = f} {xs = xs} s) = all-map (λ L. Run L xs) (λ L. Run L (b ∷ xs)) (λ L. run-right L (b ∷ []) xs) (all-groups f) (consistent-runs s)
+consistent-runs (leaf-first {b = b} {f = f} {xs = xs} s) = all-map (λ L. Run L xs) (λ L. Run L (b ∷ xs)) (λ L. run-right L (b ∷ []) xs) (characteristic f) (consistent-runs s)
 consistent-runs (node-first {k = k} {i = i} {j = j} {f = f} {ys = ys} {zs = zs} t s r e) =
     let up : (l : List (List ℕ)) → Runs l ys → Runs l (ys ++ zs) = all-map (λ L. Run L ys) (λ L. Run L (ys ++ zs)) (λ L. run-left L ys zs) in
     let ci = groups-perm (λ L. Run L ys) i j (perm-sym (turn-perm k i j t)) (consistent-runs s) in
-    let cf = all-map (λ L. Run L zs) (λ L. Run L (ys ++ zs)) (λ L. run-right L ys zs) (all-groups f) (consistent-runs r) in
-    subst (Runs (node-groups k i ++ (all-groups i ++ all-groups f))) (sym e)
-    (all-append (λ L. Run L (ys ++ zs)) (node-groups k i) (all-groups i ++ all-groups f) (up (node-groups k i) (node-runs k i j ys t s))
-    (all-append (λ L. Run L (ys ++ zs)) (all-groups i) (all-groups f) (up (all-groups i) ci) cf))
+    let cf = all-map (λ L. Run L zs) (λ L. Run L (ys ++ zs)) (λ L. run-right L ys zs) (characteristic f) (consistent-runs r) in
+    subst (Runs (node-groups k i ++ (characteristic i ++ characteristic f))) (sym e)
+    (all-append (λ L. Run L (ys ++ zs)) (node-groups k i) (characteristic i ++ characteristic f) (up (node-groups k i) (node-runs k i j ys t s))
+    (all-append (λ L. Run L (ys ++ zs)) (characteristic i) (characteristic f) (up (characteristic i) ci) cf))
 
 -- The groups of an item hold leaves of that item.
 node-within : (k : Kind) (i : Forest) → All (Within (frontier i)) (node-groups k i)
@@ -114,16 +114,16 @@ node-within C i = rw (item-pairs-are i, frontier-flat i) (pairs-within (items i)
 wider : (M N : List ℕ) → ((x : ℕ) → In x M → In x N) → (l : List (List ℕ)) → All (Within M) l → All (Within N) l
 wider M N h = all-map (Within M) (Within N) (λ L w x i. h x (w x i))
 
-node-item-within : (k : Kind) (i : Forest) → All (Within (frontier i)) (all-groups i) → All (Within (frontier i)) (node-groups k i ++ all-groups i)
-node-item-within k i h = all-append (Within (frontier i)) (node-groups k i) (all-groups i) (node-within k i) h
+node-item-within : (k : Kind) (i : Forest) → All (Within (frontier i)) (characteristic i) → All (Within (frontier i)) (node-groups k i ++ characteristic i)
+node-item-within k i h = all-append (Within (frontier i)) (node-groups k i) (characteristic i) (node-within k i) h
 
-pub groups-within : (f : Forest) → All (Within (frontier f)) (all-groups f)
+pub groups-within : (f : Forest) → All (Within (frontier f)) (characteristic f)
 groups-within nil = tt
-groups-within (leaf b f) = wider (frontier f) (b ∷ frontier f) (λ x. inr) (all-groups f) (groups-within f)
-groups-within (node k i f) = subst (All (Within (frontier i ++ frontier f))) (append-assoc (node-groups k i) (all-groups i) (all-groups f))
-    (all-append (Within (frontier i ++ frontier f)) (node-groups k i ++ all-groups i) (all-groups f)
-    (wider (frontier i) (frontier i ++ frontier f) (λ x. in-left x (frontier i) (frontier f)) (node-groups k i ++ all-groups i) (node-item-within k i (groups-within i)))
-    (wider (frontier f) (frontier i ++ frontier f) (λ x. in-right x (frontier i) (frontier f)) (all-groups f) (groups-within f)))
+groups-within (leaf b f) = wider (frontier f) (b ∷ frontier f) (λ x. inr) (characteristic f) (groups-within f)
+groups-within (node k i f) = subst (All (Within (frontier i ++ frontier f))) (append-assoc (node-groups k i) (characteristic i) (characteristic f))
+    (all-append (Within (frontier i ++ frontier f)) (node-groups k i ++ characteristic i) (characteristic f)
+    (wider (frontier i) (frontier i ++ frontier f) (λ x. in-left x (frontier i) (frontier f)) (node-groups k i ++ characteristic i) (node-item-within k i (groups-within i)))
+    (wider (frontier f) (frontier i ++ frontier f) (λ x. in-right x (frontier i) (frontier f)) (characteristic f) (groups-within f)))
 
 pub item-within : (t : Item) → All (Within (leaves-of t)) (item-groups t)
 item-within (leaf-item b) = tt
@@ -146,13 +146,13 @@ node-distinct : (k : Kind) (i : Forest) → Distinct (flat (items i)) → All Di
 node-distinct P i d = every-item Distinct i (items-apart (items i) d)
 node-distinct C i d = rw (item-pairs-are i) (pairs-distinct (items i) d)
 
-pub groups-distinct : (f : Forest) → Distinct (frontier f) → All Distinct (all-groups f)
+pub groups-distinct : (f : Forest) → Distinct (frontier f) → All Distinct (characteristic f)
 groups-distinct nil d = tt
 groups-distinct (leaf b f) d = groups-distinct f (d .1)
 groups-distinct (node k i f) d =
     let di = distinct-left (frontier i) (frontier f) d in
-    all-append Distinct (node-groups k i) (all-groups i ++ all-groups f) (node-distinct k i (subst Distinct (frontier-flat i) di))
-    (all-append Distinct (all-groups i) (all-groups f) (groups-distinct i di) (groups-distinct f (distinct-right (frontier i) (frontier f) d)))
+    all-append Distinct (node-groups k i) (characteristic i ++ characteristic f) (node-distinct k i (subst Distinct (frontier-flat i) di))
+    (all-append Distinct (characteristic i) (characteristic f) (groups-distinct i di) (groups-distinct f (distinct-right (frontier i) (frontier f) d)))
 
 -- Of three items or more the neighbours stand together: so do all, and so does each.
 pub record Held (ts : List Item) (xs : List ℕ) : Type 0 where

@@ -1,23 +1,20 @@
--- The intersection of two trees in form: impossible iff they allow no order in common; else the tree, in form and with three items or more in
--- every C-node, that allows exactly the orders allowed by both.
+-- The intersection of two trees in form: impossible iff they allow no order in common; else the tree in form that allows exactly the orders allowed by
+-- both.
 use mathlib.Core.Path.{_∙_, _≡_, ap, refl, subst, sym}
-use mathlib.Core.Logic.{Iff·trans, _↔_}
-use mathlib.Core.Option.{Option, Option·none-ne-some, Option·some-injective, none, some}
+use mathlib.Core.Logic.{_↔_}
+use mathlib.Core.Option.{Option, none, some}
 use mathlib.Core.List.{List, map}
 use Prim.Native.Nat.{ℕ}
 use Rattle.spec_orders.specs.Lists.{elem}
 use Rattle.spec_orders.specs.CircularOrder.{CircularOrder}
 use Rattle.spec_orders.specs.Tree.{Forest, Allowed}
 use Rattle.spec_orders.specs.Form.{InForm, standard}
-use Rattle.spec_orders.specs.Join.{then, joins}
 use Rattle.spec_orders.proofs.Rearranged.{perm-trans}
 use Rattle.spec_orders.proofs.Laws.{consistent-perm}
 use Rattle.spec_orders.proofs.StandardOrders.{standard-allowed}
 use Rattle.spec_orders.proofs.Joining.{Allows, join-some}
 use Rattle.spec_orders.proofs.Fresh.{joins-orders}
-use Rattle.spec_intersection.specs.ThreeNeighbours.{Wide, relabel}
 use Rattle.spec_intersection.specs.Intersection.{characteristic, intersection}
-use Rattle.spec_intersection.proofs.Relabel.{relabel-orders, relabel-form, relabel-wide}
 use Rattle.spec_intersection.proofs.Characteristic.{characteristic-orders}
 use Rattle.spec_intersection.proofs.GroupWalk.{joins-keep}
 use Rattle.spec_intersection.proofs.SameTrees.{same-tree}
@@ -26,19 +23,12 @@ module _ (n : ℕ) (t u : Forest) (f : InForm n t) (g : InForm n u) where
   circular : (ord : List ℕ) → Allowed t ord → CircularOrder n ord
   circular ord a = record { after = a .after; one-first = a .one-first; all-leaves = perm-trans (f .all-leaves) (consistent-perm (a .order)) }
 
-  joined : (ord : List ℕ) → Allows (joins (map elem (characteristic u)) t) ord ↔ (Allowed t ord × Allowed u ord)
-  joined ord =
+  intersection-orders : (ord : List ℕ) → Allows (intersection t u) ord ↔ (Allowed t ord × Allowed u ord)
+  unfolding intersection
+  intersection-orders ord =
       let j = joins-orders n (map elem (characteristic u)) t f ord in
       let c = characteristic-orders n u g ord in
       ((λ h. let r = j .0 h in (r .0, c .1 (circular ord (r .0), r .1))), (λ h. j .1 (h .0, c .0 (h .1) .1)))
-
-  intersection-orders : (ord : List ℕ) → Allows (intersection t u) ord ↔ (Allowed t ord × Allowed u ord)
-  unfolding intersection
-  intersection-orders ord = go (joins (map elem (characteristic u)) t) (joined ord)
-    where
-      go : (o : Option Forest) → Allows o ord ↔ (Allowed t ord × Allowed u ord) → Allows (then o (λ v. some (relabel v))) ord ↔ (Allowed t ord × Allowed u ord)
-      go none h = h
-      go (some v) h = Iff·trans (relabel-orders v ord) h
 
   -- "If there is none, the call is refused with 8."
   pub intersection-none : (intersection t u ≡ none) ↔ ((ord : List ℕ) → Allowed t ord → Allowed u ord → ⊥)
@@ -51,23 +41,14 @@ module _ (n : ℕ) (t u : Forest) (f : InForm n t) (g : InForm n u) where
 -- "The tree that allows exactly the orders allowed by both."
 pub record AllowsBoth (n : ℕ) (t u v : Forest) : Type 0 where
   pub form : InForm n v
-  pub wide : Wide v
   pub orders : (ord : List ℕ) → Allowed v ord ↔ (Allowed t ord × Allowed u ord)
 
 pub intersection-some : (n : ℕ) (t u v : Forest) → InForm n t → InForm n u → intersection t u ≡ some v → AllowsBoth n t u v
 unfolding intersection
-intersection-some n t u v f g e = go (joins (map elem (characteristic u)) t) refl e
-  where
-    go : (o : Option Forest) → joins (map elem (characteristic u)) t ≡ o → then o (λ v. some (relabel v)) ≡ some v → AllowsBoth n t u v
-    go none q e = absurd (Option·none-ne-some v e)
-    go (some w) q e =
-        let fw = joins-keep (InForm n) (λ G t u f q. join-some n G t u f q .form) (map elem (characteristic u)) t w f q in
-        let h : AllowsBoth n t u (relabel w) = record {
-          form = relabel-form n w fw;
-          wide = relabel-wide w (fw .canonical);
-          orders = λ ord. Iff·trans (relabel-orders w ord) (subst (λ o. Allows o ord ↔ (Allowed t ord × Allowed u ord)) q (joined n t u f g ord));
-        } in
-        subst (AllowsBoth n t u) (Option·some-injective (relabel w) v e) h
+intersection-some n t u v f g e = record {
+  form = joins-keep (InForm n) (λ G t u f q. join-some n G t u f q .form) (map elem (characteristic u)) t v f e;
+  orders = λ ord. subst (λ o. Allows o ord ↔ (Allowed t ord × Allowed u ord)) e (intersection-orders n t u f g ord);
+}
 
 -- The groups of either tree may join the other.
 pub intersection-either : (n : ℕ) (t u : Forest) → InForm n t → InForm n u → intersection t u ≡ intersection u t
@@ -83,4 +64,4 @@ intersection-either n t u f g = go (intersection t u) refl (intersection u t) re
         let a = intersection-some n t u v f g e in
         let b = intersection-some n u t w g f d in
         let h : (ord : List ℕ) → Allowed v ord ↔ Allowed w ord = λ ord. ((λ x. let r = a .orders ord .0 x in b .orders ord .1 (r .1, r .0)), (λ x. let r = b .orders ord .0 x in a .orders ord .1 (r .1, r .0))) in
-        e ∙ ap some (same-tree n v w (a .form) (a .wide) (b .form) (b .wide) h) ∙ sym d
+        e ∙ ap some (same-tree n v w (a .form) (b .form) h) ∙ sym d

@@ -1,8 +1,6 @@
 -- Laws of lists, and of one item of a sequence.
 pub mod Lists
 pub mod Pieces
--- A C-node with two items becomes a P-node.
-pub mod Relabel
 -- Leaves that stand together; a tree's groups do in its orders, and in no others.
 pub mod Runs
 pub mod Blocks

@@ -1,17 +1,18 @@
 -- One item of a sequence: its leaves, and where its order stands in an order of the whole.
 use mathlib.Core.Path.{_∙_, _≡_, ap, refl, subst, sym}
 use mathlib.Core.Logic.{_↔_, _≢_, inl, inr}
-use mathlib.Core.List.{List, [], _++_, _∷_, reverse, reverse-cons, tail-eq-of-cons-eq}
+use mathlib.Core.List.{List, [], _++_, _∷_, tail-eq-of-cons-eq}
 use Prim.Native.Nat.{ℕ}
 use native.Mathlib.Omega.{arith}
 use Rattle.spec_orders.specs.Lists.{All, Distinct, In}
-use Rattle.spec_orders.specs.Tree.{Kind, Forest, nil, leaf, node, Item, leaf-item, node-item, items, append, rev, frontier, Consistent, Allowed}
-use Rattle.spec_orders.specs.Form.{Every, TwoItems, Canonical}
+use Rattle.spec_orders.specs.Tree.{Kind, Forest, nil, leaf, node, Item, leaf-item, node-item, items, append, frontier, Consistent, Allowed}
+use Rattle.spec_orders.specs.Form.{Every, Canonical}
+use Rattle.spec_orders.specs.TreeText.{TwoItems}
 use Rattle.spec_orders.specs.Reduce.{put, one}
 use Rattle.spec_orders.proofs.Members.{NonEmpty, in-left, in-right, in-all, perm-in, distinct-right, apart}
-use Rattle.spec_orders.proofs.Laws.{forest-assoc, items-append, turn-perm, leaves-of, flat, Every-of, Forked, Canonical-of, consistent-split}
+use Rattle.spec_orders.proofs.Laws.{forest-assoc, turn-perm, leaves-of, flat, Every-of, Forked, Canonical-of, enough-two, canonical-forked, consistent-split}
 use Rattle.spec_orders.proofs.First.{two-nonempty}
-use Rattle.spec_orders.proofs.Parts.{put-one, items-put, consistent-unput, node-out, canonical-forked, forked-nonempty, forest}
+use Rattle.spec_orders.proofs.Parts.{put-one, items-put, consistent-unput, node-out, forked-nonempty}
 use Rattle.spec_intersection.proofs.Lists.{overlap}
 
 -- The same orders on the line.
@@ -20,15 +21,6 @@ Alike f g = (xs : List ℕ) → Consistent f xs ↔ Consistent g xs
 
 pub consistent-allowed : (t : Forest) (xs : List ℕ) → Consistent t xs ↔ Allowed t (1 ∷ xs)
 consistent-allowed t xs = ((λ s. record { after = xs; one-first = refl; order = s }), (λ a. subst (Consistent t) (sym (tail-eq-of-cons-eq (a .one-first))) (a .order)))
-
-pub items-rev : (f : Forest) → items (rev f) ≡ reverse (items f)
-items-rev nil = refl
-items-rev (leaf b f) = items-append (rev f) (leaf b nil) ∙ ap (λ l. l ++ (leaf-item b ∷ [])) (items-rev f) ∙ sym (reverse-cons (leaf-item b) (items f))
-items-rev (node k i f) = items-append (rev f) (node k i nil) ∙ ap (λ l. l ++ (node-item k i ∷ [])) (items-rev f) ∙ sym (reverse-cons (node-item k i) (items f))
-
-pub items-forest : (ts : List Item) → items (forest ts) ≡ ts
-items-forest [] = refl
-items-forest (t ∷ ts) = items-put t (forest ts) ∙ ap (λ l. t ∷ l) (items-forest ts)
 
 -- The first item.
 pub append-put : (p : Forest) (t : Item) (f : Forest) → append (append p (one t)) f ≡ append p (put t f)
@@ -74,7 +66,7 @@ frontier-nonempty f c = forked-nonempty f (canonical-forked f c)
 
 pub item-nonempty : (t : Item) → Canonical-of t → Fair t
 item-nonempty (leaf-item b) c = tt
-item-nonempty (node-item k i) c = frontier-nonempty i (c .1) (two-nonempty (items i) (c .0 .0))
+item-nonempty (node-item k i) c = frontier-nonempty i (c .1) (two-nonempty (items i) (enough-two k i (c .0 .0)))
 
 -- Items that share no leaf are different.
 pub in-flat : (t : Item) (ts : List Item) (x : ℕ) → In t ts → In x (leaves-of t) → In x (flat ts)

@@ -1,4 +1,4 @@
--- Two canonical trees, with three or more items in each C-node, that allow the same orders are the same tree.
+-- Two canonical trees that allow the same orders are the same tree.
 use mathlib.Core.Path.{_∙_, _≡_, ap, ap₂, refl, subst, sym}
 use mathlib.Core.Logic.{_⊎_, inl, inr}
 use mathlib.Core.List.{List, [], _++_, _∷_, append-assoc, append-nil, head-eq-of-cons-eq, reverse, reverse-append, tail-eq-of-cons-eq}
@@ -7,16 +7,16 @@ use native.Mathlib.Omega.{arith}
 use lib.ListN.{length}
 use Rattle.spec_orders.specs.Lists.{Distinct, here, there, Rearranged, next}
 use Rattle.spec_orders.specs.Tree.{Kind, P, C, Forest, nil, leaf, node, Item, leaf-item, node-item, items, append, frontier, Turn, Consistent}
-use Rattle.spec_orders.specs.Form.{TwoItems, Canonical, Single}
+use Rattle.spec_orders.specs.Form.{Enough, Canonical, Single}
+use Rattle.spec_orders.specs.TreeText.{TwoItems}
 use Rattle.spec_orders.specs.Reduce.{put, one}
 use Rattle.spec_orders.proofs.Rearranged.{perm-refl, perm-trans, perm-sym}
 use Rattle.spec_orders.proofs.Members.{NonEmpty, nonempty-left, in-left, in-right, perm-in, perm-nonempty, distinct-left, distinct-right, apart, perm-reverse, Later, cut}
 use Rattle.spec_orders.proofs.NotAfter.{not-after-antisym}
-use Rattle.spec_orders.proofs.Laws.{turn-refl, leaves-of, every-append, Node-canonical, Canonical-of, consistent-append, frontier-append}
+use Rattle.spec_orders.proofs.Laws.{turn-refl, leaves-of, every-append, Node-canonical, Canonical-of, enough-two, consistent-append, frontier-append}
 use Rattle.spec_orders.proofs.First.{frontier-allowed, two-nonempty, frontier-first}
 use Rattle.spec_orders.proofs.Parts.{put-one, items-put, frontier-put, frontier-one, consistent-put, consistent-unput, node-in, node-out, item-perm}
 use Rattle.spec_orders.proofs.Mirror.{consistent-unmirror}
-use Rattle.spec_intersection.specs.ThreeNeighbours.{ThreeItems, Wide}
 use Rattle.spec_intersection.proofs.Lists.{nonempty-right, same-run, overlap}
 use Rattle.spec_intersection.proofs.Pieces.{Alike, append-put, uncons, put-two, every-put, every-one, frontier-nonempty, item-nonempty, place-in, node-block}
 use Rattle.spec_intersection.proofs.Coarse.{frontier-whole, order-distinct, coarse}
@@ -70,7 +70,7 @@ kinds-differ i c d h sub =
     (subst Distinct (ap frontier e ∙ frontier-put t (put u g) ∙ ap (λ l. leaves-of t ++ l) (frontier-put u g)) d)
     (subst (λ j. (xs : List ℕ) → Consistent (node P j nil) xs → Consistent (node C j nil) xs) e sub)
 
-same-kind : (k l : Kind) (i : Forest) → Canonical i → Distinct (frontier i) → ThreeItems k i → ThreeItems l i → Alike (node k i nil) (node l i nil) → k ≡ l
+same-kind : (k l : Kind) (i : Forest) → Canonical i → Distinct (frontier i) → Enough k i → Enough l i → Alike (node k i nil) (node l i nil) → k ≡ l
 same-kind P P i c d ak al h = refl
 same-kind C C i c d ak al h = refl
 same-kind P C i c d ak al h = absurd (kinds-differ i c d al (λ xs. h xs .0))
@@ -135,8 +135,6 @@ record Twin (k l : Kind) (p q f g : Forest) : Type 0 where
   canon-q : Canonical q
   canon-f : Canonical f
   canon-g : Canonical g
-  wide-f : Wide f
-  wide-g : Wide g
   two-f : TwoItems (items (append p f))
   two-g : TwoItems (items (append q g))
   passed : frontier p ≡ frontier q
@@ -144,15 +142,13 @@ record Twin (k l : Kind) (p q f g : Forest) : Type 0 where
   apart-g : Distinct (frontier q ++ frontier g)
   alike : Alike (node k (append p f) nil) (node l (append q g) nil)
 
-twin-next : (k l : Kind) (p q : Forest) (t u : Item) (f g : Forest) → Canonical-of t → Canonical-of u → Canonical f → Canonical g → Wide f → Wide g → leaves-of t ≡ leaves-of u → frontier f ≡ frontier g
+twin-next : (k l : Kind) (p q : Forest) (t u : Item) (f g : Forest) → Canonical-of t → Canonical-of u → Canonical f → Canonical g → leaves-of t ≡ leaves-of u → frontier f ≡ frontier g
     → Twin k l p q (put t f) (put u g) → Twin k l (append p (one t)) (append q (one u)) f g
-twin-next k l p q t u f g ct cu cf cg wf wg e el w = record {
+twin-next k l p q t u f g ct cu cf cg e el w = record {
   canon-p = every-append Node-canonical p (one t) (w .canon-p) (every-one Node-canonical t ct);
   canon-q = every-append Node-canonical q (one u) (w .canon-q) (every-one Node-canonical u cu);
   canon-f = cf;
   canon-g = cg;
-  wide-f = wf;
-  wide-g = wg;
   two-f = rw (append-put p t f) (w .two-f);
   two-g = rw (append-put q u g) (w .two-g);
   passed = frontier-next p q t u (w .passed) e;
@@ -180,19 +176,17 @@ twin-down k l p q k′ l′ i j f g e w = record {
   canon-q = tt;
   canon-f = w .canon-f .0 .1;
   canon-g = w .canon-g .0 .1;
-  wide-f = w .wide-f .0 .1;
-  wide-g = w .wide-g .0 .1;
-  two-f = w .canon-f .0 .0 .0;
-  two-g = w .canon-g .0 .0 .0;
+  two-f = enough-two k′ i (w .canon-f .0 .0 .0);
+  two-g = enough-two l′ j (w .canon-g .0 .0 .0);
   passed = refl;
   left = e;
   apart-g = distinct-left (frontier j) (frontier g) (distinct-right (frontier q) (frontier j ++ frontier g) (w .apart-g));
   alike = twin-inside k l p q k′ l′ i j f g e w;
 }
 
-twin-kind : (k l : Kind) (i j : Forest) → i ≡ j → ThreeItems k i → ThreeItems l j → Twin k l nil nil i j → k ≡ l
+twin-kind : (k l : Kind) (i j : Forest) → i ≡ j → Enough k i → Enough l j → Twin k l nil nil i j → k ≡ l
 twin-kind k l i j s ak al v =
-    same-kind k l i (v .canon-f) (subst Distinct (sym (v .left)) (v .apart-g)) ak (subst (ThreeItems l) (sym s) al) (subst (λ h. Alike (node k i nil) (node l h nil)) (sym s) (v .alike))
+    same-kind k l i (v .canon-f) (subst Distinct (sym (v .left)) (v .apart-g)) ak (subst (Enough l) (sym s) al) (subst (λ h. Alike (node k i nil) (node l h nil)) (sym s) (v .alike))
 
 same-node : {k l : Kind} {i j f g : Forest} → k ≡ l → i ≡ j → f ≡ g → node k i f ≡ node l j g
 same-node a b c = cc
@@ -205,52 +199,50 @@ walk (leaf b f) nil p q k l w = absurd (subst NonEmpty (w .left) tt)
 walk (node k′ i f) nil p q k l w = absurd (subst NonEmpty (w .left) (frontier-nonempty (node k′ i f) (w .canon-f) tt))
 walk (leaf b f) (leaf c g) p q k l w =
     let e = twin-cut k l p q (leaf-item b) (leaf-item c) f g w in
-    let r = walk f g (append p (leaf b nil)) (append q (leaf c nil)) k l (twin-next k l p q (leaf-item b) (leaf-item c) f g tt tt (w .canon-f) (w .canon-g) (w .wide-f) (w .wide-g) (e .0) (e .1) w) in
+    let r = walk f g (append p (leaf b nil)) (append q (leaf c nil)) k l (twin-next k l p q (leaf-item b) (leaf-item c) f g tt tt (w .canon-f) (w .canon-g) (e .0) (e .1) w) in
     ap₂ leaf (head-eq-of-cons-eq (e .0)) r
 walk (leaf b f) (node l′ j g) p q k l w =
     let e = twin-cut k l p q (leaf-item b) (node-item l′ j) f g w in
-    absurd (node-frontier j b (w .canon-g .0 .1) (w .canon-g .0 .0 .0) (sym (e .0)))
+    absurd (node-frontier j b (w .canon-g .0 .1) (enough-two l′ j (w .canon-g .0 .0 .0)) (sym (e .0)))
 walk (node k′ i f) (leaf c g) p q k l w =
     let e = twin-cut k l p q (node-item k′ i) (leaf-item c) f g w in
-    absurd (node-frontier i c (w .canon-f .0 .1) (w .canon-f .0 .0 .0) (e .0))
+    absurd (node-frontier i c (w .canon-f .0 .1) (enough-two k′ i (w .canon-f .0 .0 .0)) (e .0))
 walk (node k′ i f) (node l′ j g) p q k l w =
     let e = twin-cut k l p q (node-item k′ i) (node-item l′ j) f g w in
-    let r = walk f g (append p (node k′ i nil)) (append q (node l′ j nil)) k l (twin-next k l p q (node-item k′ i) (node-item l′ j) f g (w .canon-f .0) (w .canon-g .0) (w .canon-f .1) (w .canon-g .1) (w .wide-f .1) (w .wide-g .1) (e .0) (e .1) w) in
+    let r = walk f g (append p (node k′ i nil)) (append q (node l′ j nil)) k l (twin-next k l p q (node-item k′ i) (node-item l′ j) f g (w .canon-f .0) (w .canon-g .0) (w .canon-f .1) (w .canon-g .1) (e .0) (e .1) w) in
     let v = twin-down k l p q k′ l′ i j f g (e .0) w in
     let s = walk i j nil nil k′ l′ v in
-    let m = twin-kind k′ l′ i j s (w .wide-f .0 .0) (w .wide-g .0 .0) v in
+    let m = twin-kind k′ l′ i j s (w .canon-f .0 .0 .0) (w .canon-g .0 .0 .0) v in
     same-node m s r
 
 same-frontier : (f g : Forest) → Canonical f → Canonical g → Alike f g → frontier f ≡ frontier g
 same-frontier f g cf cg h = not-after-antisym (frontier f) (frontier g) (frontier-first (h (frontier g) .1 (frontier-allowed g)) cf) (frontier-first (h (frontier f) .0 (frontier-allowed f)) cg)
 
 -- Same orders, same tree.
-pub unique : (f g : Forest) → Canonical f → Wide f → Canonical g → Wide g → Distinct (frontier f) → Single (items f) → Single (items g) → Alike f g → f ≡ g
-unique nil nil cf wf cg wg d of og h = refl
-unique nil (leaf c g) cf wf cg wg d of og h = absurd (subst NonEmpty (sym (same-frontier nil (leaf c g) cf cg h)) tt)
-unique nil (node l j g) cf wf cg wg d of og h = absurd (subst NonEmpty (sym (same-frontier nil (node l j g) cf cg h)) (frontier-nonempty (node l j g) cg tt))
-unique (leaf b f) nil cf wf cg wg d of og h = absurd (subst NonEmpty (same-frontier (leaf b f) nil cf cg h) tt)
-unique (node k i f) nil cf wf cg wg d of og h = absurd (subst NonEmpty (same-frontier (node k i f) nil cf cg h) (frontier-nonempty (node k i f) cf tt))
-unique (leaf b nil) (leaf c nil) cf wf cg wg d of og h = ap (λ x. leaf x nil) (head-eq-of-cons-eq (same-frontier (leaf b nil) (leaf c nil) cf cg h))
-unique (leaf b nil) (node l j nil) cf wf cg wg d of og h =
-    absurd (node-frontier j b (cg .0 .1) (cg .0 .0 .0) (sym (same-frontier (leaf b nil) (node l j nil) cf cg h ∙ append-nil (frontier j))))
-unique (node k i nil) (leaf c nil) cf wf cg wg d of og h =
-    absurd (node-frontier i c (cf .0 .1) (cf .0 .0 .0) (sym (append-nil (frontier i)) ∙ same-frontier (node k i nil) (leaf c nil) cf cg h))
-unique (node k i nil) (node l j nil) cf wf cg wg d of og h =
+pub unique : (f g : Forest) → Canonical f → Canonical g → Distinct (frontier f) → Single (items f) → Single (items g) → Alike f g → f ≡ g
+unique nil nil cf cg d of og h = refl
+unique nil (leaf c g) cf cg d of og h = absurd (subst NonEmpty (sym (same-frontier nil (leaf c g) cf cg h)) tt)
+unique nil (node l j g) cf cg d of og h = absurd (subst NonEmpty (sym (same-frontier nil (node l j g) cf cg h)) (frontier-nonempty (node l j g) cg tt))
+unique (leaf b f) nil cf cg d of og h = absurd (subst NonEmpty (same-frontier (leaf b f) nil cf cg h) tt)
+unique (node k i f) nil cf cg d of og h = absurd (subst NonEmpty (same-frontier (node k i f) nil cf cg h) (frontier-nonempty (node k i f) cf tt))
+unique (leaf b nil) (leaf c nil) cf cg d of og h = ap (λ x. leaf x nil) (head-eq-of-cons-eq (same-frontier (leaf b nil) (leaf c nil) cf cg h))
+unique (leaf b nil) (node l j nil) cf cg d of og h =
+    absurd (node-frontier j b (cg .0 .1) (enough-two l j (cg .0 .0 .0)) (sym (same-frontier (leaf b nil) (node l j nil) cf cg h ∙ append-nil (frontier j))))
+unique (node k i nil) (leaf c nil) cf cg d of og h =
+    absurd (node-frontier i c (cf .0 .1) (enough-two k i (cf .0 .0 .0)) (sym (append-nil (frontier i)) ∙ same-frontier (node k i nil) (leaf c nil) cf cg h))
+unique (node k i nil) (node l j nil) cf cg d of og h =
     let e : frontier i ≡ frontier j = sym (append-nil (frontier i)) ∙ same-frontier (node k i nil) (node l j nil) cf cg h ∙ append-nil (frontier j) in
     let w : Twin k l nil nil i j = record {
       canon-p = tt;
       canon-q = tt;
       canon-f = cf .0 .1;
       canon-g = cg .0 .1;
-      wide-f = wf .0 .1;
-      wide-g = wg .0 .1;
-      two-f = cf .0 .0 .0;
-      two-g = cg .0 .0 .0;
+      two-f = enough-two k i (cf .0 .0 .0);
+      two-g = enough-two l j (cg .0 .0 .0);
       passed = refl;
       left = e;
       apart-g = subst Distinct (append-nil (frontier i) ∙ e) d;
       alike = h;
     } in
     let s = walk i j nil nil k l w in
-    same-node (twin-kind k l i j s (wf .0 .0) (wg .0 .0) w) s refl
+    same-node (twin-kind k l i j s (cf .0 .0 .0) (cg .0 .0 .0) w) s refl

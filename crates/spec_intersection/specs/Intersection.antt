@@ -1,12 +1,11 @@
 -- Document 02, No. 1: "Given two trees on the same bins, the planner shall write the tree that allows exactly the orders allowed by both." "It is
 -- source document 000's intersection": groups that tell the orders of the second tree join the first one.
-use mathlib.Core.Option.{Option, some}
+use mathlib.Core.Option.{Option}
 use mathlib.Core.List.{List, [], _∷_, _++_, map}
 use Prim.Native.Nat.{ℕ}
 use Rattle.spec_orders.specs.Lists.{elem}
 use Rattle.spec_orders.specs.Tree.{Kind, P, C, Forest, nil, leaf, node, frontier}
-use Rattle.spec_orders.specs.Join.{then, joins}
-use Rattle.spec_intersection.specs.ThreeNeighbours.{relabel}
+use Rattle.spec_orders.specs.Join.{joins}
 
 -- The leaves of each two neighbouring items: those of the item before, and those of the next one.
 abbrev pub pairs-after : List ℕ → Forest → List (List ℕ)
@@ -31,16 +30,14 @@ abbrev pub node-groups : Kind → Forest → List (List ℕ)
 node-groups P i = p-items i
 node-groups C i = item-pairs i
 
--- Those of every node, in the order of the tree text.
-abbrev pub all-groups : Forest → List (List ℕ)
-all-groups nil = []
-all-groups (leaf b f) = all-groups f
-all-groups (node k i f) = node-groups k i ++ (all-groups i ++ all-groups f)
+-- Those of every node, in the order of the tree text: the characteristic groups. An order of the leaves of a tree in form is allowed iff each of them
+-- is consecutive in it.
+abbrev pub characteristic : Forest → List (List ℕ)
+characteristic nil = []
+characteristic (leaf b f) = characteristic f
+characteristic (node k i f) = node-groups k i ++ (characteristic i ++ characteristic f)
 
--- The characteristic groups of a tree: an order of its leaves is allowed iff each of them is consecutive in it.
-unfoldable pub characteristic : Forest → List (List ℕ)
-characteristic t = all-groups (relabel t)
-
--- The intersection of two trees; none: no order is allowed by both (8).
+-- The intersection of two trees; none: no order is allowed by both (8). "A node with three neighbours in the result is a P-node": so it is in every
+-- tree in form (`fewest`).
 unfoldable pub intersection : Forest → Forest → Option Forest
-intersection t u = then (joins (map elem (characteristic u)) t) (λ v. some (relabel v))
+intersection t u = joins (map elem (characteristic u)) t

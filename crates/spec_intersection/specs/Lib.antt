@@ -1,2 +1,1 @@
-pub mod ThreeNeighbours
 pub mod Intersection

@@ -7,12 +7,13 @@ use native.Mathlib.Omega.{arith}
 use lib.ListN.{length}
 use Rattle.spec_orders.specs.Lists.{All, here, there, Rearranged, done, next, NotAfter}
 use Rattle.spec_orders.specs.Tree.{Kind, P, C, Forest, nil, leaf, node, Item, leaf-item, node-item, items, rev, frontier, Turn, Consistent, no-items, leaf-first, node-first}
-use Rattle.spec_orders.specs.Form.{first, first-of, Rises, Rising, TwoItems, Canonical}
+use Rattle.spec_orders.specs.Form.{first, first-of, Rises, Rising, Canonical}
+use Rattle.spec_orders.specs.TreeText.{TwoItems}
 use Rattle.spec_orders.proofs.ListLaws.{all-map}
 use Rattle.spec_orders.proofs.Rearranged.{pick-all, perm-length}
 use Rattle.spec_orders.proofs.Members.{NonEmpty, perm-nonempty}
 use Rattle.spec_orders.proofs.NotAfter.{not-after-refl, not-after-trans, not-after-append, not-after-prefix}
-use Rattle.spec_orders.proofs.Laws.{rev-perm, turn-perm, turn-refl, leaves-of, flat, frontier-flat, perm-frontier, consistent-perm, Node-canonical, Canonical-of, canonical-all, canonical-perm}
+use Rattle.spec_orders.proofs.Laws.{rev-perm, turn-perm, turn-refl, leaves-of, flat, frontier-flat, perm-frontier, consistent-perm, Every-of, every-all, every-perm, Fork, Forked, Node-canonical, enough-two, canonical-forked, canonical-perm}
 
 pub frontier-allowed : (f : Forest) → Consistent f (frontier f)
 frontier-allowed nil = no-items
@@ -26,20 +27,23 @@ two-nonempty (t ∷ ts) h = tt
 abbrev pub Begins : List ℕ → ℕ → Type 0
 Begins xs x = (l : List ℕ) × (xs ≡ x ∷ l)
 
--- A canonical sequence that has an item begins with its `first`.
-first-leaf : (f : Forest) → Canonical f → NonEmpty (items f) → Begins (frontier f) (first f)
+-- A sequence that has an item, and two or more in every node, begins with its `first`.
+first-leaf : (f : Forest) → Forked f → NonEmpty (items f) → Begins (frontier f) (first f)
 first-leaf nil c h = absurd h
 first-leaf (leaf b f) c h = (frontier f, refl)
 first-leaf (node k i f) c h =
-    let r = first-leaf i (c .0 .1) (two-nonempty (items i) (c .0 .0 .0)) in
+    let r = first-leaf i (c .0 .1) (two-nonempty (items i) (c .0 .0)) in
     (r .0 ++ frontier f, ap (λ l. l ++ frontier f) (r .1))
 
 abbrev pub Starts : Item → Type 0
 Starts t = Begins (leaves-of t) (first-of t)
 
-pub canonical-starts : (t : Item) → Canonical-of t → Starts t
-canonical-starts (leaf-item b) c = ([], refl)
-canonical-starts (node-item k i) c = first-leaf i (c .1) (two-nonempty (items i) (c .0 .0))
+starts : (t : Item) → Every-of Fork t → Starts t
+starts (leaf-item b) c = ([], refl)
+starts (node-item k i) c = first-leaf i (c .1) (two-nonempty (items i) (c .0))
+
+pub all-start : (f : Forest) → Forked f → All Starts (items f)
+all-start f c = all-map (Every-of Fork) Starts starts (items f) (every-all Fork f c)
 
 -- The list that begins with the smaller number comes first.
 not-after-begin : (a b c d : List ℕ) (x y : ℕ) → Begins a x → Begins b y → x < y → NotAfter (a ++ c) (b ++ d)
@@ -68,12 +72,13 @@ rising-not-after (next {m = us} (there {x = t} {y = s} {l = ts} k) p) r g =
 -- No turn of a canonical node's items comes before them.
 turn-not-after : (k : Kind) (i j : Forest) → Turn k i j → Node-canonical k i × Canonical i → NotAfter (frontier i) (frontier j)
 turn-not-after P i j t c =
-    subst₂ NotAfter (sym (frontier-flat i)) (sym (frontier-flat j)) (rising-not-after t (c .0 .1) (all-map Canonical-of Starts canonical-starts (items i) (canonical-all i (c .1))))
+    subst₂ NotAfter (sym (frontier-flat i)) (sym (frontier-flat j)) (rising-not-after t (c .0 .1) (all-start i (canonical-forked i (c .1))))
 turn-not-after C i j (inl e) c = subst (λ h. NotAfter (frontier i) (frontier h)) (sym e) (not-after-refl (frontier i))
 turn-not-after C i j (inr e) c =
     let p = rev-perm i in
-    let s = two-nonempty (items i) (c .0 .0) in
-    let l = not-after-begin (frontier i) (frontier (rev i)) [] [] (first i) (first (rev i)) (first-leaf i (c .1) s) (first-leaf (rev i) (canonical-perm i (rev i) p (c .1)) (perm-nonempty p s)) (c .0 .1) in
+    let s = two-nonempty (items i) (enough-two C i (c .0 .0)) in
+    let g = canonical-forked i (c .1) in
+    let l = not-after-begin (frontier i) (frontier (rev i)) [] [] (first i) (first (rev i)) (first-leaf i g s) (first-leaf (rev i) (every-perm Fork i (rev i) p g) (perm-nonempty p s)) (c .0 .1) in
     subst (λ h. NotAfter (frontier i) (frontier h)) (sym e) (subst₂ NotAfter (append-nil (frontier i)) (append-nil (frontier (rev i))) l)
 
 pub frontier-first : {f : Forest} {xs : List ℕ} → Consistent f xs → Canonical f → NotAfter (frontier f) xs

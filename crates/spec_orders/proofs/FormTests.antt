@@ -13,7 +13,7 @@ use lib.ListN.{length}
 use Rattle.spec_orders.specs.Lists.{In, same, Pick, here, there, Rearranged, done, next, without, rearranged?}
 use Rattle.spec_orders.specs.CircularOrder.{others}
 use Rattle.spec_orders.specs.Tree.{Kind, P, C, Forest, nil, leaf, node, Item, items, rev, frontier}
-use Rattle.spec_orders.specs.Form.{first, first-of, Rises, Rising, Sorted, Canonical, Single, InForm, rises?, rising?, sorted?, canonical?, in-form?}
+use Rattle.spec_orders.specs.Form.{first, first-of, Rises, Rising, Sorted, fewest, Canonical, Single, InForm, rises?, rising?, sorted?, canonical?, in-form?}
 use Rattle.spec_orders.proofs.Rearranged.{perm-refl, perm-trans, perm-insert, nil-perm, perm-uncons}
 use Rattle.spec_orders.proofs.Members.{NonEmpty, perm-in}
 use Rattle.spec_orders.proofs.Tests.{both}
@@ -64,7 +64,7 @@ at-most m n = (leb-true m n, le-leb m n)
 pub canonical-decides : (f : Forest) → (canonical? f ≡ true) ↔ Canonical f
 canonical-decides nil = ((λ e. tt), (λ h. refl))
 canonical-decides (leaf b f) = canonical-decides f
-canonical-decides (node k i f) = both (both (both (at-most 2 (length (items i))) (sorted-decides k i)) (canonical-decides i)) (canonical-decides f)
+canonical-decides (node k i f) = both (both (both (at-most (fewest k) (length (items i))) (sorted-decides k i)) (canonical-decides i)) (canonical-decides f)
 
 single-short : (ts : List Item) → (length ts ≤ 1) ↔ Single ts
 single-short [] = ((λ h. tt), (λ h. omega arith))

@@ -19,7 +19,7 @@ use Rattle.spec_orders.proofs.Members.{in-one, all-in, in-all, perm-in,
 use Rattle.spec_orders.proofs.Contiguous.{L, Contiguous}
 use Rattle.spec_orders.proofs.CircleAndLine.{complement-out, consecutive-side}
 use Rattle.spec_orders.proofs.Numbers.{numbers-length, numbers-in}
-use Rattle.spec_orders.proofs.Parts.{canonical-forked}
+use Rattle.spec_orders.proofs.Laws.{canonical-forked}
 use Rattle.spec_orders.proofs.Forms.{not-one, form-distinct}
 use Rattle.spec_orders.proofs.Gives.{Gives}
 use Rattle.spec_orders.proofs.ReduceOrders.{reduce-ok, reduce-frontier, reduce-single}

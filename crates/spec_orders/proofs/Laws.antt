@@ -1,11 +1,13 @@
 -- What holds of every sequence of items: append and rev, its items as a list, its leaves, and what holds of every node.
 use mathlib.Core.Path.{_∙_, _≡_, ap, refl, subst, sym}
 use mathlib.Core.Logic.{inl, inr}
-use mathlib.Core.List.{List, [], _++_, _∷_, append-assoc}
+use mathlib.Core.List.{List, [], _++_, _∷_, append-assoc, reverse, reverse-cons}
 use Prim.Native.Nat.{ℕ}
+use native.Mathlib.Omega.{arith}
 use Rattle.spec_orders.specs.Lists.{All, Pick, here, there, Rearranged, done, next}
 use Rattle.spec_orders.specs.Tree.{Kind, P, C, Forest, nil, leaf, node, Item, leaf-item, node-item, items, append, rev, frontier, Turn, Consistent, no-items, leaf-first, node-first}
-use Rattle.spec_orders.specs.Form.{Sorted, Every, TwoItems, Canonical}
+use Rattle.spec_orders.specs.Form.{Sorted, Every, Enough, Canonical}
+use Rattle.spec_orders.specs.TreeText.{TwoItems}
 use Rattle.spec_orders.proofs.ListLaws.{all-append}
 use Rattle.spec_orders.proofs.Rearranged.{perm-refl, perm-trans, perm-all, perm-left, perm-append, perm-swap}
 
@@ -120,20 +122,33 @@ every-map Q R h (leaf b f) c = every-map Q R h f c
 every-map Q R h (node k i f) c = ((h k i (c .0 .0), every-map Q R h i (c .0 .1)), every-map Q R h f (c .1))
 
 -- Two or more items in every node, however they stand.
+abbrev pub Fork : Kind → Forest → Type 0
+Fork k i = TwoItems (items i)
+
 abbrev pub Forked : Forest → Type 0
-Forked f = Every (λ k i. TwoItems (items i)) f
+Forked f = Every Fork f
 
 abbrev pub Node-canonical : Kind → Forest → Type 0
-Node-canonical k i = TwoItems (items i) × Sorted k i
+Node-canonical k i = Enough k i × Sorted k i
+
+-- As many items as the kind asks are two or more.
+pub enough-two : (k : Kind) (i : Forest) → Enough k i → TwoItems (items i)
+enough-two P i h = h
+enough-two C i h = omega arith
+
+pub canonical-forked : (f : Forest) → Canonical f → Forked f
+canonical-forked = every-map Node-canonical Fork (λ k i q. enough-two k i (q .0))
 
 abbrev pub Canonical-of : Item → Type 0
 Canonical-of = Every-of Node-canonical
 
-pub canonical-all : (f : Forest) → Canonical f → All Canonical-of (items f)
-canonical-all = every-all Node-canonical
-
 pub canonical-perm : (i j : Forest) → Rearranged (items i) (items j) → Canonical i → Canonical j
 canonical-perm = every-perm Node-canonical
+
+pub items-rev : (f : Forest) → items (rev f) ≡ reverse (items f)
+items-rev nil = refl
+items-rev (leaf b f) = items-append (rev f) (leaf b nil) ∙ ap (λ l. l ++ (leaf-item b ∷ [])) (items-rev f) ∙ sym (reverse-cons (leaf-item b) (items f))
+items-rev (node k i f) = items-append (rev f) (node k i nil) ∙ ap (λ l. l ++ (node-item k i ∷ [])) (items-rev f) ∙ sym (reverse-cons (node-item k i) (items f))
 
 -- One sequence after another.
 pub consistent-append : {f g : Forest} {xs ys : List ℕ} → Consistent f xs → Consistent g ys → Consistent (append f g) (xs ++ ys)

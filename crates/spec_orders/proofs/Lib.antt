@@ -15,6 +15,7 @@ pub mod Parts
 pub mod Mirror
 pub mod PutSorted
 pub mod Forms
+pub mod Relabel
 -- The update: the linear and reduced forms of a node; what reducing keeps.
 pub mod Gives
 pub mod Fits

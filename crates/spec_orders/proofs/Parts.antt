@@ -4,10 +4,10 @@ use mathlib.Core.List.{List, [], _++_, _∷_, append-nil}
 use Prim.Native.Nat.{ℕ}
 use Rattle.spec_orders.specs.Lists.{Rearranged}
 use Rattle.spec_orders.specs.Tree.{Kind, Forest, nil, leaf, node, Item, leaf-item, node-item, items, append, rev, frontier, Turn, Consistent, no-items, node-first}
-use Rattle.spec_orders.specs.Form.{TwoItems, Canonical, Single}
+use Rattle.spec_orders.specs.Form.{Single}
 use Rattle.spec_orders.specs.Reduce.{put, one}
 use Rattle.spec_orders.proofs.Members.{NonEmpty, nonempty-left}
-use Rattle.spec_orders.proofs.Laws.{leaves-of, consistent-perm, every-map, Forked, Node-canonical, consistent-append, Split, consistent-split}
+use Rattle.spec_orders.proofs.Laws.{leaves-of, consistent-perm, Forked, consistent-append, Split, consistent-split}
 use Rattle.spec_orders.proofs.First.{two-nonempty}
 
 pub put-one : (t : Item) (f : Forest) → append (one t) f ≡ put t f
@@ -50,9 +50,6 @@ node-out (node-first {j = j} {ys = ys} t s no-items e) = record { turned = j; tu
 pub item-perm : (t : Item) (xs : List ℕ) → Consistent (one t) xs → Rearranged (leaves-of t) xs
 item-perm t xs s = rw (frontier-one t) at (consistent-perm s)
 
-pub canonical-forked : (f : Forest) → Canonical f → Forked f
-canonical-forked = every-map Node-canonical (λ k i. TwoItems (items i)) (λ k i q. q .0)
-
 pub forked-nonempty : (f : Forest) → Forked f → NonEmpty (items f) → NonEmpty (frontier f)
 forked-nonempty nil c h = h
 forked-nonempty (leaf b f) c h = tt
@@ -71,3 +68,7 @@ pub forest-items : (f : Forest) → forest (items f) ≡ f
 forest-items nil = refl
 forest-items (leaf b f) = ap (leaf b) (forest-items f)
 forest-items (node k i f) = ap (node k i) (forest-items f)
+
+pub items-forest : (ts : List Item) → items (forest ts) ≡ ts
+items-forest [] = refl
+items-forest (t ∷ ts) = items-put t (forest ts) ∙ ap (λ l. t ∷ l) (items-forest ts)

@@ -9,13 +9,14 @@ use borrow.Author.Tests.{ltb-false, ltb-true}
 use lib.Dec.{ltb}
 use Rattle.spec_orders.specs.Lists.{All, Distinct, Rearranged, next}
 use Rattle.spec_orders.specs.Tree.{Kind, P, C, Forest, nil, leaf, node, Item, leaf-item, node-item, items, append, rev, frontier, Turn, Consistent, node-first}
-use Rattle.spec_orders.specs.Form.{first, first-of, TwoItems, Canonical}
+use Rattle.spec_orders.specs.Form.{first, first-of}
+use Rattle.spec_orders.specs.TreeText.{TwoItems}
 use Rattle.spec_orders.specs.Reduce.{one, put-sorted, orient}
-use Rattle.spec_orders.proofs.ListLaws.{all-left, all-right, all-map}
+use Rattle.spec_orders.proofs.ListLaws.{all-left, all-right}
 use Rattle.spec_orders.proofs.Rearranged.{perm-refl, perm-trans, perm-sym, perm-all, pick-middle}
 use Rattle.spec_orders.proofs.Members.{NonEmpty, perm-nonempty}
-use Rattle.spec_orders.proofs.Laws.{forest-nil, rev-rev, items-append, rev-perm, leaves-of, flat, frontier-flat, Canonical-of, canonical-all}
-use Rattle.spec_orders.proofs.First.{Starts, canonical-starts}
+use Rattle.spec_orders.proofs.Laws.{forest-nil, rev-rev, items-append, rev-perm, leaves-of, flat, frontier-flat, Forked}
+use Rattle.spec_orders.proofs.First.{Starts, all-start}
 use Rattle.spec_orders.proofs.Parts.{put-one, items-put}
 use Rattle.spec_orders.proofs.Tests.{cond-cases}
 
@@ -125,9 +126,6 @@ head-differs t ts g d =
     let e : Distinct (first-of t ∷ g .0 .0 ++ flat ts) = subst (λ l. Distinct (l ++ flat ts)) (g .0 .1) d in
     flat-firsts (λ y. first-of t ≢ y) ts (g .1) (all-right (λ y. first-of t ≢ y) (g .0 .0) (flat ts) (e .0))
 
-pub all-start : (f : Forest) → Canonical f → All Starts (items f)
-all-start f c = all-map Canonical-of Starts canonical-starts (items f) (canonical-all f c)
-
 first-all : (Q : ℕ → Type 0) (g h : Forest) → NonEmpty (items g) → All (λ v. Q (first-of v)) (items g) → Q (first (append g h))
 first-all Q nil h s a = absurd s
 first-all Q (leaf b f) h s a = a .0
@@ -142,7 +140,7 @@ last-differs t f h s g d =
     first-all (λ y. first-of t ≢ y) (rev f) h (perm-nonempty (rev-perm f) s) (perm-all (λ v. first-of t ≢ first-of v) (rev-perm f) (head-differs t (items f) g d))
 
 -- The two ends of a sequence.
-pub ends-differ : (f : Forest) → TwoItems (items f) → Canonical f → Distinct (frontier f) → first f ≢ first (rev f)
+pub ends-differ : (f : Forest) → TwoItems (items f) → Forked f → Distinct (frontier f) → first f ≢ first (rev f)
 ends-differ nil h c d = absurd (omega arith)
 ends-differ (leaf b f) h c d =
     last-differs (leaf-item b) f (leaf b nil) (two-tail (leaf-item b) (items f) h) (all-start (leaf b f) c) (subst Distinct (frontier-flat (leaf b f)) d)

@@ -12,14 +12,15 @@ use lib.ListN.{length, length-append, length-map}
 use Rattle.spec_orders.specs.Lists.{All, Distinct}
 use Rattle.spec_orders.specs.CircularOrder.{Restriction, Inside, Outside}
 use Rattle.spec_orders.specs.Tree.{Kind, P, C, Forest, nil, leaf, node, Item, leaf-item, node-item, items, append, rev, frontier}
-use Rattle.spec_orders.specs.Form.{first, first-of, Rises, Rising, Sorted, Every, TwoItems, Canonical, Single}
+use Rattle.spec_orders.specs.Form.{first, first-of, Rises, Rising, Sorted, Every, fewest, Enough, Canonical, Single}
+use Rattle.spec_orders.specs.TreeText.{TwoItems}
 use Rattle.spec_orders.specs.Reduce.{put, one, put-sorted, orient, pack, Class, empty, full, partial, class, is, Part, whole, only, every, _⊕_, reversed, or-else, c-node, up, down, middle, linear-partial, gather, among, linear-node, reduced-node, settled, node-part, parts, reduce}
 use Rattle.spec_orders.proofs.Rearranged.{perm-all, perm-length, perm-distinct}
 use Rattle.spec_orders.proofs.Members.{distinct-left, distinct-right, perm-reverse}
-use Rattle.spec_orders.proofs.Laws.{items-append, rev-perm, leaves-of, flat, frontier-flat, Every-of, every-all, all-every, every-perm, every-append, every-map, Forked, Node-canonical}
-use Rattle.spec_orders.proofs.First.{two-nonempty, Starts}
-use Rattle.spec_orders.proofs.Parts.{items-put, canonical-forked, forked-nonempty}
-use Rattle.spec_orders.proofs.PutSorted.{put-sorted-perm, orient-perm, Climbs, Climbing, climbing-put-sorted, orient-ends, head-differs, all-start, ends-differ}
+use Rattle.spec_orders.proofs.Laws.{items-append, rev-perm, leaves-of, flat, frontier-flat, Every-of, every-all, all-every, every-perm, every-append, every-map, Forked, Node-canonical, enough-two, canonical-forked}
+use Rattle.spec_orders.proofs.First.{two-nonempty, Starts, all-start}
+use Rattle.spec_orders.proofs.Parts.{items-put, forked-nonempty}
+use Rattle.spec_orders.proofs.PutSorted.{put-sorted-perm, orient-perm, Climbs, Climbing, climbing-put-sorted, orient-ends, head-differs, ends-differ}
 use Rattle.spec_orders.proofs.Fits.{Mark, mark, Of, Single-item, leaf-pure, Fit}
 use Rattle.spec_orders.proofs.Classes.{items-whole, only-of, keep-only}
 use Rattle.spec_orders.proofs.Reduced.{single-gather, some-other}
@@ -31,7 +32,7 @@ Sloped P i = Climbing (items i)
 Sloped C i = first i ≤ first (rev i)
 
 abbrev Node-formed : Kind → Forest → Type 0
-Node-formed k i = TwoItems (items i) × Sloped k i
+Node-formed k i = Enough k i × Sloped k i
 
 abbrev Formed : Forest → Type 0
 Formed f = Every Node-formed f
@@ -64,7 +65,7 @@ at-least-else : (n : ℕ) (o p : Option Forest) → AtLeast n o → AtLeast n p 
 at-least-else n (some f) p h k = h
 at-least-else n none p h k = k
 
-at-least-C : (n : ℕ) (o : Option Forest) → 2 ≤ n → AtLeast n o → AtLeast 1 (c-node o)
+at-least-C : (n : ℕ) (o : Option Forest) → fewest C ≤ n → AtLeast n o → AtLeast 1 (c-node o)
 at-least-C n (some f) l h = ((((omega (arith, perm-length (orient-perm f)), orient-ends f), every-perm Node-formed f (orient f) (orient-perm f) (h .0)), tt), omega arith)
 at-least-C n none l h = tt
 
@@ -168,8 +169,8 @@ pack-only c ps h m =
     subst (λ n. AtLeast (min 1 n) (some (pack (whole (only c ps))))) (whole-length (only c ps))
     (at-least-pack (whole (only c ps)) (climbing-only c ps h) (whole-formed (only c ps) (keep-only Made c ps m)))
 
-linear-at-least : (k : Kind) (ps : List Part) → Sloped k (whole ps) → 2 ≤ length ps → All Made ps → 1 ≤ length (only partial ps ++ only full ps) → 1 ≤ length (only partial ps ++ only empty ps) → AtLeast 2 (linear-node k ps)
-linear-at-least C ps h n m a b = at-least-less (length ps) 2 (linear-node C ps) n (at-least-else (length ps) (up ps) (up (reverse ps)) (up-at-least ps m) (up-back-at-least ps m))
+linear-at-least : (k : Kind) (ps : List Part) → Sloped k (whole ps) → fewest k ≤ length ps → All Made ps → 1 ≤ length (only partial ps ++ only full ps) → 1 ≤ length (only partial ps ++ only empty ps) → AtLeast 2 (linear-node k ps)
+linear-at-least C ps h n m a b = at-least-less (length ps) 2 (linear-node C ps) (omega arith) (at-least-else (length ps) (up ps) (up (reverse ps)) (up-at-least ps m) (up-back-at-least ps m))
 linear-at-least P ps h n m a b = go (only partial ps) (keep-only Made partial ps m) (only-of partial ps) (omega (arith, length-append (only partial ps) (only full ps))) (omega (arith, length-append (only partial ps) (only empty ps)))
   where
     e : ℕ
@@ -209,7 +210,7 @@ among-at-least e (some t) c h (u, q) g = subst (λ z. AtLeast 1 (some (pack (put
         let r = at-least-pack (put-sorted (one u) e) (climbing-put-sorted u e c) (every-perm Node-formed (append (one u) e) (put-sorted (one u) e) (put-sorted-perm (one u) e) (every-append Node-formed (one u) e g h)) in
         (r .0, omega (arith, perm-length (put-sorted-perm (one u) e), ap length (items-append (one u) e), length-append (items (one u)) (items e), ap length (items-put u nil)))
 
-reduced-at-least : (k : Kind) (ps : List Part) → Sloped k (whole ps) → 2 ≤ length ps → All Made ps → 1 ≤ length (only partial ps ++ only full ps) → Single-item (gather (only partial ps) (only full ps)) → AtLeast 1 (reduced-node k ps)
+reduced-at-least : (k : Kind) (ps : List Part) → Sloped k (whole ps) → fewest k ≤ length ps → All Made ps → 1 ≤ length (only partial ps ++ only full ps) → Single-item (gather (only partial ps) (only full ps)) → AtLeast 1 (reduced-node k ps)
 reduced-at-least P ps h n m a o =
     among-at-least (whole (only empty ps)) (gather (only partial ps) (only full ps)) (climbing-only empty ps h) (whole-formed (only empty ps) (keep-only Made empty ps m)) o
     (gather-at-least (only partial ps) (only full ps) (keep-only Made partial ps m) (only-of partial ps) a (pack-only full ps h m))
@@ -229,7 +230,7 @@ node-made S partial k i m h f d =
     let u : (Outside S (frontier (whole (parts S i))) → ⊥) × (Inside S (frontier (whole (parts S i))) → ⊥) = subst (λ g. (Outside S (frontier g) → ⊥) × (Inside S (frontier g) → ⊥)) (sym e) m in
     let s : Sloped k (whole (parts S i)) = subst (Sloped k) (sym e) (h .0 .1) in
     let a = some-other S false (parts S i) f (u .0) in
-    let n : 2 ≤ length (parts S i) = omega (arith, parts-length S i, h .0 .0) in
+    let n : fewest k ≤ length (parts S i) = omega (arith, parts-length S i, h .0 .0) in
     record {
       item-made = h;
       linear-made = linear-at-least k (parts S i) s n d a (some-other S true (parts S i) f (u .1));
@@ -266,7 +267,7 @@ strict-rising : (ts : List Item) → All Starts ts → Distinct (flat ts) → Cl
 strict-rising [] g d h = tt
 strict-rising (t ∷ ts) g d h = strict-rise t ts g d h
 
-strict-sorted : (k : Kind) (i : Forest) → TwoItems (items i) → Canonical i → Distinct (frontier i) → Sloped k i → Sorted k i
+strict-sorted : (k : Kind) (i : Forest) → TwoItems (items i) → Forked i → Distinct (frontier i) → Sloped k i → Sorted k i
 strict-sorted P i n c d h = strict-rising (items i) (all-start i c) (subst Distinct (frontier-flat i) d) h
 strict-sorted C i n c d h = let u = ends-differ i n c d in omega arith
 
@@ -292,7 +293,7 @@ formed-canonical (node k i f) h d =
     let di = distinct-left (frontier i) (frontier f) d in
     let c = formed-canonical i (h .0 .1) di in
     let n = h .0 .0 .0 in
-    (((n, strict-sorted k i n c di (h .0 .0 .1)), c), formed-canonical f (h .1) (distinct-right (frontier i) (frontier f) d))
+    (((n, strict-sorted k i (enough-two k i n) (canonical-forked i c) di (h .0 .0 .1)), c), formed-canonical f (h .1) (distinct-right (frontier i) (frontier f) d))
 
 pub reduce-canonical : (S : Restriction) (t t′ : Forest) → Single (items t) → Canonical t → reduce S t ≡ some t′ → Distinct (frontier t) → Canonical t′
 reduce-canonical S t t′ l c e d =

@@ -12,11 +12,13 @@ use lib.ListN.{length}
 use Rattle.spec_orders.specs.Lists.{Distinct, In, some-of}
 use Rattle.spec_orders.specs.CircularOrder.{Restriction, Inside, Outside}
 use Rattle.spec_orders.specs.Tree.{Kind, P, C, Forest, nil, leaf, node, Item, leaf-item, node-item, items, append, rev, frontier}
-use Rattle.spec_orders.specs.Form.{first, first-of, Rises, Rising, Sorted, TwoItems, Canonical, Single}
+use Rattle.spec_orders.specs.Form.{first, first-of, Rises, Rising, Sorted, Canonical, Single}
+use Rattle.spec_orders.specs.TreeText.{TwoItems}
 use Rattle.spec_orders.specs.Reduce.{put, one, put-sorted, orient, pack, Class, empty, full, partial, complement, class-by, class, is, Part, whole, only, middle, gather, among, reduced-node, settled, node-part, parts, reduce}
 use Rattle.spec_orders.proofs.ListLaws.{all-left, all-right}
 use Rattle.spec_orders.proofs.Members.{in-nonempty, in-one, in-left, in-right, in-append, all-in, in-all, distinct-left, distinct-right, apart, of-some}
 use Rattle.spec_orders.proofs.Contiguous.{L}
+use Rattle.spec_orders.proofs.Laws.{enough-two}
 use Rattle.spec_orders.proofs.First.{rises-rising}
 use Rattle.spec_orders.proofs.Parts.{put-one, items-put}
 use Rattle.spec_orders.proofs.PutSorted.{first-one}
@@ -182,7 +184,7 @@ module _ (S : Restriction) where
         go : In x (frontier i) ⊎ In x (frontier f) → (In x (frontier i) → Spot (parts S i)) → (In x (frontier f) → Spot (parts S f)) → Spot (q ∷ parts S f)
         go (inl m) a b =
             at q (parts S f) (all-empty f (outside (frontier f) (λ o. apart x (frontier i) (frontier f) d m o) hf)) (ap (is empty) (part-sort (class S (frontier i)) k i (parts S i)) ∙ class-some x (frontier i) m sx)
-            (part-stays (class S (frontier i)) k i (λ e. reduced-back k i (c .0 .0 .0) (c .0 .0 .1) (a m)) ∙ ap (λ t. some (one t)) (sym (part-item S (class S (frontier i)) k i (parts S i))))
+            (part-stays (class S (frontier i)) k i (λ e. reduced-back k i (enough-two k i (c .0 .0 .0)) (c .0 .0 .1) (a m)) ∙ ap (λ t. some (one t)) (sym (part-item S (class S (frontier i)) k i (parts S i))))
         go (inr m) a b =
             past q (parts S f) (part-sort (class S (frontier i)) k i (parts S i) ∙ class-out (frontier i) (outside (frontier i) (λ o. apart x (frontier i) (frontier f) d o m) hi)) (b m)
 
@@ -200,7 +202,7 @@ module _ (S : Restriction) where
       go true q e =
           let r = of-some S (frontier i) q in
           let z = hi (r .0) (r .1) (r .2) in
-          reduced-back k i (c .0 .0 .0) (c .0 .0 .1) (spot x (subst (λ y. S y ≡ true) z (r .2)) i (c .0 .1) (subst (λ y. In y (frontier i)) z (r .1)) (subst Distinct (append-nil (frontier i)) d) hi)
+          reduced-back k i (enough-two k i (c .0 .0 .0)) (c .0 .0 .1) (spot x (subst (λ y. S y ≡ true) z (r .2)) i (c .0 .1) (subst (λ y. In y (frontier i)) z (r .1)) (subst Distinct (append-nil (frontier i)) d) hi)
       go false q e = absurd (empty-not-partial (sym (ap (λ a. class-by a (some-of (complement S) (frontier i))) q) ∙ e))
 
   pub reduce-outside : (t : Forest) → Single (items t) → Outside S (frontier t) → reduce S t ≡ some t

@@ -8,7 +8,7 @@ use Prim.Native.String.{String}
 use lib.ListN.{length}
 use Rattle.spec_orders.specs.Lists.{elem, same}
 use Rattle.spec_orders.specs.CircularOrder.{Restriction}
-use Rattle.spec_orders.specs.Tree.{C, Forest, nil, leaf, node}
+use Rattle.spec_orders.specs.Tree.{Forest}
 use Rattle.spec_orders.specs.TreeText.{tree-text}
 use Rattle.spec_orders.specs.Join.{fresh, join}
 use Rattle.spec_orders.specs.Conflict.{ring-conflicts, numbered}
@@ -18,10 +18,9 @@ pub data Try : Type 0 where
   kept : List ℕ → Try
   refused : List ℕ → List ℕ → Try
 
--- A ring of n leaves with a tree at the start, the groups tried one after another, and the text of the tree in the end.
+-- A fresh ring of n leaves, the groups tried one after another, and the text of the tree in the end.
 pub record Circle : Type 0 where
   pub leaves : ℕ
-  pub start : Forest
   pub tries : List Try
   pub text : String
 
@@ -46,42 +45,35 @@ right-from n s (refused l ns ∷ ts) t book =
     same (ring-conflicts n (numbered book) (length book) (elem l)) ns && (impossible (join (elem l) t) && right-from n s ts t book)
 
 unfoldable pub right : Circle → Bool
-right c = right-from (c .leaves) (c .text) (c .tries) (c .start) []
+right c = right-from (c .leaves) (c .text) (c .tries) (fresh (c .leaves)) []
 
-abbrev pub from-fresh : ℕ → List Try → String → Circle
-from-fresh n ts s = record { leaves = n; start = fresh n; tries = ts; text = s }
+abbrev pub circle : ℕ → List Try → String → Circle
+circle n ts s = record { leaves = n; tries = ts; text = s }
 
 unfoldable pub circles : List Circle
 circles =
-    from-fresh 1 [] "1"  -- a
-    ∷ from-fresh 2 [] "1 2"  -- b
-    ∷ from-fresh 3 [] "1 P(2 3)"  -- c
-    ∷ from-fresh 5 (kept (1 ∷ 3 ∷ []) ∷ []) "1 P(P(2 4 5) 3)"  -- d
-    ∷ from-fresh 5 (kept (1 ∷ 3 ∷ []) ∷ kept (3 ∷ 5 ∷ []) ∷ []) "1 C(P(2 4) 5 3)"  -- e
+    circle 1 [] "1"  -- a
+    ∷ circle 2 [] "1 2"  -- b
+    ∷ circle 3 [] "1 P(2 3)"  -- c
+    ∷ circle 5 (kept (1 ∷ 3 ∷ []) ∷ []) "1 P(P(2 4 5) 3)"  -- d
+    ∷ circle 5 (kept (1 ∷ 3 ∷ []) ∷ kept (3 ∷ 5 ∷ []) ∷ []) "1 C(P(2 4) 5 3)"  -- e
     -- f, g
-    ∷ from-fresh 5
+    ∷ circle 5
     (kept (1 ∷ 3 ∷ []) ∷ kept (3 ∷ 5 ∷ []) ∷ refused (1 ∷ 5 ∷ []) (1 ∷ 2 ∷ []) ∷ kept (2 ∷ 4 ∷ []) ∷ [])
     "1 C(P(2 4) 5 3)"
     -- h, i
-    ∷ from-fresh 4
+    ∷ circle 4
     (kept (1 ∷ 2 ∷ []) ∷ kept (3 ∷ 4 ∷ []) ∷ kept (2 ∷ 3 ∷ []) ∷ kept (1 ∷ 4 ∷ []) ∷ [])
     "1 C(2 3 4)"
-    ∷ from-fresh 5
+    ∷ circle 5
     (kept (1 ∷ 2 ∷ []) ∷ kept (3 ∷ 4 ∷ []) ∷ kept (2 ∷ 3 ∷ []) ∷ refused (1 ∷ 4 ∷ []) (1 ∷ 2 ∷ 3 ∷ []) ∷ [])
     "1 C(2 3 4 5)"
-    ∷ from-fresh 6 (kept (1 ∷ 2 ∷ []) ∷ kept (3 ∷ 4 ∷ []) ∷ kept (2 ∷ 3 ∷ []) ∷ []) "1 C(2 3 4 P(5 6))"  -- j
-    ∷ from-fresh 6 (kept (2 ∷ 4 ∷ []) ∷ kept (2 ∷ 5 ∷ []) ∷ []) "1 P(3 C(4 2 5) 6)"  -- k
-    ∷ from-fresh 5 (kept (2 ∷ 3 ∷ 4 ∷ 5 ∷ []) ∷ []) "1 P(2 3 4 5)"  -- l
+    ∷ circle 6 (kept (1 ∷ 2 ∷ []) ∷ kept (3 ∷ 4 ∷ []) ∷ kept (2 ∷ 3 ∷ []) ∷ []) "1 C(2 3 4 P(5 6))"  -- j
+    ∷ circle 6 (kept (2 ∷ 4 ∷ []) ∷ kept (2 ∷ 5 ∷ []) ∷ []) "1 P(3 C(4 2 5) 6)"  -- k
+    ∷ circle 5 (kept (2 ∷ 3 ∷ 4 ∷ 5 ∷ []) ∷ []) "1 P(2 3 4 5)"  -- l
     -- Ancestors of the change that are placed again, and turned again.
-    ∷ from-fresh 5 (kept (2 ∷ 4 ∷ 5 ∷ []) ∷ kept (2 ∷ 4 ∷ []) ∷ kept (2 ∷ 5 ∷ []) ∷ []) "1 P(3 C(4 2 5))"
-    ∷ from-fresh 6
+    ∷ circle 5 (kept (2 ∷ 4 ∷ 5 ∷ []) ∷ kept (2 ∷ 4 ∷ []) ∷ kept (2 ∷ 5 ∷ []) ∷ []) "1 P(3 C(4 2 5))"
+    ∷ circle 6
     (kept (2 ∷ 4 ∷ 5 ∷ []) ∷ kept (1 ∷ 2 ∷ 4 ∷ 5 ∷ []) ∷ kept (2 ∷ 4 ∷ 5 ∷ 6 ∷ []) ∷ kept (2 ∷ 4 ∷ []) ∷ kept (2 ∷ 5 ∷ []) ∷ [])
     "1 C(3 6 C(4 2 5))"
-    -- A C-node with three neighbours stays one.
-    ∷ record {
-      leaves = 3;
-      start = node C (leaf 2 (leaf 3 nil)) nil;
-      tries = kept (1 ∷ 2 ∷ []) ∷ kept (2 ∷ 3 ∷ []) ∷ [];
-      text = "1 C(2 3)";
-    }
     ∷ []

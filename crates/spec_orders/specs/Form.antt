@@ -1,4 +1,4 @@
--- Document 01, "The tree" and "Tree text": the form of a tree that a text or a node table has, and the standard order.
+-- Document 01, "The tree" and "Tree text": the form of a tree that a node table holds and a written text has, and the standard order.
 use mathlib.Core.Bool.{Bool, true, _&&_}
 use mathlib.Core.List.{List, [], _∷_}
 use Prim.Native.Nat.{ℕ, suc, _+_, _≤_, _<_}
@@ -39,13 +39,18 @@ Every Q nil = Unit {0}
 Every Q (leaf b f) = Every Q f
 Every Q (node k i f) = (Q k i × Every Q i) × Every Q f
 
--- "Each inner node has at least three neighbours": two or more items.
-abbrev pub TwoItems : List Item → Type 0
-TwoItems ts = 2 ≤ length ts
+-- How many items a node has at least. "Each inner node has at least three neighbours", its items and the one on the way to leaf 1; document 02, No. 5:
+-- "from now on a C-node has at least four neighbours".
+abbrev pub fewest : Kind → ℕ
+fewest P = 2
+fewest C = 3
 
--- The published form: every node has two or more items, sorted as its kind asks.
+abbrev pub Enough : Kind → Forest → Type 0
+Enough k i = fewest k ≤ length (items i)
+
+-- The published form: every node has as many items as its kind asks, and they are sorted as it asks.
 abbrev pub Canonical : Forest → Type 0
-Canonical f = Every (λ k i. TwoItems (items i) × Sorted k i) f
+Canonical f = Every (λ k i. Enough k i × Sorted k i) f
 
 -- At most one item.
 abbrev pub Single : List Item → Type 0
@@ -94,7 +99,7 @@ sorted? C i = ltb (first i) (first (rev i))
 abbrev pub canonical? : Forest → Bool
 canonical? nil = true
 canonical? (leaf b f) = canonical? f
-canonical? (node k i f) = ((leb 2 (length (items i)) && sorted? k i) && canonical? i) && canonical? f
+canonical? (node k i f) = ((leb (fewest k) (length (items i)) && sorted? k i) && canonical? i) && canonical? f
 
 unfoldable pub in-form? : ℕ → Forest → Bool
 in-form? n t = leb (length (items t)) 1 && (canonical? t && rearranged? (others n) (frontier t))

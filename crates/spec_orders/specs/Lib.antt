@@ -3,6 +3,7 @@ pub mod Lists
 pub mod CircularOrder
 pub mod Tree
 pub mod Form
+pub mod ThreeNeighbours
 pub mod FirstByte
 pub mod TreeText
 pub mod Reduce

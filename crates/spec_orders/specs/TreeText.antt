@@ -1,4 +1,4 @@
--- Document 01, "Tree text": the bytes of a tree, the texts of the shape, and the byte at which any other text is refused (12).
+-- Document 01, "Tree text": the bytes of a tree, the texts of the shape, those that are accepted, and the byte at which any other is refused (12).
 use mathlib.Core.Path.{_≡_}
 use mathlib.Core.Bool.{cond}
 use mathlib.Core.List.{List, [], _∷_, _++_}
@@ -8,8 +8,9 @@ use lib.ListN.{length}
 use Rattle.spec_orders.specs.Lists.{Rearranged}
 use Rattle.spec_orders.specs.FirstByte.{RefusedAt}
 use Rattle.spec_orders.specs.CircularOrder.{others}
-use Rattle.spec_orders.specs.Tree.{Kind, P, C, Forest, nil, leaf, node, items, rev, frontier}
-use Rattle.spec_orders.specs.Form.{first, Every, TwoItems, Single, InForm}
+use Rattle.spec_orders.specs.Tree.{Kind, P, C, Forest, nil, leaf, node, Item, items, rev, frontier}
+use Rattle.spec_orders.specs.Form.{first, Sorted, Every, Single}
+use Rattle.spec_orders.specs.ThreeNeighbours.{relabel}
 
 -- The decimal digits of v as bytes, without leading zeros: at most k of them, and all of them.
 unfoldable pub digits-in : ℕ → ℕ → List ℕ
@@ -41,6 +42,9 @@ unfoldable pub tree-text : Forest → List ℕ
 tree-text t = 49 ∷ more t
 
 -- "The text's shape: the bins 1 to n, each one time without leading zeros, and two or more items in a node."
+abbrev pub TwoItems : List Item → Type 0
+TwoItems ts = 2 ≤ length ts
+
 pub record Shaped (n : ℕ) (t : Forest) : Type 0 where
   pub single : Single (items t)
   pub forked : Every (λ k i. TwoItems (items i)) t
@@ -73,12 +77,19 @@ pub record RuleRefused (t : Forest) (p : ℕ) : Type 0 where
   pub broken : Breaks C 0 2 t p
   pub least : (q : ℕ) → Breaks C 0 2 t q → p ≤ q
 
--- What the reader finds in a text for n leaves: a tree in form, or the byte at which it is refused.
+-- An accepted text x for n leaves, and the tree t that it spells: of the shape, the items of each node sorted as its letter asks.
+pub record AcceptedAs (n : ℕ) (x : List ℕ) (t : Forest) : Type 0 where
+  pub shaped : Shaped n t
+  pub sorted : Every Sorted t
+  pub bytes : x ≡ tree-text t
+
+-- What the reader finds in a text for n leaves: a tree, which is the text's tree with a P-node for each C-node with three neighbours; or the byte at
+-- which the text is refused.
 pub data Found : Type 0 where
   tree : Forest → Found
   refused : ℕ → Found
 
 pub data Reads (n : ℕ) (x : List ℕ) : Found → Type 0 where
-  accepted : {t : Forest} → InForm n t → x ≡ tree-text t → Reads n x (tree t)
+  accepted : {t : Forest} → AcceptedAs n x t → Reads n x (tree (relabel t))
   no-shape : {p : ℕ} → ShapeRefused n x p → Reads n x (refused p)
   breaks-rule : {t : Forest} {p : ℕ} → Shaped n t → x ≡ tree-text t → RuleRefused t p → Reads n x (refused p)

@@ -9,11 +9,12 @@ use lib.Seq.{take-at, drop-at, drop-drop}
 use Rattle.spec_orders.specs.Lists.{All, Distinct, Rearranged}
 use Rattle.spec_orders.specs.CircularOrder.{Restriction}
 use Rattle.spec_orders.specs.Tree.{Kind, P, C, Forest, nil, leaf, node, items, append, frontier}
-use Rattle.spec_orders.specs.Form.{first, nodes, Rises, Rising, Sorted, TwoItems, Canonical, InForm}
+use Rattle.spec_orders.specs.Form.{first, nodes, Rises, Rising, Sorted, Enough, Canonical, InForm}
 use Rattle.spec_orders.proofs.Numbers.{not-elem}
 use Rattle.spec_orders.proofs.Rearranged.{perm-refl, perm-trans, perm-sym, perm-skip, perm-left, perm-append, perm-swap, perm-insert, pick-middle, perm-distinct, perm-all, perm-length}
 use Rattle.spec_orders.proofs.Members.{distinct-right}
 use Rattle.spec_orders.proofs.ListLaws.{all-left, all-right}
+use Rattle.spec_orders.proofs.Laws.{enough-two}
 use Rattle.spec_orders.proofs.Forms.{form-distinct, form-more, others-range}
 use Rattle.spec_orders.proofs.TextTree.{form-length}
 use Rattle.spec_calls.specs.NodeTable.{entries, rows, table-of, Holds}
@@ -60,14 +61,14 @@ Above k m (node h j f) = (least k m < first j) × Above k (first j) f
 positive : (n : ℕ) (f : Forest) → Canonical f → Ranged n (frontier f) → 1 ≤ length (items f) → 0 < first f
 positive n nil c r l = absurd (omega arith)
 positive n (leaf b f) c r l = omega (arith, r .0 .0)
-positive n (node k i f) c r l = positive n i (c .0 .1) (all-left (λ b. (2 ≤ b) × (b ≤ n)) (frontier i) (frontier f) r) (omega (arith, c .0 .0 .0))
+positive n (node k i f) c r l = positive n i (c .0 .1) (all-left (λ b. (2 ≤ b) × (b ≤ n)) (frontier i) (frontier f) r) (omega (arith, enough-two k i (c .0 .0 .0)))
 
 above-c : (n m : ℕ) (f : Forest) → Canonical f → Ranged n (frontier f) → Above C m f
 above-c n m nil c r = tt
 above-c n m (leaf b f) c r = (omega (arith, r .0 .0), above-c n b f c (r .1))
 above-c n m (node k i f) c r =
     let a = all-left (λ b. (2 ≤ b) × (b ≤ n)) (frontier i) (frontier f) r in
-    (positive n i (c .0 .1) a (omega (arith, c .0 .0 .0)), above-c n (first i) f (c .1) (all-right (λ b. (2 ≤ b) × (b ≤ n)) (frontier i) (frontier f) r))
+    (positive n i (c .0 .1) a (omega (arith, enough-two k i (c .0 .0 .0))), above-c n (first i) f (c .1) (all-right (λ b. (2 ≤ b) × (b ≤ n)) (frontier i) (frontier f) r))
 
 above-p : (m : ℕ) (f : Forest) → Rises m (items f) → Above P m f
 above-p m nil h = tt
@@ -79,9 +80,9 @@ rises-first nil p l h = tt
 rises-first (leaf b f) p l h = (p, h)
 rises-first (node k i f) p l h = (p, h)
 
-above : (n : ℕ) (k : Kind) (i : Forest) → Canonical i → Ranged n (frontier i) → TwoItems (items i) → Sorted k i → Above k 0 i
-above n P i c r two s = above-p 0 i (rises-first i (positive n i c r (omega arith)) (omega arith) s)
-above n C i c r two s = above-c n 0 i c r
+above : (n : ℕ) (k : Kind) (i : Forest) → Canonical i → Ranged n (frontier i) → Enough k i → Sorted k i → Above k 0 i
+above n P i c r enough s = above-p 0 i (rises-first i (positive n i c r (omega arith)) (omega arith) s)
+above n C i c r enough s = above-c n 0 i c r
 
 -- The first item is below the last.
 no-fall : (m : ℕ) (f : Forest) → Rises m (items f) → m ≤ last-of m f
@@ -94,11 +95,11 @@ a-rise m nil l h = absurd (omega arith)
 a-rise m (leaf b f) l h = omega (arith, h .0, no-fall b f (h .1))
 a-rise m (node k i f) l h = omega (arith, h .0, no-fall (first i) f (h .1))
 
-first-last : (k : Kind) (i : Forest) → TwoItems (items i) → Sorted k i → first i < last-of 0 i
-first-last P nil two s = absurd (omega arith)
-first-last P (leaf b f) two s = a-rise b f (omega arith) s
-first-last P (node h j f) two s = a-rise (first j) f (omega arith) s
-first-last C i two s = omega (arith, last-is i)
+first-last : (k : Kind) (i : Forest) → Enough k i → Sorted k i → first i < last-of 0 i
+first-last P nil enough s = absurd (omega arith)
+first-last P (leaf b f) enough s = a-rise b f (omega arith) s
+first-last P (node h j f) enough s = a-rise (first j) f (omega arith) s
+first-last C i enough s = omega (arith, last-is i)
 
 module _ (n : ℕ) (S : Restriction) (table : List ℕ) where
   -- Blank records.
@@ -146,13 +147,13 @@ module _ (n : ℕ) (small : n ≤ 256) (S : Restriction) where
     Rows r f more = tail table r ≡ rows r f ++ more
 
     -- A node's record, its items being read.
-    node-behind : (k : Kind) (i g : Forest) (r : ℕ) (ls : List ℕ) → r < 256 → row-at table r ≡ row k (entries (suc r) i) → length (items i) ≤ 255 → TwoItems (items i) → Sorted k i
+    node-behind : (k : Kind) (i g : Forest) (r : ℕ) (ls : List ℕ) → r < 256 → row-at table r ≡ row k (entries (suc r) i) → length (items i) ≤ 255 → Enough k i → Sorted k i
         → Behind n S table (suc r) (known n S (append (only-nodes i) g) ls) → (v : ReadsTo k (entries (suc r) i) (at-record n S k r (known n S (append (only-nodes i) g) ls)) i g)
         → Behind n S table r (known n S (node k i g) (v .end .leaves))
-    node-behind k i g r ls low at few two sorted b v =
+    node-behind k i g r ls low at few enough sorted b v =
         let many = entries-length (suc r) i in
         subst (λ (x : Forest). Behind n S table r (known n S (node k i x) (v .end .leaves))) (v .left)
-        (a-node low at (omega (arith, two)) (omega arith) b (v .reads) (omega (arith, reads-first n S (v .reads) refl, reads-last n S (v .reads), first-last k i two sorted)))
+        (a-node low at (omega (arith, enough)) (omega arith) b (v .reads) (omega (arith, reads-first n S (v .reads) refl, reads-last n S (v .reads), first-last k i enough sorted)))
 
     -- And the leaves below it.
     record NodeRead (k : Kind) (i g : Forest) (r : ℕ) (ls : List ℕ) : Type 0 where
@@ -160,15 +161,15 @@ module _ (n : ℕ) (small : n ≤ 256) (S : Restriction) where
       behind : Behind n S table r (known n S (node k i g) read)
       leaves-are : Rearranged read (frontier i ++ ls)
 
-    node-read : (k : Kind) (i g : Forest) (r : ℕ) (ls : List ℕ) → r < 256 → row-at table r ≡ row k (entries (suc r) i) → length (items i) ≤ 255 → TwoItems (items i) → Sorted k i
+    node-read : (k : Kind) (i g : Forest) (r : ℕ) (ls : List ℕ) → r < 256 → row-at table r ≡ row k (entries (suc r) i) → length (items i) ≤ 255 → Enough k i → Sorted k i
         → Canonical i → Ranged n (frontier i) → Distinct (frontier i ++ ls) → ReadTo (suc r) i g ls → NodeRead k i g r ls
-    node-read k i g r ls low at few two sorted c ra d u =
+    node-read k i g r ls low at few enough sorted c ra d u =
         let split : Rearranged (frontier i ++ ls) (own i ++ u .read) =
         perm-trans (rw append-assoc at (perm-append (frontier-perm i) (perm-refl ls))) (perm-left (own i) (perm-sym (u .leaves-are))) in
         let v : ReadsTo k (entries (suc r) i) (at-record n S k r (known n S (append (only-nodes i) g) (u .read))) i g =
         all-reads k i (suc r) (at-record n S k r (known n S (append (only-nodes i) g) (u .read))) g refl (omega arith) refl
-        (all-left (λ b. (2 ≤ b) × (b ≤ n)) (own i) (inner i) (perm-all (λ b. (2 ≤ b) × (b ≤ n)) (frontier-perm i) ra)) (perm-distinct split d) (above n k i c ra two sorted) in
-        record { read = v .end .leaves; behind = node-behind k i g r (u .read) low at few two sorted (u .behind) v; leaves-are = perm-trans (v .leaves-are) (perm-sym split) }
+        (all-left (λ b. (2 ≤ b) × (b ≤ n)) (own i) (inner i) (perm-all (λ b. (2 ≤ b) × (b ≤ n)) (frontier-perm i) ra)) (perm-distinct split d) (above n k i c ra enough sorted) in
+        record { read = v .end .leaves; behind = node-behind k i g r (u .read) low at few enough sorted (u .behind) v; leaves-are = perm-trans (v .leaves-are) (perm-sym split) }
 
     all-read : (f g : Forest) (r : ℕ) (ls more : List ℕ) → Rows r f more → r + nodes f ≤ 256 → Canonical f → Narrow f → Ranged n (frontier f) → Distinct (inner f ++ ls)
         → Behind n S table (r + nodes f) (known n S g ls) → ReadTo r f g ls

@@ -53,13 +53,13 @@ module _ (n : ℕ) (S : Restriction) where
   pub behind-same : {table : List ℕ} {r : ℕ} {s u : Known} → Behind n S table r s → Behind n S table r u → s ≡ u
   behind-same none-read none-read = refl
   behind-same none-read (blank l row b) = absurd (omega arith)
-  behind-same none-read (a-node l row two most b h m) = absurd (omega arith)
+  behind-same none-read (a-node l row enough most b h m) = absurd (omega arith)
   behind-same (blank l row b) none-read = absurd (omega arith)
   behind-same (blank l row b) (blank l′ row′ b′) = refl
-  behind-same (blank l row b) (a-node {k = k} {vs = vs} l′ row′ two most b′ h m) = absurd (blank-kind k (length vs ∷ padded 255 vs) (sym row ∙ row′))
-  behind-same (a-node l row two most b h m) none-read = absurd (omega arith)
-  behind-same (a-node {k = k} {vs = vs} l row two most b h m) (blank l′ row′ b′) = absurd (blank-kind k (length vs ∷ padded 255 vs) (sym row′ ∙ row))
-  behind-same (a-node {r = r} {s = s} {k = k} {vs = vs} {i = i} {z = z} l row two most b h m) (a-node {s = s′} {k = k′} {vs = vs′} {i = i′} {z = z′} l′ row′ two′ most′ b′ h′ m′) =
+  behind-same (blank l row b) (a-node {k = k} {vs = vs} l′ row′ enough most b′ h m) = absurd (blank-kind k (length vs ∷ padded 255 vs) (sym row ∙ row′))
+  behind-same (a-node l row enough most b h m) none-read = absurd (omega arith)
+  behind-same (a-node {k = k} {vs = vs} l row enough most b h m) (blank l′ row′ b′) = absurd (blank-kind k (length vs ∷ padded 255 vs) (sym row′ ∙ row))
+  behind-same (a-node {r = r} {s = s} {k = k} {vs = vs} {i = i} {z = z} l row enough most b h m) (a-node {s = s′} {k = k′} {vs = vs′} {i = i′} {z = z′} l′ row′ enough′ most′ b′ h′ m′) =
       let e = sym row ∙ row′ in
       let q : k ≡ k′ = kind-same k k′ (ap (λ (l : List ℕ). getD l 0 0) e) in
       let v : vs ≡ vs′ = entries-same (kind-number k) (kind-number k′) vs vs′ e in

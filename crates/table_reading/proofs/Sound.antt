@@ -9,7 +9,7 @@ use Rattle.spec_orders.proofs.ListLaws.{drop-taken}
 use Rattle.spec_orders.specs.Lists.{Rearranged, done}
 use Rattle.spec_orders.specs.CircularOrder.{Restriction, others}
 use Rattle.spec_orders.specs.Tree.{Kind, Forest, nil, node, items, frontier}
-use Rattle.spec_orders.specs.Form.{nodes, Canonical}
+use Rattle.spec_orders.specs.Form.{fewest, nodes, Canonical}
 use Rattle.spec_orders.proofs.Rearranged.{perm-trans}
 use Rattle.spec_orders.proofs.Members.{all-in}
 use Rattle.spec_orders.proofs.Numbers.{numbers-length, numbers-in}
@@ -55,9 +55,9 @@ module _ (n : ℕ) (S : Restriction) (table : List ℕ) (long : 65792 ≤ length
     pub leaves-are : Rearranged (s .leaves) (frontier (s .roots))
     pub fresh : Fresh n (s .leaves)
 
-  node-sound : {r : ℕ} {s : Known} {k : Kind} {vs : List ℕ} {i : Forest} {z : Within} → r < 256 → row-at table r ≡ kind-number k ∷ length vs ∷ padded 255 vs → 2 ≤ length vs
+  node-sound : {r : ℕ} {s : Known} {k : Kind} {vs : List ℕ} {i : Forest} {z : Within} → r < 256 → row-at table r ≡ kind-number k ∷ length vs ∷ padded 255 vs → fewest k ≤ length vs
       → ItemsRead n S k vs (at-record n S k r s) i z → z .first < z .last → Sound (suc r) s → Sound r (known n S (node k i (z .roots)) (z .leaves))
-  node-sound {r} {s} {k} {vs} {i} {z} low row two h l g =
+  node-sound {r} {s} {k} {vs} {i} {z} low row enough h l g =
       let c = reads-canonical n S h (g .canonical) in
       let es = entries (suc r) i in
       let vs-are : vs ≡ es = reads-entries n S h in
@@ -93,7 +93,7 @@ module _ (n : ℕ) (S : Restriction) (table : List ℕ) (long : 65792 ≤ length
         leaves-are = g .leaves-are;
         fresh = g .fresh;
       }
-  sound (a-node low row two most b h l) = node-sound low row two h l (sound b)
+  sound (a-node low row enough most b h l) = node-sound low row enough h l (sound b)
 
   -- A tree of n leaves, in all records.
   pub holds : {k : Kind} {i : Forest} {ls : List ℕ} → Behind n S table 0 (known n S (node k i nil) ls) → 3 ≤ n → length ls ≡ n - 1 → Holds n table (node k i nil)

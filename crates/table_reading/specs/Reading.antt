@@ -8,7 +8,7 @@ use lib.ListN.{length, take, drop, replicate}
 use Rattle.spec_orders.specs.Lists.{elem}
 use Rattle.spec_orders.specs.CircularOrder.{Restriction}
 use Rattle.spec_orders.specs.Tree.{Kind, P, C, Forest, nil, leaf, node}
-use Rattle.spec_orders.specs.Form.{first, nodes}
+use Rattle.spec_orders.specs.Form.{first, fewest, nodes}
 use Rattle.spec_calls.specs.Tables.{padded}
 use Rattle.spec_calls.specs.NodeTable.{kind-number}
 use Rattle.tree_judge.specs.Judge.{leaf-state, node-state, states, judge}
@@ -87,5 +87,5 @@ module _ (n : ℕ) (S : Restriction) where
     none-read : Behind table 256 (known nil [])
     blank : {r : ℕ} → r < 256 → row-at table r ≡ blanks 257 → Behind table (suc r) (known nil []) → Behind table r (known nil [])
     a-node : {r : ℕ} {s : Known} {k : Kind} {vs : List ℕ} {i : Forest} {z : Within}
-        → r < 256 → row-at table r ≡ kind-number k ∷ length vs ∷ padded 255 vs → 2 ≤ length vs → length vs ≤ 255
+        → r < 256 → row-at table r ≡ kind-number k ∷ length vs ∷ padded 255 vs → fewest k ≤ length vs → length vs ≤ 255
         → Behind table (suc r) s → ItemsRead k vs (at-record k r s) i z → z .first < z .last → Behind table r (known (node k i (z .roots)) (z .leaves))

@@ -9,7 +9,7 @@ use lib.Seq.{take-append-seam, take-all, drop-at, take-set-le, drop-set-add, get
 use Rattle.spec_orders.specs.Lists.{same}
 use Rattle.spec_orders.specs.CircularOrder.{Restriction}
 use Rattle.spec_orders.specs.Tree.{Kind, P, C, Forest, node}
-use Rattle.spec_orders.specs.Form.{first, nodes}
+use Rattle.spec_orders.specs.Form.{first, fewest, nodes}
 use Rattle.spec_orders.proofs.FormTests.{same-decides}
 use Rattle.spec_calls.specs.Tables.{padded}
 use Rattle.spec_calls.specs.NodeTable.{kind-number}
@@ -29,6 +29,11 @@ use Rattle.table_sweep.proofs.Keeping.{labels-same, roots-same}
 pub kind-range : (k : Kind) → (1 ≤ kind-number k) × (kind-number k ≤ 2)
 kind-range P = (omega arith, omega arith)
 kind-range C = (omega arith, omega arith)
+
+-- A node has more items than its kind's number.
+pub kind-fewest : (k : Kind) → fewest k ≡ suc (kind-number k)
+kind-fewest P = refl
+kind-fewest C = refl
 
 pub kind-from : (kind : ℕ) → (kind ≡ 0 → ⊥) → kind ≤ 2 → (k : Kind) × (kind ≡ kind-number k)
 kind-from zero h l = absurd (h refl)
@@ -98,10 +103,10 @@ node-inside S {new} {x} {f} k i r v h e q m n l =
 
 module _ (n : ℕ) (S : Restriction) (r kind count : ℕ) (places : List ℕ) (g : Forest) (ls new : List ℕ) where
   pub node-good : {a : Row} {c d x q : ℕ} (w : ℕ) (k : Kind) → kind ≡ kind-number k → a ≡ row.Read c d x q → RowSmall r a → RowSays n S k r g ls (take (count - 0) (drop 0 places)) new a → c < d
-      → same (take (255 - count) (drop count places)) (replicate (length (take (255 - count) (drop count places))) 0) ≡ true → 2 ≤ count → count ≤ 255 → length places ≡ 255 → r < 256
+      → same (take (255 - count) (drop count places)) (replicate (length (take (255 - count) (drop count places))) 0) ≡ true → kind < count → count ≤ 255 → length places ≡ 255 → r < 256
       → ((p : Run) → q ≡ code p → w ≡ number (verdict p)) → NodeIs n S r kind count places g ls (set new (8 + r) (c + 512 * ((x - r) + 512 * w)))
   unfolding packed
-  node-good {c = c} {d} {x} {q} w k e is small says rise none two most long low told =
+  node-good {c = c} {d} {x} {q} w k e is small says rise none enough most long low told =
       let o : RowIs n S k r g ls (take (count - 0) (drop 0 places)) new c d x q = subst (RowSays n S k r g ls (take (count - 0) (drop 0 places)) new) is says in
       let vs : List ℕ = take (count - 0) (drop 0 places) in
       let m : count - 0 ≡ count = omega arith in
@@ -122,7 +127,7 @@ module _ (n : ℕ) (S : Restriction) (r kind count : ℕ) (places : List ℕ) (g
         kind-is = e;
         count-is = sym many;
         places-are = sym (take-append-drop count places) ∙ ap (λ (y : List ℕ). y ++ drop count places) (sym vs-is) ∙ ap (λ (y : List ℕ). vs ++ y) (zeros ∙ ap (λ (y : ℕ). replicate (255 - y) 0) (sym many));
-        two = omega arith;
+        enough = omega (arith, kind-fewest k);
         most = omega arith;
         reads = o .reads;
         rises = omega (arith, o .its-first, o .its-last);

@@ -12,6 +12,7 @@ use lib.Seq.{take-set-le, drop-set-add, getD-set-same}
 use Rattle.spec_orders.specs.Lists.{same}
 use Rattle.spec_orders.specs.CircularOrder.{Restriction}
 use Rattle.spec_orders.specs.Tree.{Kind, Forest, nil, node}
+use Rattle.spec_orders.specs.Form.{fewest}
 use Rattle.spec_orders.proofs.FormTests.{same-decides}
 use Rattle.spec_calls.specs.Tables.{padded}
 use Rattle.spec_calls.specs.NodeTable.{kind-number}
@@ -42,7 +43,7 @@ record NodeRead (n : ℕ) (S : Restriction) (table : List ℕ) (r : ℕ) : Type 
   i : Forest
   z : Within
   row : row-at table r ≡ kind-number k ∷ length vs ∷ padded 255 vs
-  two : 2 ≤ length vs
+  enough : fewest k ≤ length vs
   most : length vs ≤ 255
   behind : Behind n S table (suc r) s
   reads : ItemsRead n S k vs (at-record n S k r s) i z
@@ -52,8 +53,8 @@ came-by : (n : ℕ) (S : Restriction) {table : List ℕ} {r : ℕ} {s : Known} �
     → ((row-at table r ≡ blanks 257) × Behind n S table (suc r) (known n S nil [])) ⊎ NodeRead n S table r
 came-by n S none-read l = absurd (omega arith)
 came-by n S (blank l row c) m = inl (row, c)
-came-by n S (a-node {s = s} {k = k} {vs = vs} {i = i} {z = z} l row two most c t y) m =
-    inr (record { s = s; k = k; vs = vs; i = i; z = z; row = row; two = two; most = most; behind = c; reads = t; rises = y })
+came-by n S (a-node {s = s} {k = k} {vs = vs} {i = i} {z = z} l row enough most c t y) m =
+    inr (record { s = s; k = k; vs = vs; i = i; z = z; row = row; enough = enough; most = most; behind = c; reads = t; rises = y })
 
 module _ (n : ℕ) (S : Restriction) (table : List ℕ) (r kind count : ℕ) (places : List ℕ) (low : r < 256) (at : row-at table r ≡ kind ∷ count ∷ places) where
   row-parts : (k : Kind) (vs : List ℕ) → row-at table r ≡ kind-number k ∷ length vs ∷ padded 255 vs → (kind ≡ kind-number k) × (count ≡ length vs) × (places ≡ padded 255 vs)
@@ -75,13 +76,13 @@ module _ (n : ℕ) (S : Restriction) (table : List ℕ) (r kind count : ℕ) (pl
       go (inr o) =
           let p = row-parts (o .k) (o .vs) (o .row) in
           let e : o .s ≡ known n S g ls = behind-same n S (o .behind) b in
-          h (o .k) (o .vs) (o .i) (o .z) (p .0) (p .1) (p .2) (o .two) (o .most) (subst (λ (y : Known). ItemsRead n S (o .k) (o .vs) (at-record n S (o .k) r y) (o .i) (o .z)) e (o .reads)) (o .rises)
+          h (o .k) (o .vs) (o .i) (o .z) (p .0) (p .1) (p .2) (o .enough) (o .most) (subst (λ (y : Known). ItemsRead n S (o .k) (o .vs) (at-record n S (o .k) r y) (o .i) (o .z)) e (o .reads)) (o .rises)
 
   node-behind : {g : Forest} {ls work : List ℕ} (o : NodeIs n S r kind count places g ls work) → Behind n S table (suc r) (known n S g ls)
       → Behind n S table r (known n S (node (o .its-kind) (o .items) (o .end .roots)) (o .end .leaves))
   node-behind o b =
       a-node low (at ∙ ap (λ (c : ℕ). c ∷ count ∷ places) (o .kind-is) ∙ ap (λ (c : ℕ). kind-number (o .its-kind) ∷ c ∷ places) (o .count-is) ∙ ap (λ (c : List ℕ). kind-number (o .its-kind) ∷ length (o .entries) ∷ c) (o .places-are))
-      (o .two) (o .most) b (o .reads) (o .rises)
+      (o .enough) (o .most) b (o .reads) (o .rises)
 
 module _ (n : ℕ) (S : Restriction) (table : List ℕ) (r kind count : ℕ) (places : List ℕ) (low : r < 256) (at : row-at table r ≡ kind ∷ count ∷ places) where
   finished : {g : Forest} {ls work : List ℕ} → ((kind ∷ count ∷ places) ≡ blanks 257 → g ≡ nil → ⊥) → Behind n S table (suc r) (known n S g ls) → Finished n S r kind count places g ls work → Swept n S table r work

@@ -9,7 +9,7 @@ use lib.ListN.{length, getD, take, drop, replicate}
 use Rattle.spec_orders.specs.Lists.{elem}
 use Rattle.spec_orders.specs.CircularOrder.{Restriction}
 use Rattle.spec_orders.specs.Tree.{Kind, Forest, nil, leaf, node}
-use Rattle.spec_orders.specs.Form.{first, nodes}
+use Rattle.spec_orders.specs.Form.{first, fewest, nodes}
 use Rattle.spec_orders.specs.Reduce.{reduce}
 use Rattle.mark_words.specs.Marks.{marked, words-of}
 use Rattle.spec_calls.specs.Tables.{padded}
@@ -127,7 +127,7 @@ pub record NodeIs (n : ℕ) (S : Restriction) (r kind count : ℕ) (places : Lis
   pub kind-is : kind ≡ kind-number its-kind
   pub count-is : count ≡ length entries
   pub places-are : places ≡ padded 255 entries
-  pub two : 2 ≤ length entries
+  pub enough : fewest its-kind ≤ length entries
   pub most : length entries ≤ 255
   pub reads : ItemsRead n S its-kind entries (at-record n S its-kind r (known n S g ls)) items end
   pub rises : end .first < end .last
@@ -136,7 +136,7 @@ pub record NodeIs (n : ℕ) (S : Restriction) (r kind count : ℕ) (places : Lis
 abbrev pub NodeSays : ℕ → Restriction → ℕ → ℕ → ℕ → List ℕ → Forest → List ℕ → List ℕ → Bool → Type 0
 NodeSays n S r kind count places g ls work true = NodeIs n S r kind count places g ls work
 NodeSays n S r kind count places g ls work false =
-    (k : Kind) (vs : List ℕ) (i : Forest) (z : Within) → kind ≡ kind-number k → count ≡ length vs → places ≡ padded 255 vs → 2 ≤ length vs → length vs ≤ 255
+    (k : Kind) (vs : List ℕ) (i : Forest) (z : Within) → kind ≡ kind-number k → count ≡ length vs → places ≡ padded 255 vs → fewest k ≤ length vs → length vs ≤ 255
     → ItemsRead n S k vs (at-record n S k r (known n S g ls)) i z → z .first < z .last → ⊥
 
 -- The record was no node's, and this is noted; or it is kept.

@@ -199,7 +199,8 @@ fn read_node(r: usize, kind: u16, count: u16, places: &[u16], n: usize, work: &m
     if kind > 2 {
         return false;
     }
-    if count < 2 {
+    // A P-node (1) has two items or more, a C-node (2) three.
+    if count <= kind {
         return false;
     }
     if count > 255 {

@@ -4,7 +4,9 @@ mod answers;
 mod conflicts;
 mod fields;
 mod intersections;
+mod orders;
 mod rings;
+mod texts;
 mod updates;
 
 fn main() {
@@ -13,6 +15,7 @@ fn main() {
     file(b"02_empty.txt");
     file(b"03_aim.txt");
     file(b"04_trial.txt");
+    file(b"05_threes.txt");
 }
 
 // Reads a file, counts the outcome of each line, and prints its name and the counts.
@@ -46,7 +49,10 @@ fn outcome(line: &[u8]) -> usize {
         b'C' => 4 * n + conflicts::outcome(line),
         b'I' => 4 * n + intersections::outcome(line),
         b'J' => 4 * n + updates::joined(line),
+        b'R' => 4 * n + texts::read(line),
+        b'S' => 4 * n + orders::outcome(line),
         b'T' => 4 * n + updates::tried(line),
+        b'W' => 4 * n + texts::written(line),
         _ => 4 * n + 3,
     }
 }

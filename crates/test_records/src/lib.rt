@@ -84,8 +84,8 @@ pub extern "C" fn ring_write(n: usize, nodes: &[Node], bytes: &mut [u8], value: 
     spec_calls::code(answer, value)
 }
 
-// Reads a tree text for n leaves, lent without zeros after it: the node table gets its tree, and the book is emptied. The value is the count of
-// groups, 0.
+// Reads a tree text for n leaves, lent without zeros after it: the node table gets its tree, a P-node where the text has a C-node with two items, and
+// the book is emptied. The value is the count of groups, 0.
 #[no_mangle]
 pub extern "C" fn ring_read(
     n: usize,
@@ -100,8 +100,7 @@ pub extern "C" fn ring_read(
     spec_calls::code(answer, value)
 }
 
-// Writes the tree that allows exactly the orders allowed by the tree of n leaves and by that of m to the third node table. A node with three
-// neighbours is a P-node there. The value is 0.
+// Writes the tree that allows exactly the orders allowed by the tree of n leaves and by that of m to the third node table. The value is 0.
 #[no_mangle]
 pub extern "C" fn ring_intersect(
     n: usize,

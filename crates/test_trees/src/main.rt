@@ -1,5 +1,5 @@
-// Runs the cases of joins.txt (a tree text, a group, the text after joining) and of texts.txt (a text, accepted or refused at a byte) through the
-// calls, compares each answer with the file's, and counts the cases by n.
+// Runs the cases of joins.txt (a tree text, a group, the text after joining) and of texts.txt (a text, accepted and written again, or refused at a
+// byte) through the calls, compares each answer with the file's, and counts the cases by n.
 ghost use Prim.Native.Nat.{_≤_};
 
 mod joins;

@@ -1,8 +1,9 @@
-// One line of texts.txt: n, a text in hexadecimal and `ok`, or 12 and the byte, with tabs between them.
+// One line of texts.txt: n, a text in hexadecimal and its answer, with tabs between them: `ok`; or in hexadecimal the text that is written again,
+// where it is another; or 12 and the byte.
 ghost use Prim.Native.Nat.{_≤_};
 use spec_calls::Answer;
 
-// 1 where the text is accepted, as in the file, and written again is the same; 2 where it is refused at the file's byte; 3 where the answer is
+// 1 where the text is accepted, as in the file, and written again as there; 2 where it is refused at the file's byte; 3 where the answer is
 // another.
 pub fn outcome(n: usize, hex: &[u8], rest: &[u8]) -> usize
     ensures { λ r. ⌜ r ≤ 3 ⌝ }
@@ -37,10 +38,7 @@ fn compared(n: usize, got: Answer, nodes: &[u16], text: &[u8], answer: &[u8]) ->
 {
     match got {
         Answer::Done(_) => {
-            if answer.len() != 2 {
-                return 3;
-            }
-            if test_tables::is_text(n, nodes, text) {
+            if is_again(n, nodes, text, answer) {
                 return 1;
             }
             3
@@ -55,4 +53,14 @@ fn compared(n: usize, got: Answer, nodes: &[u16], text: &[u8], answer: &[u8]) ->
             3
         }
     }
+}
+
+// Whether the table holds the tree of the answer's text: of the text that was read where it is `ok`. The answer `12 byte` is no tree's text.
+fn is_again(n: usize, nodes: &[u16], text: &[u8], answer: &[u8]) -> bool {
+    if answer.len() == 2 {
+        return test_tables::is_text(n, nodes, text);
+    }
+    let mut bytes = [0u8; 4096];
+    let k = test_fields::hex_bytes(answer, &mut bytes);
+    test_tables::is_text(n, nodes, &bytes[0..k])
 }

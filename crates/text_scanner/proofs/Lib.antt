@@ -4,7 +4,7 @@ pub mod Completion
 pub mod Derivative
 pub mod Exact
 pub mod Rule
-pub mod Canonical
+pub mod Sorted
 pub mod Outcomes
 pub mod Numbers
 pub mod Moves

@@ -7,8 +7,8 @@ use lib.ListN.{length, take, drop, length-append}
 use lib.Seq.{drop-drop, take-append-seam, drop-append-seam}
 use Rattle.spec_orders.specs.Tree.{P, C, frontier}
 use Rattle.spec_orders.proofs.ListLaws.{part-to-end}
-use Rattle.spec_intersection.specs.Intersection.{item-pairs, p-items, node-groups, all-groups}
-use Rattle.spec_intersection.proofs.GroupWalk.{all-groups-append}
+use Rattle.spec_intersection.specs.Intersection.{item-pairs, p-items, node-groups, characteristic}
+use Rattle.spec_intersection.proofs.GroupWalk.{characteristic-append}
 use Rattle.tree_tokens.specs.Tokens.{Judged, j-nil, j-leaf, j-node, tree, j-append, encode}
 use Rattle.tree_tokens.specs.Views.{shape-of, first-of, items-of, rest-of}
 use Rattle.tree_tokens.proofs.Laws.{encode-split}
@@ -17,11 +17,11 @@ use Rattle.tree_tokens.proofs.Steps.{Here, opened}
 use Rattle.tree_intersection.specs.Intersect.{first-groups}
 
 -- Those of every node: those of the first one, and those of what follows its token.
-pub groups-split : (k : Judged) → all-groups (tree k) ≡ first-groups (tree k) ++ all-groups (tree (opened k))
+pub groups-split : (k : Judged) → characteristic (tree k) ≡ first-groups (tree k) ++ characteristic (tree (opened k))
 unfolding items-of rest-of
 groups-split j-nil = refl
 groups-split (j-leaf s b k) = refl
-groups-split (j-node s d i k) = ap (λ (l : List (List ℕ)). node-groups d (tree i) ++ l) (sym (ap all-groups (tree-append i k) ∙ all-groups-append (tree i) (tree k)))
+groups-split (j-node s d i k) = ap (λ (l : List (List ℕ)). node-groups d (tree i) ++ l) (sym (ap characteristic (tree-append i k) ∙ characteristic-append (tree i) (tree k)))
 
 -- Those of the first item, by its shape.
 pub first-groups-c : (k : Judged) → 3 ≡ shape-of k → first-groups (tree k) ≡ item-pairs (tree (items-of k))

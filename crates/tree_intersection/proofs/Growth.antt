@@ -9,7 +9,6 @@ use Rattle.spec_orders.specs.Lists.{elem}
 use Rattle.spec_orders.specs.CircularOrder.{Restriction}
 use Rattle.spec_orders.specs.Tree.{Forest}
 use Rattle.spec_orders.specs.Join.{join, then, joins}
-use Rattle.spec_intersection.specs.ThreeNeighbours.{relabel}
 use Rattle.spec_intersection.specs.Intersection.{characteristic, intersection}
 use Rattle.spec_intersection.proofs.GroupWalk.{joins-append, joins-keep}
 use Rattle.tree_tokens.specs.Tokens.{Judged, tree, flat}
@@ -95,11 +94,7 @@ joining-end g q z t e =
     let x = q .at t e in
     grows-as (x .2 ∙ ap (λ (l : List (List ℕ)). joins (map elem l) (x .0)) z) (grown (growing-begins (x .0) g (x .1)))
 
--- The intersection, by what becomes of the groups.
-pub none-common : (t u : Forest) → joins (map elem (characteristic u)) t ≡ none → intersection t u ≡ none
+-- The intersection, by the groups that join.
+pub common : (t u : Forest) → intersection t u ≡ joins (map elem (characteristic u)) t
 unfolding intersection
-none-common t u e = rw e
-
-pub common-relabelled : (t u : Forest) {v : Forest} → joins (map elem (characteristic u)) t ≡ some v → intersection t u ≡ some (relabel v)
-unfolding intersection
-common-relabelled t u e = rw e
+common t u = refl

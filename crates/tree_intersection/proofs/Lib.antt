@@ -1,5 +1,4 @@
 -- What the proofs of several functions use.
-pub mod Relabelling
 pub mod Marking
 pub mod Growth
 pub mod Groups

@@ -2,45 +2,16 @@
 ghost use mathlib.Core.Path.{_≡_};
 ghost use mathlib.Core.List.{map};
 ghost use Prim.Native.Nat.{_<_, _≤_};
-ghost use lib.ListN.{length, take, getD};
+ghost use lib.ListN.{length, take};
 ghost use Rattle.spec_orders.specs.Lists.{elem};
 ghost use Rattle.spec_orders.specs.Tree.{Forest, frontier};
 ghost use Rattle.spec_orders.specs.Join.{join, joins};
-ghost use Rattle.spec_intersection.specs.ThreeNeighbours.{relabel};
-ghost use Rattle.spec_intersection.specs.Intersection.{item-pairs, p-items, all-groups, intersection};
+ghost use Rattle.spec_intersection.specs.Intersection.{item-pairs, p-items, characteristic, intersection};
 ghost use Rattle.mark_words.specs.Marks.{marked, words-of, either};
-ghost use Rattle.tree_tokens.specs.Tokens.{Judged, tree, encode, Tokens, Wrote, flat, TreeTokens};
+ghost use Rattle.tree_tokens.specs.Tokens.{Judged, tree, encode, Tokens, flat, TreeTokens};
 ghost use Rattle.tree_update.specs.Update.{Answers};
 ghost use Rattle.tree_intersection.specs.Intersect.{Growing, Grows, first-groups};
 use tree_update::Updated;
-
-// The first token; of a P-node, which is 16 less, where it is of a C-node with two items.
-fn relabelled(toks: &[u16]) -> u16
-    requires { ⌜ (Tokens (now toks)) × (0 < length (now toks)) ⌝ }
-    ensures { λ r. ⌜ ((t : Forest) → now (toks .entry) ≡ flat t → r ≡ getD (flat (relabel t)) 0 0) ⌝ }
-{
-    let t = toks[0];
-    if tree_tokens::shape(toks) != 3 {
-        return t;
-    }
-    if tree_tokens::item_count(tree_tokens::items(toks)) != 2 {
-        return t;
-    }
-    t - 16
-}
-
-// Writes the tree with a P-node for each C-node of two items, and says how many tokens it has.
-fn relabel(toks: &[u16], out: &mut [u16]) -> usize
-    requires { ⌜ (Tokens (now toks)) × (length (now toks) ≤ length (now out)) ⌝ }
-    ensures { λ r. ⌜ ((t : Forest) → now (toks .entry) ≡ flat t → Wrote (flat (relabel t)) (now (out .entry)) (now (out .exit)) r) ⌝ }
-{
-    let mut i = 0;
-    while i < toks.len() {
-        out[i] = relabelled(&toks[i..]);
-        i += 1;
-    }
-    i
-}
 
 // Marks the leaves of the items, and keeps the other marks.
 fn mark_leaves(toks: &[u16], words: &mut [u64])
@@ -137,7 +108,7 @@ fn join_node(toks: &[u16], n: usize, into: &mut [u16], many: usize) -> Updated
 fn join_groups(toks: &[u16], n: usize, into: &mut [u16], many: usize) -> Updated
     requires { ⌜ (Tokens (now toks)) × (Growing n (now into) many) ⌝ }
     ensures { λ r. ⌜ ((j : Judged) (t : Forest) → now (toks .entry) ≡ encode j → take many (now (into .entry)) ≡ flat t
-        → Grows (joins (map elem (all-groups (tree j))) t) (now (into .exit)) r) ⌝ }
+        → Grows (joins (map elem (characteristic (tree j))) t) (now (into .exit)) r) ⌝ }
 {
     let mut k = many;
     let mut i = 0;
@@ -157,12 +128,10 @@ pub fn intersect(toks: &[u16], other: &[u16], n: usize, out: &mut [u16]) -> Upda
     ensures { λ r. ⌜ ((t u : Forest) → now (toks .entry) ≡ flat t → now (other .entry) ≡ flat u
         → Answers (intersection t u) (now (out .entry)) (now (out .exit)) r) ⌝ }
 {
-    let mut wide = [0u16; 512];
-    let m = relabel(other, &mut wide);
     let mut tree = [0u16; 512];
     let many = tree_tokens::copy(toks, &mut tree);
-    let Updated::Tokens(k) = join_groups(&wide[0..m], n, &mut tree, many) else {
+    let Updated::Tokens(k) = join_groups(other, n, &mut tree, many) else {
         return Updated::Impossible;
     };
-    Updated::Tokens(relabel(&tree[0..k], out))
+    Updated::Tokens(tree_tokens::copy(&tree[0..k], out))
 }

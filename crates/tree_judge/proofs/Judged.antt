@@ -8,7 +8,7 @@ use lib.ListN.{length, length-append}
 use Rattle.spec_orders.specs.Lists.{some-of}
 use Rattle.spec_orders.specs.CircularOrder.{Restriction}
 use Rattle.spec_orders.specs.Tree.{Kind, Forest, nil, leaf, node, items, frontier}
-use Rattle.spec_orders.specs.Form.{TwoItems}
+use Rattle.spec_orders.specs.TreeText.{TwoItems}
 use Rattle.spec_orders.specs.Reduce.{complement, class, class-by}
 use Rattle.spec_orders.proofs.Laws.{Forked}
 use Rattle.tree_tokens.specs.Tokens.{State, E, F, tree, encode, flat}

@@ -8,7 +8,7 @@ use borrow.Author.Tests.{eqb-true}
 use lib.Dec.{ltb}
 use lib.ListN.{length}
 use Rattle.spec_orders.specs.Tree.{Kind, P, C, Forest, nil, leaf, node, Item, leaf-item, node-item, items, append}
-use Rattle.spec_orders.specs.Form.{TwoItems, Sorted, Rising, Canonical}
+use Rattle.spec_orders.specs.Form.{Enough, Sorted, Rising, Canonical}
 use Rattle.spec_orders.specs.Reduce.{put, one, put-sorted, pack}
 use Rattle.spec_orders.proofs.ReduceIdle.{back, orient-same, pack-two}
 use Rattle.tree_tokens.specs.Tokens.{State, E, F, L, R, X, number, Judged, j-nil, j-leaf, j-node, tree, encode}
@@ -67,7 +67,7 @@ abbrev pub Same : Kind → Judged → Type 0
 Same P j = Between j
 Same C j = middle-of (totals j) ≡ tree j
 
-node-same : (k : Kind) (i : Judged) → TwoItems (items (tree i)) → Sorted k (tree i) → Same k i → reduced-of k (totals i) ≡ node k (tree i) nil
+node-same : (k : Kind) (i : Judged) → Enough k (tree i) → Sorted k (tree i) → Same k i → reduced-of k (totals i) ≡ node k (tree i) nil
 unfolding reduced-of c-node-of
 node-same P i h s w =
     let e = w .its-tree in

@@ -16,7 +16,7 @@ use Rattle.spec_orders.specs.Join.{join}
 use Rattle.spec_orders.proofs.ListLaws.{all-map}
 use Rattle.spec_orders.proofs.Rearranged.{perm-all, perm-distinct}
 use Rattle.spec_orders.proofs.Numbers.{numbers-length, count-most, count-elem}
-use Rattle.spec_orders.proofs.Parts.{canonical-forked}
+use Rattle.spec_orders.proofs.Laws.{canonical-forked}
 use Rattle.spec_orders.proofs.Forms.{others-range, form-distinct, nodes-bound}
 use Rattle.spec_orders.proofs.Joining.{tree-left}
 use Rattle.spec_orders.proofs.ReduceOrders.{reduce-frontier, reduce-single}

@@ -9,7 +9,8 @@ use lib.ListN.{length, take}
 use Rattle.spec_orders.specs.Lists.{All, Distinct}
 use Rattle.spec_orders.specs.CircularOrder.{Restriction}
 use Rattle.spec_orders.specs.Tree.{Forest, items, frontier}
-use Rattle.spec_orders.specs.Form.{Every, TwoItems, Canonical, Single}
+use Rattle.spec_orders.specs.Form.{Every, Canonical, Single}
+use Rattle.spec_orders.specs.TreeText.{TwoItems}
 use Rattle.spec_orders.specs.Reduce.{pack, put-sorted, reduce}
 use Rattle.tree_tokens.specs.Tokens.{Judged, tree, encode, Wrote, flat}
 use Rattle.tree_spans.specs.Spans.{is, beyond}

@@ -1,7 +1,7 @@
 //! Runs a file of test vectors from standard input: one case a line, a call and its answer with `=` between, as the vectors' README has them. Makes
 //! the calls whose letter it knows, prints each line that this planner answers otherwise, and how many it ran.
 
-use plain::{aim, conflict, intersect, join, read, trial, write, Answer, Node};
+use plain::{aim, conflict, intersect, join, order, read, trial, write, Answer, Node};
 use std::fmt::Display;
 use std::io;
 use std::process::ExitCode;
@@ -14,10 +14,13 @@ const ROW: usize = 257;
 const WORDS: usize = 384;
 /// Places of a conflict list.
 const GROUPS: usize = 96;
+/// Bytes of a written tree text.
+const BYTES: usize = 2048;
 /// What stands in a table that a call fills, and past a table's stated size.
 const OLD: Node = Node { kind: 7, count: 77, items: [777; 255] };
 const OLD_WORD: u64 = 77;
 const OLD_PLACE: u16 = 777;
+const OLD_BYTE: u8 = 77;
 
 /// The tables of a ring as they are lent.
 #[derive(Clone, PartialEq)]
@@ -112,12 +115,17 @@ fn spaced<T: Display>(numbers: &[T]) -> String {
     numbers.iter().map(|number| format!(" {number}")).collect()
 }
 
+/// The fields of bytes.
+fn hexadecimal(bytes: &[u8]) -> String {
+    let digits: String = bytes.iter().map(|byte| format!("{byte:02x}")).collect();
+    format!("{} {digits}", bytes.len())
+}
+
 /// The fields of the table's tree text.
 fn text(n: usize, nodes: &[Node]) -> String {
-    let mut bytes = [0; 2048];
+    let mut bytes = [0; BYTES];
     let length = write(n, nodes, &mut bytes).expect("the table is in form");
-    let digits: String = bytes[..length].iter().map(|byte| format!("{byte:02x}")).collect();
-    format!("{length} {digits}")
+    hexadecimal(&bytes[..length])
 }
 
 /// What this planner answers to an intersection.
@@ -174,6 +182,48 @@ fn conflicting(fields: &mut Fields) -> String {
     format!("{} {size}{}", told(answer), spaced(&conflicts[..size]))
 }
 
+/// What this planner answers to a text that is read.
+fn reading(fields: &mut Fields) -> String {
+    let [n, _rack, records, words, _days] = std::array::from_fn(|_| fields.number());
+    let (mut nodes, mut book) = (vec![OLD; records], vec![OLD_WORD; words]);
+    let answer = read(n, &mut nodes, &mut book, &fields.bytes());
+    let (records, words) = if answer.is_ok() { (RECORDS, WORDS) } else { (0, 0) };
+    assert!(nodes[records..].iter().all(|record| *record == OLD), "records changed that are to stay");
+    assert!(book[words..].iter().all(|word| *word == OLD_WORD), "words changed that are to stay");
+    assert!(book[..words].iter().all(|word| *word == 0), "the book is not empty");
+    match answer {
+        Ok(_) => format!("{} {}", told(answer), text(n, &nodes)),
+        Err(_) => told(answer),
+    }
+}
+
+/// What this planner answers to the writing of a text.
+fn writing(fields: &mut Fields) -> String {
+    let [n, _rack, records, size] = std::array::from_fn(|_| fields.number());
+    let nodes = fields.tree(n, records);
+    let mut bytes = vec![OLD_BYTE; size];
+    let answer = write(n, &nodes, &mut bytes);
+    let kept = if answer.is_ok() { BYTES } else { 0 };
+    assert!(bytes[kept..].iter().all(|byte| *byte == OLD_BYTE), "bytes changed that are to stay");
+    let Ok(length) = answer else { return told(answer) };
+    assert!(bytes[length..BYTES].iter().all(|byte| *byte == 0), "a byte past the text is not zero");
+    format!("{} {}", told(answer), hexadecimal(&bytes[..length]))
+}
+
+/// What this planner answers to the standard order.
+fn ordering(fields: &mut Fields) -> String {
+    let [n, _rack, records, places] = std::array::from_fn(|_| fields.number());
+    let nodes = fields.tree(n, records);
+    let mut places = vec![OLD_PLACE; places];
+    let answer = order(n, &nodes, &mut places);
+    let kept = if answer.is_ok() { n } else { 0 };
+    assert!(places[kept..].iter().all(|place| *place == OLD_PLACE), "places changed that are to stay");
+    match answer {
+        Ok(_) => format!("{} {n}{}", told(answer), spaced(&places[..n])),
+        Err(_) => told(answer),
+    }
+}
+
 /// What this planner answers to a call; none to one with another letter.
 fn answered(call: &str) -> Option<String> {
     let mut fields = Fields(call.split(' '));
@@ -183,6 +233,9 @@ fn answered(call: &str) -> Option<String> {
         "T" => trying(&mut fields),
         "A" => aiming(&mut fields),
         "C" => conflicting(&mut fields),
+        "R" => reading(&mut fields),
+        "W" => writing(&mut fields),
+        "S" => ordering(&mut fields),
         _ => return None,
     };
     assert!(fields.0.next().is_none(), "a field too many: {call}");

@@ -158,7 +158,8 @@ pub fn write(n: usize, nodes: &[Node], bytes: &mut [u8]) -> Answer {
     Ok(length)
 }
 
-/// Fills the node table with the tree of the text and empties the book. Returns 0, the count of groups.
+/// Fills the node table with the tree of the text, a P-node where the text has a C-node with two items, and empties the
+/// book. Returns 0, the count of groups.
 pub fn read(n: usize, nodes: &mut [Node], book: &mut [u64], text: &[u8]) -> Answer {
     check_sizes(n, &[(nodes.len(), RECORDS), (book.len(), WORDS)])?;
     let tree = Tree::read_text(n, text).map_err(|place| Refused { number: 12, place })?;

@@ -5,8 +5,8 @@ use crate::tree::{is_node, leaf, number, Item, Kind, Tree, NONE, ROOT};
 /// How many records a node table has.
 pub const RECORDS: usize = 256;
 
-/// A record of the node table: kind 1 is a P-node, 2 a C-node, 0 unused. The first `count` items are leaves, as
-/// their numbers, and nodes, as 256 plus the number of their record; the others are zero.
+/// A record of the node table: kind 1 is a P-node, 2 a C-node, which has at least three items, 0 unused. The first
+/// `count` items are leaves, as their numbers, and nodes, as 256 plus the number of their record; the others are zero.
 #[repr(C)]
 #[derive(Clone, Copy, PartialEq, Eq, Debug)]
 pub struct Node {
@@ -25,9 +25,9 @@ impl Node {
         if !(2..=255).contains(&count) || self.items[count..] != Node::UNUSED.items[count..] {
             return None;
         }
-        match self.kind {
-            1 => Some(Kind::P),
-            2 => Some(Kind::C),
+        match (self.kind, count) {
+            (1, _) => Some(Kind::P),
+            (2, 3..) => Some(Kind::C),
             _ => None,
         }
     }

@@ -55,7 +55,8 @@ impl Tree {
         out.len
     }
 
-    /// Returns the tree of n leaves with this text, else the byte at which the text is malformed.
+    /// Returns the tree of n leaves with this text, in which a C-node may have two items and is a P-node then, else the
+    /// byte at which the text is malformed.
     pub fn read_text(n: usize, text: &[u8]) -> Result<Tree, usize> {
         let fixed: &[u8] = match n {
             1 => b"1",
@@ -75,10 +76,11 @@ impl Tree {
         for record in (0..tree.nodes()).rev() {
             tree.set_first(ROOT + record as Item);
         }
-        match tree.least_fault(|item| start[usize::from(item)]) {
-            None => Ok(tree),
-            Some(byte) => Err(byte),
+        if let Some(byte) = tree.least_fault(|item| start[usize::from(item)]) {
+            return Err(byte);
         }
+        tree.name_threes();
+        Ok(tree)
     }
 }
 

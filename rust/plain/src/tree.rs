@@ -33,7 +33,7 @@ struct Inner {
 
 const BARE: Inner = Inner { kind: Kind::P, degree: 0, head: NONE, tail: NONE };
 
-/// A PC-tree. Every node's children stand in the sequence of the tree text.
+/// A PC-tree. Every node's children stand in the sequence of the tree text, and a C-node has at least three.
 #[derive(Clone)]
 pub struct Tree {
     n: usize,
@@ -193,6 +193,16 @@ impl Tree {
             }
         });
         least
+    }
+
+    /// Makes every node with three neighbours a P-node.
+    pub(crate) fn name_threes(&mut self) {
+        let inner = &mut self.inner;
+        marks::each(&self.used, |s| {
+            if inner[s].degree == 2 {
+                inner[s].kind = Kind::P;
+            }
+        });
     }
 
     /// Returns the item that the tree text prints, or opens, after this one; none after the last.

@@ -45,7 +45,7 @@ fn table_refused(n: usize, nodes: &[Node]) {
 fn node_tables_not_in_form() {
     let ring = Ring::with(5, &[&[1, 3], &[3, 5]]);
     type Change = (usize, fn(&mut Node));
-    let changes: [Change; 15] = [
+    let changes: [Change; 16] = [
         (0, |record| record.kind = 0),
         (0, |record| record.kind = 3),
         (0, |record| record.kind = 258),
@@ -58,6 +58,7 @@ fn node_tables_not_in_form() {
         (0, |record| record.items[1] = 6),
         (0, |record| record.items[1] = 3),
         (0, |record| record.items[254] = 1),
+        (1, |record| record.kind = 2),
         (1, |record| record.items.swap(0, 1)),
         (1, |record| *record = UNUSED),
         (255, |record| record.items[254] = 1),

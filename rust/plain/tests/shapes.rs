@@ -1,8 +1,8 @@
-//! The byte of a malformed tree text, against all texts of the shape for small rings.
+//! The byte of a malformed tree text, against all texts of the shape for small rings, and what is written of a text.
 
 mod common;
 
-use common::shapes::shapes;
+use common::shapes::{shapes, threes_named};
 use common::{refused, Random, Ring};
 use std::collections::HashSet;
 
@@ -35,17 +35,40 @@ fn bytes_against_all_shapes() {
     }
 }
 
-/// One text is accepted for each tree: with 5 bins 13 of one node, 80 of two and 120 of three.
+/// One text is written for each tree: with 5 bins 13 of one node, 40 of two and 15 of three. Accepted are also those with
+/// a `C` for a node with two items, in its sequence.
 #[test]
 fn one_text_a_tree() {
     for n in 3..=5 {
         let mut accepted = 0;
+        let mut written = HashSet::new();
         for text in shapes(n) {
-            let mut ring = Ring::new(usize::from(n));
-            let Ok(_) = plain::read(usize::from(n), &mut ring.nodes, &mut ring.book, text.as_bytes()) else { continue };
+            let Some(ring) = Ring::of_text(usize::from(n), &text) else { continue };
             accepted += 1;
-            assert_eq!(ring.text(), text);
+            assert_eq!(ring.text(), threes_named(&text));
+            written.insert(ring.text());
         }
-        assert_eq!(accepted, [2, 16, 213][usize::from(n) - 3]);
+        assert_eq!((accepted, written.len()), [(2, 1), (16, 7), (213, 68)][usize::from(n) - 3]);
+    }
+}
+
+/// A node with three neighbours is a P-node, also where a text names it C.
+#[test]
+fn three_neighbours() {
+    let cases: [(usize, &str, &str); 5] = [
+        (3, "1 C(2 3)", "1 P(2 3)"),
+        (4, "1 C(2 C(3 4))", "1 P(2 P(3 4))"),
+        (5, "1 C(C(2 3) 4 5)", "1 C(P(2 3) 4 5)"),
+        (5, "1 C(C(3 2 4) 5)", "1 P(C(3 2 4) 5)"),
+        (6, "1 P(2 C(3 5) P(4 6))", "1 P(2 P(3 5) P(4 6))"),
+    ];
+    for (n, text, written) in cases {
+        let ring = Ring::of_text(n, text).unwrap();
+        assert_eq!(ring.text(), written);
+        assert!(ring.nodes == Ring::of_text(n, written).unwrap().nodes);
+    }
+    let mut ring = Ring::new(3);
+    for (text, byte) in [("1 C(3 2)", 4), ("1 P(3 2)", 6)] {
+        assert_eq!(plain::read(3, &mut ring.nodes, &mut ring.book, text.as_bytes()), refused(12, byte));
     }
 }

@@ -71,6 +71,7 @@ fn refusals_of_joining_and_trial() {
     refuses(|t| t.nodes.truncate(255), 2, &[2, 4], (2, 0));
     refuses(|t| t.book.truncate(383), 2, &[2, 4], (2, 0));
     refuses(|t| t.nodes[0].kind = 1, 2, &[2, 4], (3, 0));
+    refuses(|t| t.nodes[1].kind = 2, 2, &[2, 4], (3, 0));
     refuses(|t| t.nodes[255].items[254] = 1, 2, &[2, 4], (3, 0));
     refuses(|t| t.book[0] = 0b100000, 2, &[2, 4], (3, 0));
     refuses(|_| {}, 1, &[2, 4], (3, 0));
@@ -124,6 +125,16 @@ fn refusals_of_texts() {
         assert_eq!(read(5, &mut tables.nodes, &mut tables.book, text.as_bytes()), Err((12, byte)), "{text}");
         assert_eq!(tables, circle_e(256));
     }
+}
+
+/// A text that names a node with three neighbours C is read as one that names it P.
+#[test]
+fn three_neighbours_on_records() {
+    let mut tables = circle_e(256);
+    tables.nodes[..256].fill(SENTINEL);
+    assert_eq!(read(5, &mut tables.nodes, &mut tables.book, b"1 C(C(2 4) 5 3)"), Ok(0));
+    assert_eq!(tables.nodes, circle_e(256).nodes);
+    assert!(tables.book.iter().all(|word| *word == 0));
 }
 
 /// The node table of the fresh tree of n leaves with this group joined, and a sentinel past it.

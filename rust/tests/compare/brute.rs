@@ -123,6 +123,11 @@ fn allowed(nodes: &[Node], n: usize) -> Vec<Vec<u16>> {
     found
 }
 
+/// Whether a node of the table has three neighbours and is a C-node.
+fn has_three(nodes: &[Node]) -> bool {
+    nodes.iter().any(|node| (node.kind, node.count) == (2, 2))
+}
+
 /// A ring, and what it should be: its groups, and the orders that have each of them consecutive.
 struct Watched {
     n: usize,
@@ -144,6 +149,7 @@ impl Watched {
         let mut ring = Watched::fresh(n);
         tokuwhape::read(n, &mut ring.nodes, &mut ring.book, text).ok()?;
         ring.left = allowed(&ring.nodes, n);
+        assert!(!has_three(&ring.nodes), "{}", String::from_utf8_lossy(text));
         Some(ring)
     }
 
@@ -159,6 +165,7 @@ impl Watched {
             assert_eq!(answer, Ok(self.groups.len()), "{list:?}");
         }
         assert_eq!(allowed(&self.nodes, self.n), self.left, "{list:?}");
+        assert!(!has_three(&self.nodes), "{list:?}");
     }
 
     /// Checks the standard order, the aims and the conflict list of the group.
@@ -245,7 +252,7 @@ fn small_trees_intersect_as_their_orders_do() {
         }
         assert_eq!(answer, Ok(0));
         assert_eq!(allowed(&third, n), both);
-        assert!(third.iter().all(|node| (node.kind, node.count) != (2, 2)), "three neighbours are a P-node's");
+        assert!(!has_three(&third));
         done += 1;
     }
     assert!(done > 500 && refused > 50, "only {done} intersections and {refused} refused");

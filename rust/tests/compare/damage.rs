@@ -16,7 +16,7 @@ pub trait Choose {
 pub fn damage_nodes(choose: &mut impl Choose, n: usize, nodes: &mut [Node]) {
     let nodes = &mut nodes[..256];
     let used = nodes.iter().take_while(|node| node.kind != 0).count();
-    match choose.below(6) {
+    match choose.below(7) {
         0 => any_number(choose, nodes),
         1 => head(choose, used, nodes),
         2 => item(choose, n, used, nodes),
@@ -26,6 +26,7 @@ pub fn damage_nodes(choose: &mut impl Choose, n: usize, nodes: &mut [Node]) {
             shape(choose, used, nodes);
             in_sequence(nodes);
         }
+        6 if used > 0 => three_neighbours(choose, used, nodes),
         _ => {}
     }
 }
@@ -112,6 +113,14 @@ fn shape(choose: &mut impl Choose, used: usize, nodes: &mut [Node]) {
             nodes[new] = Node { kind: choose.pick(&[1, 2]), count, ..Node::UNUSED };
             nodes[new].items[0] = count * item;
         }
+    }
+}
+
+/// A node with two items, the first from a record on, is a C-node: nothing else is wrong then.
+fn three_neighbours(choose: &mut impl Choose, used: usize, nodes: &mut [Node]) {
+    let from = choose.below(used);
+    if let Some(node) = nodes[from..].iter_mut().find(|node| node.count == 2) {
+        node.kind = 2;
     }
 }
 

@@ -148,18 +148,18 @@ fn trees() -> Vec<(usize, String, usize)> {
         (1, "1"),
         (2, "1 2"),
         (3, "1 P(2 3)"),
-        (3, "1 C(2 3)"),
+        (4, "1 C(2 3 4)"),
         (5, "1 C(P(2 4) 5 3)"),
         (7, "1 P(2 C(3 P(4 5) 6) 7)"),
-        (12, "1 P(2 C(3 P(4 12) 11) P(5 C(6 10 9)) C(7 8))"),
+        (12, "1 P(2 C(3 P(4 12) 11) P(5 C(6 10 9)) P(7 8))"),
     ];
     let leaves: String = (2..=255).map(|leaf| format!("{leaf} ")).collect();
-    let before: String = (3..=256).map(|leaf| format!(" {leaf})")).collect();
+    let before: String = (3..256).step_by(2).map(|leaf| format!(" {leaf} {})", leaf + 1)).collect();
     let after: String = (2..=255).map(|leaf| format!("P({leaf} ")).collect();
     let large = [
         format!("1 P({leaves}256)"),
         format!("1 C({leaves}256)"),
-        format!("1 {}2{before}", "C(".repeat(254)),
+        format!("1 {}2{before}", "C(".repeat(127)),
         format!("1 {after}256{}", ")".repeat(254)),
     ];
     let small = small.map(|(n, text)| (n, text.to_string(), 20));

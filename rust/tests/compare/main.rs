@@ -151,4 +151,7 @@ fn both_planners_answer_alike() {
     }
     println!("{cases} cases, and {} names and {} groups of files", tally.made("name"), tally.made("group"));
     assert!(cases >= 100_000, "only {cases} cases");
+    let threes = tally.made("three neighbours");
+    println!("{threes} texts with a C-node that has three neighbours");
+    assert!(threes >= 1_000, "only {threes} such texts");
 }

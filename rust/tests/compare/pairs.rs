@@ -26,7 +26,7 @@ fn grown(draw: &mut Draw, n: usize, hidden: &[u16]) -> Vec<Node> {
     nodes
 }
 
-/// The node table of an accepted text of the shape, with any nodes, C-nodes with three neighbours among them.
+/// The node table of an accepted text of the shape, with any nodes; those with three neighbours are P-nodes, however the text names them.
 fn read(draw: &mut Draw, n: usize) -> Vec<Node> {
     let (mut nodes, mut book) = (vec![Node::UNUSED; 256], vec![0; 384]);
     while tokuwhape::read(n, &mut nodes, &mut book, &shaped(draw, n)).is_err() {}

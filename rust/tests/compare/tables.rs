@@ -51,7 +51,7 @@ impl Debug for Call<'_> {
     }
 }
 
-/// How often each call gave each answer: 0 for done, else the refusal's number.
+/// How often each call, or a call on inputs of some kind, gave each answer: 0 for done, else the refusal's number.
 #[derive(Default)]
 pub struct Tally(pub BTreeMap<(&'static str, u8), usize>);
 

@@ -106,16 +106,41 @@ fn given(draw: &mut Draw, n: usize) -> usize {
     n
 }
 
-/// Reads the text on both sides. Where it is accepted, it is written again unchanged. Returns whether it is.
+/// Whether the node that a tree text has here has just two items.
+fn has_two_items(text: &[u8]) -> bool {
+    let (mut depth, mut spaces) = (0, 0);
+    for byte in text {
+        match byte {
+            b'(' => depth += 1,
+            b')' if depth == 1 => break,
+            b')' => depth -= 1,
+            b' ' => spaces += usize::from(depth == 1),
+            _ => {}
+        }
+    }
+    spaces == 1
+}
+
+/// How an accepted text is written again: a node with three neighbours is a P-node.
+fn again(text: &[u8]) -> Vec<u8> {
+    let letter = |at: usize| if text[at] == b'C' && has_two_items(&text[at..]) { b'P' } else { text[at] };
+    (0..text.len()).map(letter).collect()
+}
+
+/// Reads the text on both sides. Where it is accepted, it is written again, and counted if it is changed. Returns whether it is accepted.
 fn read(tally: &mut Tally, sides: &mut Sides, n: usize, text: &[u8]) -> bool {
-    let accepted = sides.call(tally, n, Call::Read(text)).is_ok();
-    if accepted {
+    let answer = sides.call(tally, n, Call::Read(text));
+    if answer.is_ok() {
+        let again = again(text);
+        if again != text {
+            tally.count("three neighbours", &answer);
+        }
         sides.refill(n, 96, 2048, 0xa5a5);
         assert_eq!(sides.call(tally, n, Call::Write), Ok(text.len()), "{}", String::from_utf8_lossy(text));
-        assert_eq!(sides.text(text.len()), text);
+        assert_eq!(sides.text(text.len()), again);
         assert_eq!(sides.call(tally, n, Call::Order), Ok(n));
     }
-    accepted
+    answer.is_ok()
 }
 
 /// Joins some groups to the tree that was read: runs of its standard order, and any leaves.

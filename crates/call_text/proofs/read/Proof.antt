@@ -4,6 +4,7 @@ use Prim.Native.Nat.{_≤_}
 use native.Mathlib.Omega.{arith}
 use denote.Ref.{now}
 use lib.ListN.{length, replicate}
+use Rattle.spec_orders.proofs.TextOnce.{found-form}
 use Rattle.tree_tokens.proofs.Writes.{read-part, wrote-most}
 use Rattle.spec_calls.specs.Tables.{lent-nodes, lent-book}
 use Rattle.spec_calls.specs.Refusals.{first-refusal, short}
@@ -12,7 +13,7 @@ use Rattle.table_book.specs.Lists.{refusal-in}
 use Rattle.call_checks.proofs.Laws.{room-passed}
 use Rattle.text_read.specs.declared.Read.the-variants.{Tree}
 use Rattle.text_read.specs.ReadText.{ReadText}
-use Rattle.call_text.proofs.Reading.{reads-form, not-read, refused-read, tree-read}
+use Rattle.call_text.proofs.Reading.{not-read, refused-read, tree-read}
 use borrow.Author.Needs.{needs}
 use Rattle.call_text.proofs.read.Statement.{statement}
 use Rattle.call_text.proofs.read.Tie as tie
@@ -38,7 +39,7 @@ part-store-end : tie.Need-part-store-end
 part-store-end c = omega (arith, wrote-most (spelled (c .before) .2))
 
 store-requires : tie.Need-store-requires
-store-requires c κs = let l = room (c .before .before .before .before .before .before .before .before .before) in let f = spelled (c .before .before .before) in ((c .before .before .before .before .before .before .before .before .before .before .before .before .before .before .before .before .args .n, record { shown = f .0; is = read-part (f .2); in-form = reads-form (f .1); few-leaves = l .1 }), l .2)
+store-requires c κs = let l = room (c .before .before .before .before .before .before .before .before .before) in let f = spelled (c .before .before .before) in ((c .before .before .before .before .before .before .before .before .before .before .before .before .before .before .before .before .args .n, record { shown = f .0; is = read-part (f .2); in-form = found-form (f .1); few-leaves = l .1 }), l .2)
 
 clear-requires : tie.Need-clear-requires
 clear-requires c κs = room (c .before .before .before .before .before .before .before .before .before .before .before .before .before) .3

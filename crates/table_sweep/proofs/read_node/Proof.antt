@@ -2,7 +2,7 @@ use mathlib.Core.Path.{sym, _∙_}
 use mathlib.Core.Bool.{true≢false}
 use native.Mathlib.Omega.{arith}
 use borrow.Author.Tests.{not-true, not-false}
-use Rattle.table_sweep.proofs.Nodes.{kind-range, kind-from, small-row, zeros-left, row-bad, row-low, node-good}
+use Rattle.table_sweep.proofs.Nodes.{kind-range, kind-fewest, kind-from, small-row, zeros-left, row-bad, row-low, node-good}
 use borrow.Author.Needs.{needs}
 use Rattle.table_sweep.proofs.read_node.Statement.{statement}
 use Rattle.table_sweep.proofs.read_node.Tie as tie
@@ -12,6 +12,9 @@ returns c = λ S g ls h k vs i z e a b d f t m. omega (arith, kind-range k)
 
 returns-2 : tie.Need-returns-2
 returns-2 c = λ S g ls h k vs i z e a b d f t m. omega (arith, kind-range k)
+
+returns-3 : tie.Need-returns-3
+returns-3 c = λ S g ls h k vs i z e a b d f t m. omega (arith, kind-fewest k)
 
 returns-5 : tie.Need-returns-5
 returns-5 c = λ S g ls h k vs i z e a b d f t m. row-bad (c .before .before .before .before .before .before .before .before .before .before .before .before .before .args .n) S k (c .before .before .before .before .before .before .before .before .before .before .before .before .before .args .r) g ls (c .before .before .before .before .before .before .before .before .before .before .before .before .before .args .places .now) (c .before .before .before .before .read-entries .last .1 .1 .1 .1 .0) (c .before .before .before .before .before .before .before .before .before .before .before .before .before .args .count) (c .enum-told .given .1) (c .before .before .before .before .read-entries .ensures .1 S k g ls e h) a b t
@@ -46,7 +49,7 @@ read-node-spec =
     (tie.spec
     returns
     returns-2
-    (λ c. search needs)
+    returns-3
     (λ c. search needs)
     (λ c. search needs)
     (λ c. search needs)

@@ -6,7 +6,7 @@ use lib.ListN.{length, take}
 use Rattle.spec_orders.specs.Lists.{elem}
 use Rattle.spec_orders.specs.Tree.{Forest}
 use Rattle.spec_orders.specs.Join.{joins}
-use Rattle.spec_intersection.specs.Intersection.{all-groups}
+use Rattle.spec_intersection.specs.Intersection.{characteristic}
 use Rattle.tree_tokens.specs.Tokens.{Judged, tree, flat}
 use Rattle.tree_tokens.proofs.Steps.{Left, Here, from-start, part-left, here, at-last, next-token, opened}
 use Rattle.tree_intersection.specs.Intersect.{Growing, Grows, first-groups}
@@ -18,13 +18,13 @@ use Rattle.tree_intersection.proofs.join_groups.Tie as tie
 
 abbrev Inv-loop : tie.InvT-loop
 Inv-loop toks n into₀ many k₀ i₀ into k i =
-    (i ≤ length toks) × (length into ≡ length into₀) × Growing n into k × Left toks i (Joining all-groups into₀ many into k)
+    (i ≤ length toks) × (length into ≡ length into₀) × Growing n into k × Left toks i (Joining characteristic into₀ many into k)
 
 abbrev μ-loop : tie.MeasureT-loop
 μ-loop toks n into₀ many k₀ i₀ into k i = length toks - i
 
 loop-holds : tie.Need-loop-holds Inv-loop μ-loop
-loop-holds c = (omega arith, refl, c .before .before .pre .1, from-start _ (λ j. joining-start all-groups _ _ j))
+loop-holds c = (omega arith, refl, c .before .before .pre .1, from-start _ (λ j. joining-start characteristic _ _ j))
 
 join-node-requires : tie.Need-join-node-requires Inv-loop μ-loop
 join-node-requires c κs = (part-left (c .before .before .before .loop .inv .3) (c .before .before .before .before .before .before .pre .0), omega arith, c .before .before .before .loop .inv .2)

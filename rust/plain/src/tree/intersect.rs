@@ -3,7 +3,6 @@
 
 use super::join::{Labels, Nodes};
 use super::{is_node, slot, Item, Kind, Tree, ITEMS, NONE, ROOT};
-use crate::marks;
 
 /// A run of siblings by its two ends, which may be one item.
 #[derive(Clone, Copy)]
@@ -28,7 +27,7 @@ struct Cut {
 
 impl Tree {
     /// Restricts the tree to the orders that `other`, of as many leaves, allows too and returns true, or returns false
-    /// if there are none, and the tree is of no use then. In the result every node with three neighbours is a P-node.
+    /// if there are none, and the tree is of no use then.
     pub fn intersect(&mut self, other: &Tree) -> bool {
         // The run of each item of `other`, once its leaves are merged.
         let mut runs: [Run; ITEMS] = std::array::from_fn(|k| Run { left: k as Item, right: k as Item });
@@ -37,10 +36,8 @@ impl Tree {
             let children = || other.children(node).map(|child| runs[usize::from(child)]);
             // The children of the root are all leaves but leaf 1, so only their sequence may be fixed.
             let possible = match other.kind(node) {
-                Kind::C if other.degree(node) > 2 => {
-                    children().zip(children().skip(1)).all(|(a, b)| self.join_items(a.ends().chain(b.ends())))
-                }
-                _ => node == ROOT || self.join_items(children().flat_map(Run::ends)),
+                Kind::C => children().zip(children().skip(1)).all(|(a, b)| self.join_items(a.ends().chain(b.ends()))),
+                Kind::P => node == ROOT || self.join_items(children().flat_map(Run::ends)),
             };
             if !possible {
                 return false;
@@ -52,7 +49,6 @@ impl Tree {
             }
         }
         cuts.iter().rev().for_each(|cut| self.restore(cut));
-        self.name_threes();
         true
     }
 
@@ -110,15 +106,5 @@ impl Tree {
             }
             (place, item) = (item, next);
         }
-    }
-
-    /// Makes every node with three neighbours a P-node.
-    fn name_threes(&mut self) {
-        let inner = &mut self.inner;
-        marks::each(&self.used, |s| {
-            if inner[s].degree == 2 {
-                inner[s].kind = Kind::P;
-            }
-        });
     }
 }

@@ -1,4 +1,4 @@
-//! All texts of the shape of a tree text.
+//! All texts of the shape of a tree text, and how each is written again.
 
 /// Returns all lists of one or more items that print these bins in this sequence, as texts.
 fn lists(bins: &[u16]) -> Vec<String> {
@@ -40,4 +40,25 @@ pub fn shapes(n: u16) -> Vec<String> {
     let bins: Vec<u16> = (2..=n).collect();
     let texts = |sequence: &Vec<u16>| items(sequence).into_iter().map(|item| format!("1 {item}"));
     sequences(&bins).iter().flat_map(texts).collect()
+}
+
+/// Returns whether the node at the start of a text has just two items.
+fn has_two_items(text: &str) -> bool {
+    let (mut depth, mut spaces) = (0, 0);
+    for byte in text.bytes() {
+        match byte {
+            b'(' => depth += 1,
+            b')' if depth == 1 => break,
+            b')' => depth -= 1,
+            b' ' => spaces += usize::from(depth == 1),
+            _ => (),
+        }
+    }
+    spaces == 1
+}
+
+/// Returns a tree text with each C-node that has three neighbours as a P-node.
+pub fn threes_named(text: &str) -> String {
+    let letter = |(place, letter)| if letter == 'C' && has_two_items(&text[place..]) { 'P' } else { letter };
+    text.char_indices().map(letter).collect()
 }

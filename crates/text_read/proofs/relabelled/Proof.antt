@@ -1,9 +1,9 @@
 use mathlib.Core.Path.{sym, _∙_}
 use Rattle.tree_tokens.specs.Tokens.{plain}
-use Rattle.tree_intersection.proofs.Relabelling.{token-stays, token-wide, token-narrow, c-token}
+use Rattle.text_read.proofs.Relabelling.{token-stays, token-wide, token-narrow, c-token}
 use borrow.Author.Needs.{needs}
-use Rattle.tree_intersection.proofs.relabelled.Statement.{statement}
-use Rattle.tree_intersection.proofs.relabelled.Tie as tie
+use Rattle.text_read.proofs.relabelled.Statement.{statement}
+use Rattle.text_read.proofs.relabelled.Tie as tie
 
 returns : tie.Need-returns
 returns c = λ t e. rw e (token-stays t (rw e at (c .before .before .before .before .pre .1)) (λ h. c .if1 .taken (c .before .shape .ensures (plain t) e ∙ sym h)))

@@ -6,8 +6,8 @@ use native.Mathlib.Omega.{arith}
 use borrow.Author.Tests.{eq-eqb, ne-eqb}
 use lib.ListN.{length, getD, set, length-append}
 use Rattle.spec_orders.specs.Tree.{P, C, Forest, nil, leaf, node, items, append}
-use Rattle.spec_intersection.specs.ThreeNeighbours.{kind-for, relabel}
-use Rattle.spec_intersection.proofs.Relabel.{relabel-append}
+use Rattle.spec_orders.specs.ThreeNeighbours.{kind-for, relabel}
+use Rattle.spec_orders.proofs.Relabel.{relabel-append}
 use Rattle.tree_tokens.specs.Tokens.{E, Judged, j-nil, j-leaf, j-node, tree, plain, node-token, encode, Wrote, flat}
 use Rattle.tree_tokens.specs.Views.{shape-of, items-of, rest-of}
 use Rattle.tree_tokens.proofs.Sequences.{encode-append, plain-append, tree-plain}

@@ -1,4 +1,4 @@
--- Each C-node with two items becomes a P-node: the same leaves and the same orders, in the same form, and every C-node has three items or more.
+-- Each C-node with two items becomes a P-node: the same leaves and the same orders; a tree of the shape, with its items sorted, is then in form.
 use mathlib.Core.Path.{_∙_, _≡_, ap, ap₂, refl, subst, subst₂, sym}
 use mathlib.Core.Logic.{_↔_, _⊎_, inl, inr}
 use mathlib.Core.Bool.{Bool, cond, false, true}
@@ -8,22 +8,22 @@ use native.Mathlib.Omega.{arith}
 use borrow.Author.Tests.{eqb-true, eqb-false}
 use lib.Dec.{eqb}
 use lib.ListN.{length, length-map}
 use Rattle.spec_orders.specs.Lists.{Rearranged}
 use Rattle.spec_orders.specs.Tree.{Kind, P, C, Forest, nil, leaf, node, Item, leaf-item, node-item, items, append, rev, frontier, Turn, Consistent, no-items, leaf-first, node-first, Allowed}
-use Rattle.spec_orders.specs.Form.{first, first-of, Rises, Rising, Sorted, TwoItems, Canonical, Single, InForm}
+use Rattle.spec_orders.specs.Form.{first, first-of, Rises, Rising, Sorted, Every, Enough, Canonical, Single, InForm}
+use Rattle.spec_orders.specs.TreeText.{TwoItems, Shaped}
+use Rattle.spec_orders.specs.ThreeNeighbours.{kind-for, relabel}
 use Rattle.spec_orders.specs.Reduce.{put}
 use Rattle.spec_orders.proofs.Tests.{cond-cases}
 use Rattle.spec_orders.proofs.Rearranged.{two-picks}
 use Rattle.spec_orders.proofs.Members.{perm-map, perm-unmap}
-use Rattle.spec_orders.proofs.Laws.{turn-perm}
-use Rattle.spec_orders.proofs.Parts.{forest, forest-items}
-use Rattle.spec_intersection.specs.ThreeNeighbours.{ThreeItems, Wide, kind-for, relabel}
-use Rattle.spec_intersection.proofs.Pieces.{items-rev, items-forest}
+use Rattle.spec_orders.proofs.Laws.{items-rev, turn-perm, every-map, Fork, Forked, Node-canonical, enough-two}
+use Rattle.spec_orders.proofs.Parts.{forest, forest-items, items-forest}
 
 -- A C-node that stays one has three items or more.
-kind-wide : (k : Kind) (i j : Forest) → TwoItems (items i) → length (items j) ≡ length (items i) → ThreeItems (kind-for k (items i)) j
-kind-wide P i j n e = tt
-kind-wide C i j n e = cond-cases (eqb (length (items i)) 2) P C (λ k. ThreeItems k j) (λ q. tt) (λ q. let m : (length (items i) ≡ 2) → ⊥ = eqb-false (length (items i)) 2 q in omega arith)
+kind-enough : (k : Kind) (i j : Forest) → TwoItems (items i) → length (items j) ≡ length (items i) → Enough (kind-for k (items i)) j
+kind-enough P i j n e = omega arith
+kind-enough C i j n e = cond-cases (eqb (length (items i)) 2) P C (λ k. Enough k j) (λ q. omega arith) (λ q. let m : (length (items i) ≡ 2) → ⊥ = eqb-false (length (items i)) 2 q in omega arith)
 
 -- Item by item.
 abbrev re : Item → Item
@@ -187,22 +187,41 @@ sorted-relabel C i h =
     (λ q. rw (items-relabel i) (rising-re (items i) (two-rising i (eqb-true (length (items i)) 2 q) h)))
     (λ q. rw (first-relabel i, ← (relabel-rev i), first-relabel (rev i)) h)
 
-pub relabel-wide : (t : Forest) → Canonical t → Wide (relabel t)
-relabel-wide nil c = tt
-relabel-wide (leaf b f) c = relabel-wide f c
-relabel-wide (node k i f) c = ((kind-wide k i (relabel i) (c .0 .0 .0) (same-many i), relabel-wide i (c .0 .1)), relabel-wide f (c .1))
-
-relabel-canonical : (f : Forest) → Canonical f → Canonical (relabel f)
-relabel-canonical nil c = tt
-relabel-canonical (leaf b f) c = relabel-canonical f c
-relabel-canonical (node k i f) c =
-    let n : TwoItems (items (relabel i)) = omega (arith, c .0 .0 .0, same-many i) in
-    (((n, sorted-relabel k i (c .0 .0 .1)), relabel-canonical i (c .0 .1)), relabel-canonical f (c .1))
+relabel-canonical : (f : Forest) → Forked f → Every Sorted f → Canonical (relabel f)
+relabel-canonical nil g h = tt
+relabel-canonical (leaf b f) g h = relabel-canonical f g h
+relabel-canonical (node k i f) g h =
+    (((kind-enough k i (relabel i) (g .0 .0) (same-many i), sorted-relabel k i (h .0 .0)), relabel-canonical i (g .0 .1) (h .0 .1)), relabel-canonical f (g .1) (h .1))
 
 relabel-single : (f : Forest) → Single (items f) → Single (items (relabel f))
 relabel-single nil h = tt
 relabel-single (leaf b nil) h = tt
 relabel-single (node k i nil) h = tt
 
-pub relabel-form : (n : ℕ) (t : Forest) → InForm n t → InForm n (relabel t)
-relabel-form n t f = record { single = relabel-single t (f .single); canonical = relabel-canonical t (f .canonical); all-leaves = rw (relabel-frontier t) (f .all-leaves) }
+-- The tree of an accepted text, relabelled, is in form.
+pub relabel-form : (n : ℕ) (t : Forest) → Shaped n t → Every Sorted t → InForm n (relabel t)
+relabel-form n t f h = record { single = relabel-single t (f .single); canonical = relabel-canonical t (f .forked) h; all-leaves = rw (relabel-frontier t) (f .all-leaves) }
+
+-- What has no C-node with three neighbours stays as it is, and nothing else does. Trees in form have none.
+pub relabel-same : (t : Forest) → Every Enough t → relabel t ≡ t
+relabel-same nil w = refl
+relabel-same (leaf b f) w = ap (leaf b) (relabel-same f w)
+relabel-same (node k i f) w = ap₂ (λ h g. node h g (relabel f)) (same-kind k i (w .0 .0)) (relabel-same i (w .0 .1)) ∙ ap (node k i) (relabel-same f (w .1))
+  where
+    same-kind : (k : Kind) (i : Forest) → Enough k i → kind-for k (items i) ≡ k
+    same-kind P i h = refl
+    same-kind C i h = cond-cases (eqb (length (items i)) 2) P C (λ k. k ≡ C) (λ q. let m = eqb-true (length (items i)) 2 q in absurd (omega arith)) (λ q. refl)
+
+relabel-enough : (t : Forest) → Forked t → Every Enough (relabel t)
+relabel-enough nil g = tt
+relabel-enough (leaf b f) g = relabel-enough f g
+relabel-enough (node k i f) g = ((kind-enough k i (relabel i) (g .0 .0) (same-many i), relabel-enough i (g .0 .1)), relabel-enough f (g .1))
+
+pub relabel-stays : (t : Forest) → Forked t → (relabel t ≡ t) ↔ Every Enough t
+relabel-stays t g = ((λ e. subst (Every Enough) e (relabel-enough t g)), relabel-same t)
+
+pub enough-forked : (t : Forest) → Every Enough t → Forked t
+enough-forked = every-map Enough Fork enough-two
+
+pub form-enough : {n : ℕ} {t : Forest} → InForm n t → Every Enough t
+form-enough {t = t} f = every-map Node-canonical Enough (λ k i q. q .0) t (f .canonical)

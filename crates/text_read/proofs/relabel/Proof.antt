@@ -4,9 +4,9 @@ use native.Mathlib.Omega.{arith}
 use lib.ListN.{length, length-set}
 use Rattle.tree_tokens.specs.Tokens.{plain}
 use Rattle.tree_tokens.proofs.Steps.{Left, from-start, part-left, at-last, next-token}
-use Rattle.tree_intersection.proofs.Relabelling.{Relabelled, relabelled-start, relabelled-more, relabelled-end}
-use Rattle.tree_intersection.proofs.relabel.Statement.{statement}
-use Rattle.tree_intersection.proofs.relabel.Tie as tie
+use Rattle.text_read.proofs.Relabelling.{Relabelled, relabelled-start, relabelled-more, relabelled-end}
+use Rattle.text_read.proofs.relabel.Statement.{statement}
+use Rattle.text_read.proofs.relabel.Tie as tie
 
 abbrev Inv-loop : tie.InvT-loop
 Inv-loop toks out₀ i₀ out i = (i ≤ length toks) × (length out ≡ length out₀) × Left toks i (Relabelled out₀ out i)
