@@ -14,10 +14,9 @@ use Rattle.spec_orders.specs.Lists.{All, same}
 use Rattle.spec_orders.specs.CircularOrder.{others}
 use Rattle.spec_orders.specs.Tree.{Kind, P, C, Forest, nil, leaf, node, items, frontier, append}
 use Rattle.spec_orders.specs.Form.{Every, nodes, InForm, in-form?}
-use Rattle.spec_orders.specs.TreeText.{tree-text}
+use Rattle.spec_orders.specs.TreeText.{tree-text, Forked}
 use Rattle.spec_orders.specs.Join.{leaf-items}
 use Rattle.spec_orders.proofs.ListLaws.{all-left, all-right, all-map}
-use Rattle.spec_orders.proofs.Laws.{Forked}
 use Rattle.spec_orders.proofs.Forms.{form-forked, nodes-bound, form-one, form-two, form-more}
 use Rattle.spec_orders.proofs.TextTree.{text-injective, leaves-most, form-length}
 use Rattle.spec_orders.proofs.FormTests.{same-decides, form-decides}

@@ -115,7 +115,8 @@ pub record SecondDemand : Type 0 where
   -- "An accepted text written again is the same text": its length is answered, and the 2,048 bytes are the text and zeros. Document 02, No. 5: "now
   -- given for texts with no such node", none of whose C-nodes has three neighbours (`ThreeNeighbours`: what is written of the others).
   pub read-written : (nodes : Nodes) (book : Book) (text rows′ : List ℕ) (book′ : Book) (said : Reply) → ReadPromise nodes book text rows′ book′ said
-      → said .number ≡ 0 → (t : Forest) → AcceptedAs (leaves nodes) text t → Every Enough t → (records : ℕ) (bytes bytes′ : List ℕ) (wrote : Reply) → 256 ≤ records → 2048 ≤ length bytes
+      → said .number ≡ 0 → (t : Forest) → AcceptedAs (leaves nodes) text t → Every Enough t
+      → (records : ℕ) (bytes bytes′ : List ℕ) (wrote : Reply) → 256 ≤ records → 2048 ≤ length bytes
       → WritePromise (same-ring nodes records rows′) bytes bytes′ wrote
       → (wrote ≡ reply 0 (length text)) × (take 2048 bytes′ ≡ padded 2048 text)
 
@@ -159,9 +160,9 @@ pub record AskedBoth (nodes other third : Nodes) (t u : Forest) : Type 0 where
   pub all-records : 256 ≤ third .records
   pub all-rows : 65792 ≤ length (third .rows)
 
--- The rows hold "the tree that allows exactly the orders allowed by both" (`BothTrees`). "A node with three neighbours in the result is a P-node", as in
--- every tree that a table holds (`ThreeNeighbours`). Who then calls for its standard order, with these rows in 256 records or more, has the first of those
--- orders in the n places.
+-- The rows hold "the tree that allows exactly the orders allowed by both" (`BothTrees`). "A node with three neighbours in the result is a P-node",
+-- as in every tree that a table holds (`ThreeNeighbours`). Who then calls for its standard order, with these rows in 256 records or more, has the
+-- first of those orders in the n places.
 pub record OneRing (nodes : Nodes) (t u : Forest) (third′ : List ℕ) (said : Reply) : Type 0 where
   pub done : said ≡ reply 0 0
   pub tree : BothTrees (leaves nodes) t u third′
@@ -274,8 +275,8 @@ pub record Meets3 (nodes : Nodes) : Type 0 where
       → 256 ≤ third .records → 65792 ≤ length (third .rows) → IntersectPromise other nodes third third′ said → said ≡ reply 3 0
 
 pub record ThreeNeighbours : Type 0 where
-  -- "From now on a C-node has at least four neighbours": in every tree that a table holds. (In the lister's:
-  -- spec_listing/proofs/EmptyLines, `state-form`.)
+  -- "From now on a C-node has at least four neighbours": in every tree that a table holds. (In the lister's: spec_listing/proofs/EmptyLines,
+  -- `state-form`.)
   pub four : (n : ℕ) (rows : List ℕ) (t : Forest) → Holds n rows t → Every Enough t
   -- A text is accepted by its own letters, whether or not it names such a node.
   pub accepting : (nodes : Nodes) (book : Book) (text : List ℕ) (t : Forest) → open-refusal nodes book ≡ none → AcceptedAs (leaves nodes) text t

@@ -17,7 +17,7 @@ use Rattle.spec_orders.proofs.Rearranged.{perm-trans, perm-sym, perm-distinct}
 use Rattle.spec_orders.proofs.Members.{in-left, in-append, all-in, in-all, perm-in, distinct-left, distinct-right, apart, elem-in, in-elem}
 use Rattle.spec_orders.proofs.Contiguous.{Contiguous}
 use Rattle.spec_orders.proofs.CircleAndLine.{consecutive-side}
-use Rattle.spec_orders.proofs.Laws.{Forked}
+use Rattle.spec_orders.specs.TreeText.{Forked}
 use Rattle.spec_orders.proofs.Forms.{not-one, form-distinct, form-forked}
 use Rattle.spec_orders.proofs.Relabel.{form-enough}
 use Rattle.spec_orders.proofs.TextTree.{form-length}

@@ -12,7 +12,8 @@ use Rattle.spec_orders.specs.Reduce.{put, one}
 use Rattle.spec_orders.proofs.ListLaws.{all-left, all-right}
 use Rattle.spec_orders.proofs.Rearranged.{perm-refl, perm-sym, perm-all, perm-distinct, nil-perm, short-perm}
 use Rattle.spec_orders.proofs.Members.{in-right, all-in, in-all, perm-in, distinct-left, distinct-right, apart}
-use Rattle.spec_orders.proofs.Laws.{leaves-of, flat, frontier-flat, consistent-perm, items-rev, Forked}
+use Rattle.spec_orders.proofs.Laws.{leaves-of, flat, frontier-flat, consistent-perm, items-rev}
+use Rattle.spec_orders.specs.TreeText.{Forked}
 use Rattle.spec_orders.proofs.Parts.{consistent-put, node-in, forest, forest-items, items-forest}
 use Rattle.spec_orders.proofs.Relabel.{enough-forked}
 use Rattle.spec_intersection.specs.Intersection.{item-pairs, p-items, node-groups, characteristic}

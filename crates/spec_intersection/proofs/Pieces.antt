@@ -7,10 +7,10 @@ use native.Mathlib.Omega.{arith}
 use Rattle.spec_orders.specs.Lists.{All, Distinct, In}
 use Rattle.spec_orders.specs.Tree.{Kind, Forest, nil, leaf, node, Item, leaf-item, node-item, items, append, frontier, Consistent, Allowed}
 use Rattle.spec_orders.specs.Form.{Every, Canonical}
-use Rattle.spec_orders.specs.TreeText.{TwoItems}
+use Rattle.spec_orders.specs.TreeText.{TwoItems, Forked}
 use Rattle.spec_orders.specs.Reduce.{put, one}
 use Rattle.spec_orders.proofs.Members.{NonEmpty, in-left, in-right, in-all, perm-in, distinct-right, apart}
-use Rattle.spec_orders.proofs.Laws.{forest-assoc, turn-perm, leaves-of, flat, Every-of, Forked, Canonical-of, enough-two, canonical-forked, consistent-split}
+use Rattle.spec_orders.proofs.Laws.{forest-assoc, turn-perm, leaves-of, flat, Every-of, Canonical-of, enough-two, canonical-forked, consistent-split}
 use Rattle.spec_orders.proofs.First.{two-nonempty}
 use Rattle.spec_orders.proofs.Parts.{put-one, items-put, consistent-unput, node-out, forked-nonempty}
 use Rattle.spec_intersection.proofs.Lists.{overlap}

@@ -8,12 +8,12 @@ use lib.ListN.{length}
 use Rattle.spec_orders.specs.Lists.{All, here, there, Rearranged, done, next, NotAfter}
 use Rattle.spec_orders.specs.Tree.{Kind, P, C, Forest, nil, leaf, node, Item, leaf-item, node-item, items, rev, frontier, Turn, Consistent, no-items, leaf-first, node-first}
 use Rattle.spec_orders.specs.Form.{first, first-of, Rises, Rising, Canonical}
-use Rattle.spec_orders.specs.TreeText.{TwoItems}
+use Rattle.spec_orders.specs.TreeText.{TwoItems, Forked}
 use Rattle.spec_orders.proofs.ListLaws.{all-map}
 use Rattle.spec_orders.proofs.Rearranged.{pick-all, perm-length}
 use Rattle.spec_orders.proofs.Members.{NonEmpty, perm-nonempty}
 use Rattle.spec_orders.proofs.NotAfter.{not-after-refl, not-after-trans, not-after-append, not-after-prefix}
-use Rattle.spec_orders.proofs.Laws.{rev-perm, turn-perm, turn-refl, leaves-of, flat, frontier-flat, perm-frontier, consistent-perm, Every-of, every-all, every-perm, Fork, Forked, Node-canonical, enough-two, canonical-forked, canonical-perm}
+use Rattle.spec_orders.proofs.Laws.{rev-perm, turn-perm, turn-refl, leaves-of, flat, frontier-flat, perm-frontier, consistent-perm, Every-of, every-all, every-perm, Fork, Node-canonical, enough-two, canonical-forked, canonical-perm}
 
 pub frontier-allowed : (f : Forest) → Consistent f (frontier f)
 frontier-allowed nil = no-items

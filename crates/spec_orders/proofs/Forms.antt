@@ -11,7 +11,8 @@ use Rattle.spec_orders.specs.Form.{Canonical, Single, InForm, nodes}
 use Rattle.spec_orders.proofs.Rearranged.{perm-length, perm-distinct, short-perm}
 use Rattle.spec_orders.proofs.Members.{in-all}
 use Rattle.spec_orders.proofs.Numbers.{numbers-length, in-range, numbers-distinct}
-use Rattle.spec_orders.proofs.Laws.{Forked, canonical-forked}
+use Rattle.spec_orders.proofs.Laws.{canonical-forked}
+use Rattle.spec_orders.specs.TreeText.{Forked}
 
 -- Leaf 1 is none of the others, they differ, and they are from 2 to n.
 pub not-one : (n y : ℕ) → In y (others n) → 1 < y

@@ -7,7 +7,7 @@ use native.Mathlib.Omega.{arith}
 use Rattle.spec_orders.specs.Lists.{All, Pick, here, there, Rearranged, done, next}
 use Rattle.spec_orders.specs.Tree.{Kind, P, C, Forest, nil, leaf, node, Item, leaf-item, node-item, items, append, rev, frontier, Turn, Consistent, no-items, leaf-first, node-first}
 use Rattle.spec_orders.specs.Form.{Sorted, Every, Enough, Canonical}
-use Rattle.spec_orders.specs.TreeText.{TwoItems}
+use Rattle.spec_orders.specs.TreeText.{TwoItems, Forked}
 use Rattle.spec_orders.proofs.ListLaws.{all-append}
 use Rattle.spec_orders.proofs.Rearranged.{perm-refl, perm-trans, perm-all, perm-left, perm-append, perm-swap}
 
@@ -121,12 +121,9 @@ every-map Q R h nil c = tt
 every-map Q R h (leaf b f) c = every-map Q R h f c
 every-map Q R h (node k i f) c = ((h k i (c .0 .0), every-map Q R h i (c .0 .1)), every-map Q R h f (c .1))
 
--- Two or more items in every node, however they stand.
+-- What `Forked` and `Canonical` ask of each node.
 abbrev pub Fork : Kind → Forest → Type 0
 Fork k i = TwoItems (items i)
-
-abbrev pub Forked : Forest → Type 0
-Forked f = Every Fork f
 
 abbrev pub Node-canonical : Kind → Forest → Type 0
 Node-canonical k i = Enough k i × Sorted k i

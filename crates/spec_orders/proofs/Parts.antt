@@ -7,7 +7,8 @@ use Rattle.spec_orders.specs.Tree.{Kind, Forest, nil, leaf, node, Item, 
 use Rattle.spec_orders.specs.Form.{Single}
 use Rattle.spec_orders.specs.Reduce.{put, one}
 use Rattle.spec_orders.proofs.Members.{NonEmpty, nonempty-left}
-use Rattle.spec_orders.proofs.Laws.{leaves-of, consistent-perm, Forked, consistent-append, Split, consistent-split}
+use Rattle.spec_orders.proofs.Laws.{leaves-of, consistent-perm, consistent-append, Split, consistent-split}
+use Rattle.spec_orders.specs.TreeText.{Forked}
 use Rattle.spec_orders.proofs.First.{two-nonempty}
 
 pub put-one : (t : Item) (f : Forest) → append (one t) f ≡ put t f

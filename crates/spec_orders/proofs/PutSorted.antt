@@ -10,12 +10,12 @@ use lib.Dec.{ltb}
 use Rattle.spec_orders.specs.Lists.{All, Distinct, Rearranged, next}
 use Rattle.spec_orders.specs.Tree.{Kind, P, C, Forest, nil, leaf, node, Item, leaf-item, node-item, items, append, rev, frontier, Turn, Consistent, node-first}
 use Rattle.spec_orders.specs.Form.{first, first-of}
-use Rattle.spec_orders.specs.TreeText.{TwoItems}
+use Rattle.spec_orders.specs.TreeText.{TwoItems, Forked}
 use Rattle.spec_orders.specs.Reduce.{one, put-sorted, orient}
 use Rattle.spec_orders.proofs.ListLaws.{all-left, all-right}
 use Rattle.spec_orders.proofs.Rearranged.{perm-refl, perm-trans, perm-sym, perm-all, pick-middle}
 use Rattle.spec_orders.proofs.Members.{NonEmpty, perm-nonempty}
-use Rattle.spec_orders.proofs.Laws.{forest-nil, rev-rev, items-append, rev-perm, leaves-of, flat, frontier-flat, Forked}
+use Rattle.spec_orders.proofs.Laws.{forest-nil, rev-rev, items-append, rev-perm, leaves-of, flat, frontier-flat}
 use Rattle.spec_orders.proofs.First.{Starts, all-start}
 use Rattle.spec_orders.proofs.Parts.{put-one, items-put}
 use Rattle.spec_orders.proofs.Tests.{cond-cases}

@@ -13,11 +13,11 @@ use Rattle.spec_orders.specs.Lists.{All, Distinct}
 use Rattle.spec_orders.specs.CircularOrder.{Restriction, Inside, Outside}
 use Rattle.spec_orders.specs.Tree.{Kind, P, C, Forest, nil, leaf, node, Item, leaf-item, node-item, items, append, rev, frontier}
 use Rattle.spec_orders.specs.Form.{first, first-of, Rises, Rising, Sorted, Every, fewest, Enough, Canonical, Single}
-use Rattle.spec_orders.specs.TreeText.{TwoItems}
+use Rattle.spec_orders.specs.TreeText.{TwoItems, Forked}
 use Rattle.spec_orders.specs.Reduce.{put, one, put-sorted, orient, pack, Class, empty, full, partial, class, is, Part, whole, only, every, _⊕_, reversed, or-else, c-node, up, down, middle, linear-partial, gather, among, linear-node, reduced-node, settled, node-part, parts, reduce}
 use Rattle.spec_orders.proofs.Rearranged.{perm-all, perm-length, perm-distinct}
 use Rattle.spec_orders.proofs.Members.{distinct-left, distinct-right, perm-reverse}
-use Rattle.spec_orders.proofs.Laws.{items-append, rev-perm, leaves-of, flat, frontier-flat, Every-of, every-all, all-every, every-perm, every-append, every-map, Forked, Node-canonical, enough-two, canonical-forked}
+use Rattle.spec_orders.proofs.Laws.{items-append, rev-perm, leaves-of, flat, frontier-flat, Every-of, every-all, all-every, every-perm, every-append, every-map, Node-canonical, enough-two, canonical-forked}
 use Rattle.spec_orders.proofs.First.{two-nonempty, Starts, all-start}
 use Rattle.spec_orders.proofs.Parts.{items-put, forked-nonempty}
 use Rattle.spec_orders.proofs.PutSorted.{put-sorted-perm, orient-perm, Climbs, Climbing, climbing-put-sorted, orient-ends, head-differs, ends-differ}

@@ -11,13 +11,13 @@ use lib.ListN.{length, length-map}
 use Rattle.spec_orders.specs.Lists.{Rearranged}
 use Rattle.spec_orders.specs.Tree.{Kind, P, C, Forest, nil, leaf, node, Item, leaf-item, node-item, items, append, rev, frontier, Turn, Consistent, no-items, leaf-first, node-first, Allowed}
 use Rattle.spec_orders.specs.Form.{first, first-of, Rises, Rising, Sorted, Every, Enough, Canonical, Single, InForm}
-use Rattle.spec_orders.specs.TreeText.{TwoItems, Shaped}
+use Rattle.spec_orders.specs.TreeText.{TwoItems, Shaped, Forked}
 use Rattle.spec_orders.specs.ThreeNeighbours.{kind-for, relabel}
 use Rattle.spec_orders.specs.Reduce.{put}
 use Rattle.spec_orders.proofs.Tests.{cond-cases}
 use Rattle.spec_orders.proofs.Rearranged.{two-picks}
 use Rattle.spec_orders.proofs.Members.{perm-map, perm-unmap}
-use Rattle.spec_orders.proofs.Laws.{items-rev, turn-perm, every-map, Fork, Forked, Node-canonical, enough-two}
+use Rattle.spec_orders.proofs.Laws.{items-rev, turn-perm, every-map, Fork, Node-canonical, enough-two}
 use Rattle.spec_orders.proofs.Parts.{forest, forest-items, items-forest}
 
 -- A C-node that stays one has three items or more.

@@ -39,8 +39,8 @@ Every Q nil = Unit {0}
 Every Q (leaf b f) = Every Q f
 Every Q (node k i f) = (Q k i × Every Q i) × Every Q f
 
--- How many items a node has at least. "Each inner node has at least three neighbours", its items and the one on the way to leaf 1; document 02, No. 5:
--- "from now on a C-node has at least four neighbours".
+-- How many items a node has at least. "Each inner node has at least three neighbours", its items and the one on the way to leaf 1; document 02,
+-- No. 5: "from now on a C-node has at least four neighbours".
 abbrev pub fewest : Kind → ℕ
 fewest P = 2
 fewest C = 3

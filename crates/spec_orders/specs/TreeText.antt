@@ -45,9 +45,12 @@ tree-text t = 49 ∷ more t
 abbrev pub TwoItems : List Item → Type 0
 TwoItems ts = 2 ≤ length ts
 
+abbrev pub Forked : Forest → Type 0
+Forked t = Every (λ k i. TwoItems (items i)) t
+
 pub record Shaped (n : ℕ) (t : Forest) : Type 0 where
   pub single : Single (items t)
-  pub forked : Every (λ k i. TwoItems (items i)) t
+  pub forked : Forked t
   pub all-leaves : Rearranged (others n) (frontier t)
 
 pub record ShapeText (n : ℕ) (x : List ℕ) : Type 0 where

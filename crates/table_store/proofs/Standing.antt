@@ -7,7 +7,7 @@ use lib.ListN.{length, drop, replicate, take-append-drop}
 use lib.Seq.{drop-drop}
 use Rattle.spec_orders.specs.Tree.{Forest, nil, leaf, node}
 use Rattle.spec_orders.specs.Form.{nodes}
-use Rattle.spec_orders.proofs.Laws.{Forked}
+use Rattle.spec_orders.specs.TreeText.{Forked}
 use Rattle.spec_orders.proofs.Forms.{form-forked}
 use Rattle.spec_calls.specs.NodeTable.{kind-number, entries, rows, Holds}
 use Rattle.spec_calls.proofs.NodeTables.{Narrow, entries-length, rows-length, form-narrow, form-few, table-rows}

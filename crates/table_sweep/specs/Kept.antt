@@ -26,8 +26,8 @@ use Rattle.table_sweep.specs.declared.Row.the-variants as row
 use Rattle.table_reading.specs.Reading.{Known, Within, New, known, at-record, ItemsRead, Behind}
 
 -- In what follows: S the restriction; work the 265 numbers; x the record of the next root, g the roots from there on, ls the leaves read, the last
--- one first; c an item's first leaf, m how many records it takes, s the number of its state; d the first leaf of a node's last item, q where its items
--- take the automaton.
+-- one first; c an item's first leaf, m how many records it takes, s the number of its state; d the first leaf of a node's last item, q where its
+-- items take the automaton.
 
 -- The number of a root: its first leaf, how many records it takes, its state.
 unfoldable pub packed : ℕ → ℕ → ℕ → ℕ

@@ -6,10 +6,10 @@ use native.Mathlib.Omega.{arith}
 use lib.ListN.{length, take, drop, length-take, length-drop, take-append-drop}
 use Rattle.spec_orders.specs.Lists.{Rearranged, done, next, here}
 use Rattle.spec_orders.specs.Tree.{P, Forest, leaf, items, frontier}
-use Rattle.spec_orders.specs.TreeText.{text}
+use Rattle.spec_orders.specs.TreeText.{text, Forked}
 use Rattle.spec_orders.specs.Join.{leaf-items}
 use Rattle.spec_orders.proofs.Rearranged.{perm-refl, pick-length}
-use Rattle.spec_orders.proofs.Laws.{Forked, canonical-forked}
+use Rattle.spec_orders.proofs.Laws.{canonical-forked}
 use Rattle.spec_orders.proofs.Fresh.{frontier-leaves, leaves-canonical}
 use Rattle.text_scanner.specs.Scan.{TextState, lit, pre, open-due, due, num, after, need}
 use Rattle.text_scanner.proofs.Words.{Begin, begun-true}

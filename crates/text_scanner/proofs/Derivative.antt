@@ -11,10 +11,9 @@ use lib.Dec.{leb, eqb}
 use lib.ListN.{length}
 use Rattle.spec_orders.specs.Lists.{All, Rearranged, next, Pick}
 use Rattle.spec_orders.specs.Tree.{Kind, P, C, Forest, nil, leaf, node, items, frontier}
-use Rattle.spec_orders.specs.TreeText.{digits, letter, text, more}
+use Rattle.spec_orders.specs.TreeText.{digits, letter, text, more, Forked}
 use Rattle.spec_orders.proofs.Rearranged.{perm-trans, perm-length, pick-length}
 use Rattle.spec_orders.proofs.Members.{NonEmpty}
-use Rattle.spec_orders.proofs.Laws.{Forked}
 use Rattle.spec_orders.proofs.Digits.{Digit, digits-all, digits-nonempty}
 use Rattle.spec_orders.proofs.Tests.{cond-cases, and-both, or-either, or-neither}
 use Rattle.text_scanner.specs.Scan.{TextState, lit, pre, open-due, due, num, after, need, closes, begun, seek, letter?, sep?, text-step, step-after, step-leaf}

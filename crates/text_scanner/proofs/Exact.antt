@@ -10,12 +10,11 @@ use Rattle.spec_orders.specs.Lists.{Rearranged, done}
 use Rattle.spec_orders.specs.CircularOrder.{others}
 use Rattle.spec_orders.specs.Tree.{Forest, nil, leaf, node, items, frontier}
 use Rattle.spec_orders.specs.Form.{Single}
-use Rattle.spec_orders.specs.TreeText.{digits-in, digits, letter, text, more, tree-text, Shaped, ShapeText, ShapeRefused}
+use Rattle.spec_orders.specs.TreeText.{digits-in, digits, letter, text, more, tree-text, Shaped, ShapeText, ShapeRefused, Forked}
 use Rattle.spec_orders.specs.FirstByte.{at-byte, at-end}
 use Rattle.spec_orders.specs.Join.{fresh}
 use Rattle.spec_orders.proofs.Rearranged.{perm-length, perm-refl, short-perm}
 use Rattle.spec_orders.proofs.Numbers.{numbers-length}
-use Rattle.spec_orders.proofs.Laws.{Forked}
 use Rattle.spec_orders.proofs.Forms.{nodes-bound}
 use Rattle.spec_orders.proofs.Tests.{cond-cases}
 use Rattle.spec_orders.proofs.Members.{nil-not}

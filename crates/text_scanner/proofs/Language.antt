@@ -7,9 +7,8 @@ use native.Mathlib.Omega.{arith}
 use lib.ListN.{length, length-append}
 use Rattle.spec_orders.specs.Lists.{Rearranged, Pick}
 use Rattle.spec_orders.specs.Tree.{Kind, Forest, nil, leaf, node, items, frontier}
-use Rattle.spec_orders.specs.TreeText.{digits, letter, text, more}
+use Rattle.spec_orders.specs.TreeText.{digits, letter, text, more, Forked}
 use Rattle.spec_orders.proofs.Rearranged.{perm-length}
-use Rattle.spec_orders.proofs.Laws.{Forked}
 use Rattle.spec_orders.proofs.Forms.{nodes-bound}
 use Rattle.text_scanner.specs.Scan.{TextState, lit, pre, open-due, due, num, after, need, closes, begun}
 

@@ -8,10 +8,9 @@ use lib.ListN.{length}
 use Rattle.spec_orders.specs.Lists.{Distinct, In}
 use Rattle.spec_orders.specs.Tree.{Kind, P, C, Forest, nil, leaf, node, items, rev, frontier}
 use Rattle.spec_orders.specs.Form.{first, Rises, Rising, Sorted, Every}
-use Rattle.spec_orders.specs.TreeText.{TwoItems, digits, text, tree-text, Shaped, Breaks, leaf-falls, node-falls, wrong-way, inside, after-leaf, after-node, AcceptedAs}
+use Rattle.spec_orders.specs.TreeText.{TwoItems, digits, text, tree-text, Shaped, Breaks, leaf-falls, node-falls, wrong-way, inside, after-leaf, after-node, AcceptedAs, Forked}
 use Rattle.spec_orders.proofs.Rearranged.{perm-distinct}
 use Rattle.spec_orders.proofs.Members.{in-left, all-in, apart, distinct-left, distinct-right}
-use Rattle.spec_orders.proofs.Laws.{Forked}
 use Rattle.spec_orders.proofs.PutSorted.{ends-differ}
 use Rattle.spec_orders.proofs.Forms.{others-distinct}
 

@@ -8,9 +8,8 @@ use lib.ListN.{length, length-append}
 use Rattle.spec_orders.specs.Lists.{some-of}
 use Rattle.spec_orders.specs.CircularOrder.{Restriction}
 use Rattle.spec_orders.specs.Tree.{Kind, Forest, nil, leaf, node, items, frontier}
-use Rattle.spec_orders.specs.TreeText.{TwoItems}
+use Rattle.spec_orders.specs.TreeText.{TwoItems, Forked}
 use Rattle.spec_orders.specs.Reduce.{complement, class, class-by}
-use Rattle.spec_orders.proofs.Laws.{Forked}
 use Rattle.tree_tokens.specs.Tokens.{State, E, F, tree, encode, flat}
 use Rattle.tree_judge.specs.Judge.{all-empty, all-full, linear?, reduced?, partial-state, leaf-state, node-state, states, judge}
 use Rattle.tree_judge.proofs.Words.{each}

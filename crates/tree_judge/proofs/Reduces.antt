@@ -7,7 +7,7 @@ use Prim.Native.Nat.{ℕ}
 use Rattle.spec_orders.specs.CircularOrder.{Restriction}
 use Rattle.spec_orders.specs.Tree.{Kind, P, C, Forest, nil, leaf, node, leaf-item, append, rev, frontier}
 use Rattle.spec_orders.specs.Reduce.{empty, full, partial, class, class-by, Part, one, whole, only, every, pack, put-sorted, _⊕_, reversed, c-node, down, middle, gather, among, linear-node, reduced-node, settled, node-part, parts, reduced-first, reduce}
-use Rattle.spec_orders.proofs.Laws.{Forked}
+use Rattle.spec_orders.specs.TreeText.{Forked}
 use Rattle.tree_tokens.specs.Tokens.{State, E, F, L, R, X, tree}
 use Rattle.tree_tokens.specs.Views.{state-of}
 use Rattle.tree_judge.specs.Judge.{can-line, can-reduce, all-empty, all-full, falls, peaks, gathers, linear?, reduced?, partial-state, leaf-state, node-state, states, judge}

@@ -9,8 +9,8 @@ use lib.ListN.{length, take}
 use Rattle.spec_orders.specs.Lists.{All, Distinct}
 use Rattle.spec_orders.specs.CircularOrder.{Restriction}
 use Rattle.spec_orders.specs.Tree.{Forest, items, frontier}
-use Rattle.spec_orders.specs.Form.{Every, Canonical, Single}
-use Rattle.spec_orders.specs.TreeText.{TwoItems}
+use Rattle.spec_orders.specs.Form.{Canonical, Single}
+use Rattle.spec_orders.specs.TreeText.{Forked}
 use Rattle.spec_orders.specs.Reduce.{pack, put-sorted, reduce}
 use Rattle.tree_tokens.specs.Tokens.{Judged, tree, encode, Wrote, flat}
 use Rattle.tree_spans.specs.Spans.{is, beyond}
@@ -35,7 +35,7 @@ NotLone x = (j : Judged) → x ≡ encode j → lone-of (totals (beyond (is 0) j
 
 -- Every node has two items or more.
 abbrev pub Forks : Judged → Type 0
-Forks j = Every (λ k i. TwoItems (items i)) (tree j)
+Forks j = Forked (tree j)
 
 -- A P-node's partial and full items as one item, among its empty items.
 abbrev pub placed-again : Judged → Forest

@@ -102,6 +102,12 @@ impl Fields<'_> {
     }
 }
 
+/// Checks that a table that a call fills is as it was: past `size` if the call is done, and throughout if it is refused.
+fn check_kept<T: PartialEq>(answer: Answer, table: &[T], size: usize, old: T) {
+    let from = if answer.is_ok() { size } else { 0 };
+    assert!(table[from..].iter().all(|entry| *entry == old), "entries changed that are to stay");
+}
+
 /// The fields of an answer without tables.
 fn told(answer: Answer) -> String {
     match answer {
@@ -133,8 +139,7 @@ fn intersection(fields: &mut Fields) -> String {
     let ((n, nodes), (m, other)) = (fields.lent_tree(), fields.lent_tree());
     let mut third = vec![OLD; fields.number()];
     let answer = intersect(n, &nodes, m, &other, &mut third);
-    let kept = if answer.is_ok() { RECORDS } else { 0 };
-    assert!(third[kept..].iter().all(|record| *record == OLD), "records changed that are to stay");
+    check_kept(answer, &third, RECORDS, OLD);
     match answer {
         Ok(_) => format!("{} {}", told(answer), text(n, &third)),
         Err(_) => told(answer),
@@ -175,8 +180,7 @@ fn conflicting(fields: &mut Fields) -> String {
     let ((count, book), list) = (fields.book(words), fields.list());
     let mut conflicts = vec![OLD_PLACE; places];
     let answer = conflict(n, &book, count, &list, &mut conflicts);
-    let kept = if answer.is_ok() { GROUPS } else { 0 };
-    assert!(conflicts[kept..].iter().all(|place| *place == OLD_PLACE), "places changed that are to stay");
+    check_kept(answer, &conflicts, GROUPS, OLD_PLACE);
     let Ok(size) = answer else { return told(answer) };
     assert!(conflicts[size..GROUPS].iter().all(|place| *place == 0), "a place past the list is not zero");
     format!("{} {size}{}", told(answer), spaced(&conflicts[..size]))
@@ -187,14 +191,13 @@ fn reading(fields: &mut Fields) -> String {
     let [n, _rack, records, words, _days] = std::array::from_fn(|_| fields.number());
     let (mut nodes, mut book) = (vec![OLD; records], vec![OLD_WORD; words]);
     let answer = read(n, &mut nodes, &mut book, &fields.bytes());
-    let (records, words) = if answer.is_ok() { (RECORDS, WORDS) } else { (0, 0) };
-    assert!(nodes[records..].iter().all(|record| *record == OLD), "records changed that are to stay");
-    assert!(book[words..].iter().all(|word| *word == OLD_WORD), "words changed that are to stay");
-    assert!(book[..words].iter().all(|word| *word == 0), "the book is not empty");
-    match answer {
-        Ok(_) => format!("{} {}", told(answer), text(n, &nodes)),
-        Err(_) => told(answer),
+    check_kept(answer, &nodes, RECORDS, OLD);
+    check_kept(answer, &book, WORDS, OLD_WORD);
+    if answer.is_err() {
+        return told(answer);
     }
+    assert!(book[..WORDS].iter().all(|word| *word == 0), "the book is not empty");
+    format!("{} {}", told(answer), text(n, &nodes))
 }
 
 /// What this planner answers to the writing of a text.
@@ -203,8 +206,7 @@ fn writing(fields: &mut Fields) -> String {
     let nodes = fields.tree(n, records);
     let mut bytes = vec![OLD_BYTE; size];
     let answer = write(n, &nodes, &mut bytes);
-    let kept = if answer.is_ok() { BYTES } else { 0 };
-    assert!(bytes[kept..].iter().all(|byte| *byte == OLD_BYTE), "bytes changed that are to stay");
+    check_kept(answer, &bytes, BYTES, OLD_BYTE);
     let Ok(length) = answer else { return told(answer) };
     assert!(bytes[length..BYTES].iter().all(|byte| *byte == 0), "a byte past the text is not zero");
     format!("{} {}", told(answer), hexadecimal(&bytes[..length]))
@@ -216,12 +218,11 @@ fn ordering(fields: &mut Fields) -> String {
     let nodes = fields.tree(n, records);
     let mut places = vec![OLD_PLACE; places];
     let answer = order(n, &nodes, &mut places);
-    let kept = if answer.is_ok() { n } else { 0 };
-    assert!(places[kept..].iter().all(|place| *place == OLD_PLACE), "places changed that are to stay");
-    match answer {
-        Ok(_) => format!("{} {n}{}", told(answer), spaced(&places[..n])),
-        Err(_) => told(answer),
+    check_kept(answer, &places, n, OLD_PLACE);
+    if answer.is_err() {
+        return told(answer);
     }
+    format!("{} {n}{}", told(answer), spaced(&places[..n]))
 }
 
 /// What this planner answers to a call; none to one with another letter.
