@@ -1,10 +1,12 @@
-"""The table of calls: each call on a ring, on two trees or on a ring file, once; and the table of refusals. tools/outer.py writes the outer layers
-from them."""
+"""The table of calls: each call on a ring or a rack, on two trees or on a ring file, once; and the table of refusals. tools/outer.py writes the outer
+layers from them."""
 from typing import NamedTuple
 
-# What a call is lent: a number, by its type; or a table, by the type of its entries.
-NUMBERS = {
+# What a call is lent: a value, by its type, a number or an enum; or a table, by the type of its entries.
+VALUES = {
+    "layout": "Layout",
     "n": "usize",
+    "layout2": "Layout",
     "m": "usize",
     "count": "usize",
     "group": "usize",
@@ -30,16 +32,16 @@ TABLES = {
 }
 
 # A promise is over what is lent, in sequence, then each written table as it is left, then what is returned. A node table stands there as one
-# record with this number of bins before it, a book with these after it, 0 for one that the call is not lent.
-OF_NODES = {"nodes": "n", "other": "m", "third": "n"}
+# record with these before it, a ring or a rack and its number of bins, a book with these after it, 0 for one that the call is not lent.
+OF_NODES = {"nodes": ["layout", "n"], "other": ["layout2", "m"], "third": ["layout", "n"]}
 OF_BOOK = ["count"]
 
 # What the number of a node table's records is called, which is lent beside its rows.
 RECORDS = {"nodes": "have", "other": "had", "third": "room"}
 
-# The crates of the calls on rings, c_NAME and record_NAME: what their calls do.
+# The crates of the calls on rings and racks, c_NAME and record_NAME: what their calls do.
 CRATES = {
-    "update": "The calls that open a ring, join a group and try one",
+    "update": "The calls that open a ring or a rack, join a group and try one",
     "order": "The calls that write the standard order and find the aim of a group",
     "conflict": "The call that lists the groups in conflict",
     "text": "The calls that write and read the tree text",
@@ -47,8 +49,24 @@ CRATES = {
 }
 
 
+class Enum(NamedTuple):
+    """An enum of which a call is lent a value. For C and Rust the value is a number."""
+
+    crate: str  # that declares it
+    type: str  # of the number
+    numbered: str  # the function of spec_calls that gives a number's value
+
+    @property
+    def definition(self):
+        """What that value is, of spec_calls/specs/Tables."""
+        return self.numbered.replace("_", "-")
+
+
+ENUMS = {"Layout": Enum("spec_orders", "u8", "layout_numbered")}
+
+
 class Call(NamedTuple):
-    """A call on a ring, or on two trees."""
+    """A call on a ring or a rack, or on two trees."""
 
     name: str
     crate: str  # of CRATES
@@ -94,8 +112,9 @@ REFUSALS = [
     Refusal(10, "NotConsecutive", "the book's group is not consecutive in the standard order"),
     Refusal(11, "RingFile", "the ring file is malformed", BYTE),
     Refusal(12, "TreeText", "the tree text is malformed", BYTE),
-    Refusal(13, "BinCounts", "the two counts of bins differ"),
+    Refusal(13, "BinCounts", "the two counts of bins differ, or one is of a ring and one of a rack"),
     Refusal(14, "NoAim", "the book's group is empty, so it has no aim"),
+    Refusal(15, "RackSize", "a rack has 256 bins"),
 ]
 
 RING = [
@@ -104,27 +123,27 @@ RING = [
         crate="update",
         rows="call_update",
         promise="OpenPromise",
-        lent="n nodes! book!",
-        does="Opens a ring of n leaves: its node table gets the fresh tree, and its book is emptied.",
+        lent="layout n nodes! book!",
+        does="Opens a ring or a rack of n bins: its node table gets the fresh tree, and its book is emptied.",
         value="the count of groups, 0",
-        refuses="1, 2",
+        refuses="1, 15, 2",
     ),
     Call(
         name="join",
         crate="update",
         rows="call_update",
         promise="JoinPromise",
-        lent="n nodes! book! count list",
+        lent="layout n nodes! book! count list",
         does="Joins the list's group, which may be empty: the node table gets the new tree, and the group takes the book's next place.",
         value="the new count of groups",
-        refuses="1 to 3, 5 to 8",
+        refuses="1, 15, 2, 3, 5 to 8",
     ),
     Call(
         name="trial",
         crate="update",
         rows="call_update",
         promise="TrialPromise",
-        lent="n nodes book count list",
+        lent="layout n nodes book count list",
         does="Answers as joining the list's group would, and changes nothing.",
         by_hand="record_trial",
     ),
@@ -133,63 +152,64 @@ RING = [
         crate="order",
         rows="call_order",
         promise="OrderPromise",
-        lent="n nodes order!",
-        does="Writes the standard order, from leaf 1, to the first n places of order.",
+        lent="layout n nodes order!",
+        does="Writes the standard order, of a ring from leaf 1, of a rack the first allowed list, to the first n places of order.",
         value="n",
-        refuses="1, 2, 3",
+        refuses="1, 15, 2, 3",
     ),
     Call(
         name="aim",
         crate="order",
         rows="call_order",
         promise="AimPromise",
-        lent="n nodes book count group",
+        lent="layout n nodes book count group",
         does="Finds the aim of the book's group with this number from 1, the middle of its run in the standard order: of two middle places, "
-        "counted from 0, the even one; of the last place and place 0, place 0. An empty group has none.",
+        "counted from 0, the even one; on a ring, of the last place and place 0, place 0. An empty group has none.",
         value="the leaf",
-        refuses="1 to 3, 9, 14, 10",
+        refuses="1, 15, 2, 3, 9, 14, 10",
     ),
     Call(
         name="conflict",
         crate="conflict",
         rows="call_conflict",
         promise="ConflictPromise",
-        lent="n book count list conflicts!",
+        lent="layout n book count list conflicts!",
         does="Writes the numbers of the book's groups in conflict with the list's group, rising, then zeros, to the first 96 places of conflicts: "
         "none where the whole book and the group can be consecutive together.",
         value="how many numbers",
-        refuses="1 to 3, 5, 6",
+        refuses="1, 15, 2, 3, 5, 6",
     ),
     Call(
         name="write",
         crate="text",
         rows="call_text",
         promise="WritePromise",
-        lent="n nodes bytes!",
-        does="Writes the tree text, then zeros, to the first 2,048 bytes.",
+        lent="layout n nodes bytes!",
+        does="Writes the tree text, of a rack that of its ring of n + 1 bins, then zeros, to the first 2,048 bytes.",
         value="the length of the text",
-        refuses="1, 2, 3",
+        refuses="1, 15, 2, 3",
     ),
     Call(
         name="read",
         crate="text",
         rows="call_text",
         promise="ReadPromise",
-        lent="n nodes! book! text",
-        does="Reads a tree text for n leaves, lent without zeros after it: the node table gets its tree, a P-node where the text has a C-node with two "
-        "items, and the book is emptied.",
+        lent="layout n nodes! book! text",
+        does="Reads a tree text for n bins, of a rack for its ring of n + 1, lent without zeros after it: the node table gets its tree, a P-node where "
+        "the text has a C-node with two items, and the book is emptied.",
         value="the count of groups, 0",
-        refuses="1, 2, 12",
+        refuses="1, 15, 2, 12",
     ),
     Call(
         name="intersect",
         crate="intersection",
         rows="call_intersection",
         promise="IntersectPromise",
-        lent="n nodes m other third!",
-        does="Writes the tree that allows exactly the orders allowed by the tree of n leaves and by that of m to the third node table.",
+        lent="layout n nodes layout2 m other third!",
+        does="Writes the tree that allows exactly the orders allowed by the tree of n bins and by that of m to the third node table; a rack is taken as "
+        "its ring of n + 1 bins.",
         value="0",
-        refuses="1, 2, 13, 3, 8",
+        refuses="1, 15, 2, 13, 3, 8",
     ),
 ]
 

@@ -79,7 +79,7 @@ def sequence(s):
     """Calls with several causes at once: the first down the table counts."""
     for full, damage in itertools.product((False, True), (None, "nodes", "book", "both")):
         if damage is None:
-            s.ring(5, E + [whole(5)] * (94 if full else 0))
+            s.grow(5, E + [whole(5)] * (94 if full else 0))
             kept = s.kept()
         count = 96 if full else 2
         s.restore(kept)
@@ -141,16 +141,8 @@ def sizes(s):
     s.text(5, c=0)
 
 
-def lists(s):
-    cases = [
-        (1, [[1], [2], [0], [1, 1], [1, 2], [2, 1]]),
-        (2, [[1], [2], [1, 2], [2, 1], [3], [1, 2, 1], [1, 2, 3], [2, 2], [65535]]),
-        (5, [[2, 2, 9], [9, 2, 2], [2, 9, 2], [2, 0, 2], [0], [6], [5, 5], [0, 0], [6, 6], [3, 3, 0], [3, 0, 3], [65535, 1], [1, 65535],
-             [1, 2, 3, 4, 5, 5], [1, 2, 3, 4, 5, 6], [1, 2, 3, 4, 5, 0], [5, 4, 3, 2, 1, 1], [5, 4, 3, 2, 1], [1, 3, 1], [3, 1, 1, 0]]),
-        (64, [[64], [65], [0], [64, 1, 64], whole(64) + [1], whole(64) + [65]]),
-        (256, [[256], [257], [256, 256], [255, 257], [300, 256], whole(256), whole(256) + [1], whole(256) + [256], whole(256) + [257],
-               whole(256) + [0], whole(256)[::-1] + [256], whole(255) + [255], [65535], [513], [256, 512]]),
-    ]
+def each_alone(s, cases):
+    """Each list, of those for so many bins, tried, judged for conflicts and joined to a fresh ring or rack by itself."""
     for n, groups in cases:
         s.open(n)
         kept = s.kept()
@@ -161,9 +153,22 @@ def lists(s):
                 s.restore(kept)
 
 
+def lists(s):
+    cases = [
+        (1, [[1], [2], [0], [1, 1], [1, 2], [2, 1]]),
+        (2, [[1], [2], [1, 2], [2, 1], [3], [1, 2, 1], [1, 2, 3], [2, 2], [65535]]),
+        (5, [[2, 2, 9], [9, 2, 2], [2, 9, 2], [2, 0, 2], [0], [6], [5, 5], [0, 0], [6, 6], [3, 3, 0], [3, 0, 3], [65535, 1], [1, 65535],
+             [1, 2, 3, 4, 5, 5], [1, 2, 3, 4, 5, 6], [1, 2, 3, 4, 5, 0], [5, 4, 3, 2, 1, 1], [5, 4, 3, 2, 1], [1, 3, 1], [3, 1, 1, 0]]),
+        (64, [[64], [65], [0], [64, 1, 64], whole(64) + [1], whole(64) + [65]]),
+        (256, [[256], [257], [256, 256], [255, 257], [300, 256], whole(256), whole(256) + [1], whole(256) + [256], whole(256) + [257],
+               whole(256) + [0], whole(256)[::-1] + [256], whole(255) + [255], [65535], [513], [256, 512]]),
+    ]
+    each_alone(s, cases)
+
+
 def full_book(s):
-    for n, first in ((5, E), (256, [])):
-        s.ring(n, first)
+    for n, first in ((5, E), (255 if s.rack else 256, [])):
+        s.grow(n, first)
         for k in range(len(first), 94):
             s.words(k, whole(n))
         for count in (94, 95):
@@ -201,7 +206,7 @@ def ask(s, n, count, group, kept, which="JTSAWC"):
 
 
 def damage(s):
-    s.ring(5, E)
+    s.grow(5, E)
     kept = s.kept()
     places = [ROW * r + i for r in range(4) for i in range(8)]
     places += [8, 100, 255, 256, ROW + 256, 2 * ROW + 100, 100 * ROW, 100 * ROW + 1, 254 * ROW + 256, 255 * ROW, 255 * ROW + 1, 65790, 65791, 65792]
@@ -222,11 +227,11 @@ def damage(s):
         ask(s, 5, count, [2, 4], kept, "JTAC")
 
 
-def random_damage(s, r):
+def random_damage(s, r, times):
     """Random trees with one or two entries changed, mostly where the tree stands."""
-    for _ in range(60):
+    for _ in range(times):
         n = 3 + r.below(10)
-        groups = random_groups(r, n, 6)
+        groups = random_groups(s, r, n, 6)
         s.open(n)
         count = 0
         for g in groups:
@@ -243,9 +248,9 @@ def random_damage(s, r):
             s.restore(kept)
 
 
-def other_books(s, r):
+def other_books(s, r, times):
     """Books that nobody joined: groups in any sequence, impossible together, not consecutive in the standard order."""
-    for _ in range(60):
+    for _ in range(times):
         n = r.pick([1, 2, 3, 4, 5, 6, 8, 12])
         s.open(n)
         count = 1 + r.below(7)
@@ -253,7 +258,7 @@ def other_books(s, r):
             s.words(k, r.shuffled(whole(n))[:1 + r.below(n)])
         for k in range(1, count + 1):
             s.aim(n, count, k)
-        for g in random_groups(r, n, 3):
+        for g in random_groups(s, r, n, 3):
             s.conflict(n, count, g)
         s.conflict(n, count, whole(n))
         s.trial(n, count, whole(n))
@@ -265,7 +270,7 @@ def other_books(s, r):
 def large(s):
     # nested groups: 96 nodes in each other; neighbours: one long C-node
     for n, groups in ((256, [list(range(256 - k, 257)) for k in range(1, 97)]), (97, [[k, k + 1] for k in range(1, 97)])):
-        s.ring(n, groups[:95])
+        s.grow(n, groups[:95])
         for g in ([1, n], [1, n // 2], [2, n], [n - 1, n], whole(n)[:50], groups[95]):
             s.trial(n, 95, g)
             s.conflict(n, 95, g)
@@ -296,15 +301,15 @@ def large(s):
     s.text(n)
 
 
-# ---- random rings
+# ---- random rings and racks
 
-def random_groups(r, n, many):
-    """Runs of one circular order, so that many are kept, and some at random."""
+def random_groups(s, r, n, many):
+    """Runs of one order, so that many are kept, and some at random."""
     order = r.shuffled(whole(n))
     groups = []
     for _ in range(many):
         size = 1 + r.below(n)
-        start = r.below(n)
+        start = r.below(n + 1 - size if s.rack else n)
         if r.below(4) == 0:
             groups.append(r.shuffled(whole(n))[:size])
         else:
@@ -312,15 +317,14 @@ def random_groups(r, n, many):
     return groups
 
 
-def random_rings(s, r):
-    ns = [1 + i % 12 for i in range(290)] + [64] * 8 + [256] * 4
-    for n in ns:
+def random_joins(s, r, sizes):
+    for n in sizes:
         a, b = (ROWS, WORDS) if r.below(2) else (65793, 385)
         s.node(65792, r.below(65536))
         s.word(384, r.below(2 ** 31))
         s.open(n, a=a, b=b)
         count = 0
-        for g in random_groups(r, n, 8 if n <= 64 else 12):
+        for g in random_groups(s, r, n, 8 if n <= 64 else 12):
             if r.below(2):
                 s.trial(n, count, g, a=a, b=b)
             answer = s.join(n, count, g, a=a, b=b)
@@ -372,7 +376,7 @@ def empty_lists(s):
         s.text(n)
         for k in range(6):
             s.aim(n, 4, k)
-    s.ring(5, [[]] * 95)
+    s.grow(5, [[]] * 95)
     for g in ([], [2, 4]):
         s.join(5, 95, g)
         for h in ([], [1, 3], [1, 2, 3, 4, 5], [6], [2, 2]):
@@ -388,7 +392,7 @@ def empty_lists(s):
 def empty_marks(s):
     """Books that hold groups without marks, by themselves possible or not; the count may be above their number, or leave out one with marks."""
     for more in ([], [[1, 5]], [[], [2, 3], [1, 5], []]):
-        s.ring(5, [[], [1, 3], [], [3, 5], []])
+        s.grow(5, [[], [1, 3], [], [3, 5], []])
         for k, g in enumerate(more):
             s.words(5 + k, g)
         kept = s.kept()
@@ -413,7 +417,7 @@ def empty_marks(s):
 
 def empty_aims(s):
     """The aim of an empty group with each cause that is checked before it, and in a book with a group that is not consecutive."""
-    s.ring(5, [[1, 3], [], [3, 5]])
+    s.grow(5, [[1, 3], [], [3, 5]])
     kept = s.kept()
     for damage in (None, "nodes", "book", "both"):
         s.restore(kept)
@@ -430,13 +434,13 @@ def empty_aims(s):
         s.aim(5, 4, k)
 
 
-def random_empty(s, r):
-    """Random rings with empty lists among the others; then books that nobody joined, with groups without marks."""
-    for _ in range(24):
+def random_empty(s, r, times):
+    """Random joins with empty lists among the others; then books that nobody joined, with groups without marks."""
+    for _ in range(times):
         n = r.pick([1, 2, 3, 4, 5, 6, 8, 12, 64])
         s.open(n)
         count = 0
-        for g in random_groups(r, n, 6):
+        for g in random_groups(s, r, n, 6):
             g = g if r.below(3) else []
             s.trial(n, count, g)
             s.conflict(n, count, g)
@@ -446,7 +450,7 @@ def random_empty(s, r):
             s.aim(n, count, k)
         for k in range(8):
             s.words(k, r.shuffled(whole(n))[:1 + r.below(n)] if r.below(3) else [])
-        for g in [[]] + random_groups(r, n, 2):
+        for g in [[]] + random_groups(s, r, n, 2):
             s.conflict(n, 8, g)
             s.trial(n, 8, g)
         for k in range(1, 9):
@@ -514,13 +518,13 @@ def threes(s):
     s.text(n)
 
 
-def random_threes(s, r):
+def random_threes(s, r, times):
     """Random trees whose texts name some of the nodes with two items C."""
-    for _ in range(30):
+    for _ in range(times):
         n = 3 + r.below(12)
         s.open(n)
         count = 0
-        for g in random_groups(r, n, 6):
+        for g in random_groups(s, r, n, 6):
             count += s.join(n, count, g)[0] == 0
         text = s.tree_text(n)
         places = two_items(text)
@@ -531,18 +535,165 @@ def random_threes(s, r):
         held_threes(s, n)
 
 
-def main():
-    s = Script()
-    r = Random(20260101)
+# ---- racks
+
+def rack_sequence(s):
+    """Calls on a rack with two causes at once: the first down the table counts."""
+    s.grow(5, E)
+    kept = s.kept()
+    for damage, n, short in itertools.product((None, "nodes", "book"), [5, 256] + BAD_N, [{}] + SHORT):
+        if not pairs(damage, n != 5, short):
+            continue
+        if damage == "nodes":
+            s.node(ROW + 3, 5)
+        if damage == "book":
+            s.word(4, kept[1][4] + 32)  # the hidden end bin
+        for group in ([2, 4], [1, 5], [6], [2, 2]):
+            if pairs(damage, n != 5, short, group != [2, 4]):
+                s.trial(n, 2, group, **short)
+                if s.join(n, 2, group, **short)[0] == 0:
+                    s.restore(kept)
+                if not short or "b" in short:
+                    s.conflict(n, 2, group, **short)
+        for k in (1, 3):
+            s.aim(n, 2, k, **short)
+        if "b" not in short:
+            s.order(n, c=5, **short)
+            s.order(n, c=4, **short)
+            s.text(n, **short)
+        s.restore(kept)
+    for n, short in itertools.product([5, 256] + BAD_N, [{}] + SHORT):
+        for t in (b"1 C(P(2 4 6) 5 3)", b"1 C(P(2 4) 5 3)", b"1 C(P(2 6 4) 5 3)", b""):
+            s.read(n, t, **short)
+        s.open(n, **short)
+
+
+def rack_sizes(s):
+    for n in [1, 2, 3, 4, 5, 62, 63, 64, 65, 127, 128, 191, 192, 254, 255]:
+        s.open(n, a=65793, b=385)
+        s.order(n)
+        s.order(n, c=n - 1)
+        s.order(n, c=257, have=1000, a=65793)
+        for count, g in enumerate(([n], whole(n), whole(n)[:n // 2], whole(n)[1:], whole(n)[:-1])):
+            s.join(n, count, g)
+        s.order(n)
+        s.text(n)
+        for k in range(1, 6):
+            s.aim(n, 5, k)
+    for n in [256, 257, 65535, 65536, LARGEST, 0]:
+        s.open(n)
+        s.trial(n, 0, [1])
+        s.conflict(n, 0, [1])
+        s.aim(n, 0, 1)
+        s.order(n, c=257)
+        s.text(n)
+        s.read(n, b"1")
+
+
+def rack_lists(s):
+    """Lists that name the hidden end bin, and others that are no groups."""
+    cases = [
+        (1, [[], [1], [2], [1, 1], [1, 2]]),
+        (2, [[1, 2], [2, 1], [3], [1, 3], [3, 1]]),
+        (5, [[6], [5, 6], [6, 6], [5, 5, 6], [0, 6], [6, 0], [7], [1, 2, 3, 4, 5, 6], [1, 2, 3, 4, 5]]),
+        (63, [[63], [64], [65], whole(63), whole(64)]),
+        (255, [[255], [256], [257], [255, 256], whole(255), whole(256), [65535]]),
+    ]
+    each_alone(s, cases)
+
+
+def other_layout(s):
+    """The tables of a rack lent as those of rings, and the other way round; a book that names bin n."""
+    for rack, n, groups in ((1, 5, E), (0, 5, E), (0, 6, E + [[1, 6]]), (1, 1, []), (0, 2, [[2]]), (1, 255, [[1, 255]]), (0, 256, [[1, 256]])):
+        s.rack = rack
+        s.grow(n, groups)
+        kept = s.kept()
+        ask(s, n, len(groups), [1], kept)
+        s.rack = 1 - rack
+        for m in (n, n - 1, n + 1):
+            ask(s, m, len(groups), [1], kept)
+    s.rack = 1
+
+
+def past_the_ends(s):
+    """Groups that a ring keeps, and that a rack refuses; aims of all groups of a fresh rack, some of which are runs only past the ends."""
+    for n in (3, 4, 5, 8):
+        s.open(n)
+        for count in range(n):
+            g = [count + 1, count + 2] if count < n - 1 else [n, 1]
+            s.trial(n, count, g)
+            s.conflict(n, count, g)
+            s.join(n, count, g)
+        s.order(n)
+        s.text(n)
+    for n in (1, 2, 3, 4, 5):
+        s.open(n)
+        for marks in range(2 ** n):
+            s.words(0, [b for b in whole(n) if marks >> b - 1 & 1])
+            s.aim(n, 1, 1)
+
+
+def rack_texts(s):
+    """Trees with the hidden end bin anywhere: small ones, texts with C-nodes of two items, and the deepest ones."""
+    cases = [
+        (1, ["1 2", "1"]), (2, ["1 P(2 3)", "1 C(2 3)", "1 C(3 2)"]), (3, ["1 C(2 3 4)", "1 C(2 4 3)", "1 C(3 2 4)", "1 P(P(2 4) 3)", "1 C(4 2 3)"]),
+        (4, ["1 P(2 C(3 5 4))", "1 C(P(2 5) 3 4)", "1 C(3 P(2 5) 4)", "1 C(2 5 3 4)", "1 P(3 C(4 2 5))", "1 P(3 C(5 2 4))"]),
+        (6, ["1 P(3 C(4 7 2 P(5 6)))", "1 C(P(2 7) P(3 5) 6 4)", "1 C(C(3 2 7 5) 6 4)", "1 C(3 C(5 2 7) 6 4)"]),
+        (6, ["1 P(2 P(3 P(4 P(5 P(6 7)))))", "1 P(P(P(P(P(2 3) 4) 5) 6) 7)"]),
+    ]
+    for n, texts in cases:
+        s.open(n)
+        for t in texts:
+            if s.read(n, t.encode())[0] == 0:
+                s.order(n)
+                s.text(n)
+                held_threes(s, n)
+    n = 255
+    deepest = [
+        "1 " + "".join("P(%d " % k for k in range(2, 256)) + "256" + ")" * 254,
+        "1 " + "P(" * 254 + "2" + "".join(" %d)" % k for k in range(3, 257)),
+        "1 " + "".join("C(%d %d " % (k, k + 1) for k in range(2, 256, 2)) + "256" + ")" * 127,
+    ]
+    for t in deepest:
+        s.read(n, t.encode())
+        s.order(n)
+        for g in ([1, 255], [254, 255], [2, 3], list(range(100, 200)), whole(255)):
+            s.trial(n, 0, g)
+        s.join(n, 0, whole(255))
+        s.aim(n, 1, 1)
+        s.join(n, 1, [2, 255])
+        s.order(n)
+        s.text(n)
+
+
+def rings(s, r):
     for part in (circles, sequence, sizes, lists, full_book, damage, large):
         part(s)
-    for part in (random_damage, other_books, random_rings):
-        part(s, r)
+    random_damage(s, r, 60)
+    other_books(s, r, 60)
+    random_joins(s, r, [1 + i % 12 for i in range(290)] + [64] * 8 + [256] * 4)
     for part in (empty_lists, empty_marks, empty_aims):
         part(s)
-    random_empty(s, r)
+    random_empty(s, r, 24)
     threes(s)
-    random_threes(s, r)
+    random_threes(s, r, 30)
+
+
+def racks(s, r):
+    s.rack = 1
+    for part in (circles, rack_sequence, rack_sizes, rack_lists, full_book, other_layout, past_the_ends, rack_texts):
+        part(s)
+    random_damage(s, r, 15)
+    other_books(s, r, 20)
+    random_joins(s, r, [1 + i % 12 for i in range(96)] + [63, 64] * 2 + [255] * 2)
+    random_empty(s, r, 8)
+    random_threes(s, r, 8)
+
+
+def main():
+    s = Script()
+    rings(s, Random(20260101))
+    racks(s, Random(20260102))
     folder = os.path.join(HERE, "crates", "test_calls")
     os.makedirs(os.path.join(folder, "data"), exist_ok=True)
     with open(os.path.join(folder, "data", "script.txt"), "w") as f:

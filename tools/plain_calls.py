@@ -25,6 +25,7 @@ class Script:
         self.seen = collections.Counter()
         self.planner = planner()
         self.cells = {}
+        self.rack = 0  # 1 where the calls are told that they are lent a rack
 
     def tell(self, line):
         self.planner.stdin.write(line + "\n")
@@ -80,7 +81,7 @@ class Script:
     # ---- calls: each returns the numbers that the planner answers
 
     def call(self, letter, *numbers):
-        line = " ".join([letter] + [str(x) for x in numbers])
+        line = " ".join([letter, str(self.rack)] + [str(x) for x in numbers])
         said = self.ask(line)
         answer = tuple(int(x) for x in said.split(" :")[0].split()[1:])
         if letter in "OJR" and answer[0] == 0:
@@ -114,7 +115,7 @@ class Script:
     def read(self, n, text, have=256, a=ROWS, b=WORDS):
         return self.call("R", n, have, a, b, *text)
 
-    def ring(self, n, groups, **lent):
+    def grow(self, n, groups, **lent):
         """Opens, and joins groups that can be kept."""
         assert self.open(n, **lent)[0] == 0
         for i, g in enumerate(groups):
@@ -122,4 +123,4 @@ class Script:
 
     def tree_text(self, n):
         """The bytes of the tree text, which no table is lent for."""
-        return [int(x) for x in self.ask("= %d" % n).split()]
+        return [int(x) for x in self.ask("= %d %d" % (self.rack, n)).split()]

@@ -1,11 +1,14 @@
-//! Times the proved planner's calls and those of the independent planner `plain`, on the same rings and tables, in one run.
+//! Times the proved planner's calls and those of the independent planner `plain`, on the same rings and tables, in one run; then the proved planner's
+//! calls on a rack of n leaves and on a ring of n + 1 with the same groups, which has the same tree.
 //!
 //! Both sides make whole calls on lent tables, and each checks what it is lent. A call's time is its median over the rounds; in a round each
 //! side makes the same calls, one side after the other.
 use std::hint::black_box;
 use std::time::Instant;
+use tokuwhape::Layout::{self, Rack, Ring};
 
 const SIZES: [usize; 3] = [8, 64, 256];
+const RACK_SIZES: [usize; 3] = [8, 64, 255];
 /// Rounds over the growth of a book, of the other calls, and of the longest call.
 const ROUNDS: usize = 41;
 const CALLS: usize = 201;
@@ -17,7 +20,7 @@ const GROUPS: usize = 96;
 const SEED: u32 = 2_463_534_242;
 const OTHER_SEED: u32 = 362_436_069;
 
-/// A planner with the tables of one ring, and two node tables more: the other tree of an intersection, and the table that it fills.
+/// A planner with the tables of one ring or rack, and two node tables more: the other tree of an intersection, and the table that it fills.
 trait Planner {
     fn open(&mut self);
     fn join(&mut self, list: &[u16]);
@@ -27,9 +30,9 @@ trait Planner {
     fn aim(&mut self);
     fn read(&mut self, text: &[u8]);
     fn conflict(&mut self, list: &[u16]) -> usize;
-    /// Whether the ring's tree and the other one have an intersection.
+    /// Whether the tree and the other one have an intersection.
     fn intersect(&mut self) -> bool;
-    /// Makes the ring's tree the other one, and opens the ring again.
+    /// Makes the tree the other one, and opens the ring or rack again.
     fn set_other(&mut self);
     fn scan(&mut self, file: &[u8]) -> usize;
     /// The ring file's last name.
@@ -38,13 +41,14 @@ trait Planner {
     fn group(&mut self, file: &[u8], head: usize);
     /// Puts the list's group into the book's next place, whatever the tree.
     fn book(&mut self, list: &[u16]);
-    /// The ring's tree text.
+    /// The tree text.
     fn text(&mut self) -> Vec<u8>;
 }
 
 macro_rules! planner {
     ($name:ident, $planner:ident, $group_of:path) => {
         struct $name {
+            layout: $planner::Layout,
             n: usize,
             nodes: Vec<$planner::Node>,
             other: Vec<$planner::Node>,
@@ -57,44 +61,44 @@ macro_rules! planner {
         }
 
         impl $name {
-            /// A ring of n leaves, opened, in tables of its own.
-            fn fresh(n: usize) -> $name {
+            /// A ring or a rack of n leaves, opened, in tables of its own.
+            fn fresh(layout: $planner::Layout, n: usize) -> Box<dyn Planner> {
                 let nodes = vec![$planner::Node { kind: 0, count: 0, items: [0; 255] }; 256];
                 let (other, third, book) = (nodes.clone(), nodes.clone(), vec![0; 4 * GROUPS]);
                 let (order, conflicts, bytes) = (vec![0; n], vec![0; GROUPS], vec![0; 2048]);
-                let mut ring = $name { n, nodes, other, third, book, count: 0, order, conflicts, bytes };
-                ring.open();
-                ring
+                let mut fresh = $name { layout, n, nodes, other, third, book, count: 0, order, conflicts, bytes };
+                fresh.open();
+                Box::new(fresh)
             }
         }
 
         impl Planner for $name {
             fn open(&mut self) {
-                self.count = $planner::open(self.n, &mut self.nodes, &mut self.book).expect("opened");
+                self.count = $planner::open(self.layout, self.n, &mut self.nodes, &mut self.book).expect("opened");
             }
             fn join(&mut self, list: &[u16]) {
-                self.count = $planner::join(self.n, &mut self.nodes, &mut self.book, self.count, list).expect("kept");
+                self.count = $planner::join(self.layout, self.n, &mut self.nodes, &mut self.book, self.count, list).expect("kept");
             }
             fn trial(&mut self, list: &[u16]) {
-                black_box($planner::trial(self.n, &self.nodes, &self.book, self.count, list).expect("kept"));
+                black_box($planner::trial(self.layout, self.n, &self.nodes, &self.book, self.count, list).expect("kept"));
             }
             fn order(&mut self) {
-                black_box($planner::order(self.n, &self.nodes, &mut self.order).expect("in form"));
+                black_box($planner::order(self.layout, self.n, &self.nodes, &mut self.order).expect("in form"));
             }
             fn aim(&mut self) {
-                black_box($planner::aim(self.n, &self.nodes, &self.book, self.count, self.count).expect("in form"));
+                black_box($planner::aim(self.layout, self.n, &self.nodes, &self.book, self.count, self.count).expect("in form"));
             }
             fn write(&mut self) {
-                black_box($planner::write(self.n, &self.nodes, &mut self.bytes).expect("in form"));
+                black_box($planner::write(self.layout, self.n, &self.nodes, &mut self.bytes).expect("in form"));
             }
             fn read(&mut self, text: &[u8]) {
-                self.count = $planner::read(self.n, &mut self.nodes, &mut self.book, text).expect("a text");
+                self.count = $planner::read(self.layout, self.n, &mut self.nodes, &mut self.book, text).expect("a text");
             }
             fn conflict(&mut self, list: &[u16]) -> usize {
-                $planner::conflict(self.n, &self.book, self.count, list, &mut self.conflicts).expect("in form")
+                $planner::conflict(self.layout, self.n, &self.book, self.count, list, &mut self.conflicts).expect("in form")
             }
             fn intersect(&mut self) -> bool {
-                $planner::intersect(self.n, &self.nodes, self.n, &self.other, &mut self.third).is_ok()
+                $planner::intersect(self.layout, self.n, &self.nodes, self.layout, self.n, &self.other, &mut self.third).is_ok()
             }
             fn set_other(&mut self) {
                 self.other.copy_from_slice(&self.nodes);
@@ -114,7 +118,7 @@ macro_rules! planner {
                 self.count += 1;
             }
             fn text(&mut self) -> Vec<u8> {
-                let length = $planner::write(self.n, &self.nodes, &mut self.bytes).expect("in form");
+                let length = $planner::write(self.layout, self.n, &self.nodes, &mut self.bytes).expect("in form");
                 self.bytes[..length].to_vec()
             }
         }
@@ -147,8 +151,8 @@ fn draw(state: &mut u32, k: usize) -> usize {
     *state as usize % k
 }
 
-/// So many groups that are runs of one random circular order, of 1 to n - 1 leaves each.
-fn runs(seed: u32, n: usize, many: usize) -> Vec<Vec<u16>> {
+/// So many groups that are runs of one random order: of a circular one, of 1 to n - 1 leaves each; of a straight one, up to its end at the most.
+fn runs(layout: Layout, seed: u32, n: usize, many: usize) -> Vec<Vec<u16>> {
     let mut state = seed;
     let mut order: Vec<u16> = (1..=n as u16).collect();
     for i in (1..n).rev() {
@@ -156,7 +160,8 @@ fn runs(seed: u32, n: usize, many: usize) -> Vec<Vec<u16>> {
     }
     let mut groups = Vec::new();
     for _ in 0..many {
-        let (start, length) = (draw(&mut state, n), 1 + draw(&mut state, n - 1));
+        let start = draw(&mut state, n);
+        let length = 1 + draw(&mut state, if layout == Ring { n - 1 } else { n - start });
         groups.push((start..start + length).map(|i| order[i % n]).collect());
     }
     groups
@@ -203,17 +208,25 @@ fn median(mut times: Vec<f64>) -> f64 {
     times[times.len() / 2]
 }
 
-/// The proved planner and the plain one, each with the same ring.
+/// Two planners that are timed side by side.
 type Sides = [Box<dyn Planner>; 2];
 
-fn opened(n: usize) -> Sides {
-    [Box::new(Proved::fresh(n)), Box::new(Plain::fresh(n))]
+/// Makes two such planners for groups of n leaves, opened.
+type Opened = fn(usize) -> Sides;
+
+/// The proved planner and the plain one, each with a ring of n leaves.
+fn both_planners(n: usize) -> Sides {
+    [Proved::fresh(Ring, n), Plain::fresh(plain::Layout::Ring, n)]
 }
 
-/// Both with a ring that was changed so.
-fn changed(n: usize, change: impl Fn(&mut dyn Planner)) -> Sides {
-    let mut sides = opened(n);
-    sides.iter_mut().for_each(|ring| change(ring.as_mut()));
+/// The proved planner with a rack of n leaves, and with a ring of n + 1.
+fn rack_and_ring(n: usize) -> Sides {
+    [Proved::fresh(Rack, n), Proved::fresh(Ring, n + 1)]
+}
+
+/// Both sides after this change.
+fn changed(mut sides: Sides, change: impl Fn(&mut dyn Planner)) -> Sides {
+    sides.iter_mut().for_each(|side| change(side.as_mut()));
     sides
 }
 
@@ -262,35 +275,34 @@ fn trials(ring: &mut dyn Planner, groups: &[Vec<u16>]) -> Vec<f64> {
 /// A call's name, and the times of both sides.
 type Row = (&'static str, [f64; 2]);
 
-/// The calls on a ring of n leaves.
-fn ring_rows(n: usize) -> Vec<Row> {
-    let mut groups = runs(SEED, n, GROUPS + 1);
-    let last = groups.pop().expect("97 groups");
-    let grown = || changed(n, |ring| groups.iter().for_each(|group| ring.join(group)));
+/// The calls on a book of these groups, all but the last one, of n leaves.
+fn book_rows(opened: Opened, n: usize, groups: &[Vec<u16>]) -> Vec<Row> {
+    let (last, groups) = groups.split_last().expect("97 groups");
+    let grown = || changed(opened(n), joining(groups));
     let text = grown()[0].text();
     vec![
         ("open", short(opened(n), |ring| ring.open())),
-        ("join", both(ROUNDS, opened(n), |ring| joins(ring, &groups))),
-        ("trial", both(ROUNDS, opened(n), |ring| trials(ring, &groups))),
+        ("join", both(ROUNDS, opened(n), |ring| joins(ring, groups))),
+        ("trial", both(ROUNDS, opened(n), |ring| trials(ring, groups))),
         ("order", short(grown(), |ring| ring.order())),
         ("aim", short(grown(), |ring| ring.aim())),
         ("write", short(grown(), |ring| ring.write())),
         ("read", short(grown(), |ring| ring.read(black_box(&text)))),
-        ("conflict, empty list", repeated(CALLS, 1, grown(), |ring| assert_eq!(ring.conflict(black_box(&last)), 0))),
+        ("conflict, empty list", repeated(CALLS, 1, grown(), |ring| assert_eq!(ring.conflict(black_box(last)), 0))),
     ]
 }
 
 /// A conflict call that names every group of a chain of blocks.
-fn chain_conflict(n: usize, sizes: &[usize]) -> [f64; 2] {
+fn chain_conflict(opened: Opened, n: usize, sizes: &[usize]) -> [f64; 2] {
     let (book, ends) = chain(n, sizes);
     let named = book.iter().filter(|group| group.len() < n).count();
-    let booked = changed(n, |ring| book.iter().for_each(|group| ring.book(group)));
+    let booked = changed(opened(n), |ring| book.iter().for_each(|group| ring.book(group)));
     repeated(LONGEST, 1, booked, |ring| assert_eq!(ring.conflict(black_box(&ends)), named))
 }
 
 /// The conflict calls that name the most groups.
-fn conflict_rows(n: usize) -> Vec<Row> {
-    vec![("conflict, longest list", chain_conflict(n, &[1])), ("conflict, list of blocks", chain_conflict(n, &[2, 3]))]
+fn conflict_rows(opened: Opened, n: usize) -> Vec<Row> {
+    vec![("conflict, longest list", chain_conflict(opened, n, &[1])), ("conflict, list of blocks", chain_conflict(opened, n, &[2, 3]))]
 }
 
 /// The text of n leaves with one P-node in another, n - 2 deep, each before its leaf.
@@ -327,9 +339,9 @@ fn reading(text: &[u8]) -> impl Fn(&mut dyn Planner) + '_ {
     |ring| ring.read(text)
 }
 
-/// An intersection of two trees, each made by a change of an opened ring; whether there is one.
-fn intersection(n: usize, one: impl Fn(&mut dyn Planner), other: impl Fn(&mut dyn Planner), possible: bool) -> [f64; 2] {
-    let two = changed(n, |ring| {
+/// An intersection of two trees, each made by a change of these opened ones; whether there is one.
+fn intersection(sides: Sides, one: impl Fn(&mut dyn Planner), other: impl Fn(&mut dyn Planner), possible: bool) -> [f64; 2] {
+    let two = changed(sides, |ring| {
         other(ring);
         ring.set_other();
         one(ring);
@@ -337,25 +349,31 @@ fn intersection(n: usize, one: impl Fn(&mut dyn Planner), other: impl Fn(&mut dy
     repeated(ROUNDS, 1, two, |ring| assert_eq!(black_box(ring.intersect()), possible))
 }
 
-/// The intersections: of trees of 96 groups each, all runs of one circular order; of such trees of two circular orders, which have none; of one C-node
-/// with itself; and of the deepest trees.
-fn intersection_rows(n: usize) -> Vec<Row> {
-    let groups = runs(SEED, n, 2 * GROUPS);
+/// The intersection of two trees of 96 groups each, all runs of one order, and of such trees of two orders, which have none.
+fn intersection_rows(opened: Opened, layout: Layout, n: usize) -> Vec<Row> {
+    let groups = runs(layout, SEED, n, 2 * GROUPS);
     let (one, other) = groups.split_at(GROUPS);
-    let foreign = runs(OTHER_SEED, n, GROUPS);
-    let (before, after, rigid) = (deepest(n), deepest_after(n), rigid(n));
+    let foreign = runs(layout, OTHER_SEED, n, GROUPS);
     vec![
-        ("intersect", intersection(n, joining(one), joining(other), true)),
-        ("intersect, none", intersection(n, joining(one), joining(&foreign), false)),
-        ("intersect, one C-node and itself", intersection(n, reading(&rigid), reading(&rigid), true)),
-        ("intersect, deepest trees", intersection(n, reading(&before), reading(&after), true)),
-        ("intersect, deepest tree and itself", intersection(n, reading(&before), reading(&before), true)),
+        ("intersect", intersection(opened(n), joining(one), joining(other), true)),
+        ("intersect, none", intersection(opened(n), joining(one), joining(&foreign), false)),
+    ]
+}
+
+/// The intersections of one C-node with itself, and of the deepest trees.
+fn text_intersection_rows(n: usize) -> Vec<Row> {
+    let (before, after, rigid) = (deepest(n), deepest_after(n), rigid(n));
+    let of = |one: &[u8], other: &[u8]| intersection(both_planners(n), reading(one), reading(other), true);
+    vec![
+        ("intersect, one C-node and itself", of(&rigid, &rigid)),
+        ("intersect, deepest trees", of(&before, &after)),
+        ("intersect, deepest tree and itself", of(&before, &before)),
     ]
 }
 
 /// One join, each to the tree of a text that is read before it.
 fn read_and_joined(n: usize, text: &[u8], group: &[u16]) -> [f64; 2] {
-    both(CALLS, opened(n), |ring| {
+    both(CALLS, both_planners(n), |ring| {
         ring.read(text);
         vec![timed(|| ring.join(black_box(group)))]
     })
@@ -365,7 +383,7 @@ fn read_and_joined(n: usize, text: &[u8], group: &[u16]) -> [f64; 2] {
 /// and the pair with all nodes between. Of the deepest tree of C-nodes: the last two pairs, and reading it.
 fn deep_rows(n: usize) -> Vec<Row> {
     let (text, of_c_nodes, last) = (deepest(n), deepest_of_c_nodes(n), n as u16);
-    let deep = || changed(n, |ring| ring.read(&text));
+    let deep = || changed(both_planners(n), reading(&text));
     let (inner, next, ends) = ([2, 3], [3, 4], [2, last]);
     vec![
         ("join, deepest tree, inner pair", read_and_joined(n, &text, &inner)),
@@ -382,9 +400,22 @@ fn deep_rows(n: usize) -> Vec<Row> {
     ]
 }
 
+/// The order of the deepest trees of n leaves and a hidden end, which stands at the root or farthest from it, and there the aim of all leaves.
+fn deep_rack_rows(n: usize) -> Vec<Row> {
+    let (near, far) = (deepest(n + 1), deepest_after(n + 1));
+    let whole: Vec<u16> = (1..=n as u16).collect();
+    let read = |text: &[u8]| changed(rack_and_ring(n), reading(text));
+    vec![
+        ("order, deepest tree, hidden end at the root", short(read(&near), |rack| rack.order())),
+        ("order, deepest tree, hidden end farthest", short(read(&far), |rack| rack.order())),
+        ("aim, deepest tree, hidden end farthest", short(changed(read(&far), |rack| rack.join(&whole)), |rack| rack.aim())),
+    ]
+}
+
 /// The calls on a ring file with n names.
 fn file_rows(n: usize) -> Vec<Row> {
-    let groups = &runs(SEED, n, GROUPS);
+    let opened = both_planners;
+    let groups = &runs(Ring, SEED, n, GROUPS);
     let file = ring_file(&(1..=n).map(|leaf| format!("B{leaf}")).collect::<Vec<_>>(), groups);
     let long = ring_file(&(1..=n).map(|leaf| format!("{leaf:08}")).collect::<Vec<_>>(), groups);
     let head = opened(n)[0].scan(&file);
@@ -396,17 +427,48 @@ fn file_rows(n: usize) -> Vec<Row> {
     ]
 }
 
-fn main() {
-    let tables = SIZES.map(|n| [ring_rows(n), conflict_rows(n), intersection_rows(n), deep_rows(n), file_rows(n)].concat());
-    println!("| call | n | proved, ns | plain, ns | ratio |\n|---|---|---|---|---|");
+/// The rows of both planners on rings of n leaves.
+fn ring_rows(n: usize) -> Vec<Row> {
+    [
+        book_rows(both_planners, n, &runs(Ring, SEED, n, GROUPS + 1)),
+        conflict_rows(both_planners, n),
+        intersection_rows(both_planners, Ring, n),
+        text_intersection_rows(n),
+        deep_rows(n),
+        file_rows(n),
+    ]
+    .concat()
+}
+
+/// The rows of a rack of n leaves beside a ring of n + 1.
+fn rack_rows(n: usize) -> Vec<Row> {
+    [
+        book_rows(rack_and_ring, n, &runs(Rack, SEED, n, GROUPS + 1)),
+        conflict_rows(rack_and_ring, n),
+        intersection_rows(rack_and_ring, Rack, n),
+        deep_rack_rows(n),
+    ]
+    .concat()
+}
+
+/// Prints the rows of each size, a call's one after another, with the ratio of the first side to the second.
+fn print(sides: [&str; 2], sizes: [usize; 3], tables: &[Vec<Row>; 3]) {
+    println!("| call | n | {}, ns | {}, ns | ratio |\n|---|---|---|---|---|", sides[0], sides[1]);
     for call in 0..tables[0].len() {
-        for (n, table) in SIZES.iter().zip(&tables) {
-            let (name, [ours, theirs]) = table[call];
-            println!("| {name} | {n} | {ours:.0} | {theirs:.0} | {:.2} |", ours / theirs);
+        for (n, table) in sizes.iter().zip(tables) {
+            let (name, [one, other]) = table[call];
+            println!("| {name} | {n} | {one:.0} | {other:.0} | {:.2} |", one / other);
         }
     }
+}
+
+fn main() {
+    let tables = SIZES.map(ring_rows);
+    print(["proved", "plain"], SIZES, &tables);
     println!("\n| call | proved, 256 over 64 | plain, 256 over 64 |\n|---|---|---|");
     for (small, large) in tables[1].iter().zip(&tables[2]) {
         println!("| {} | {:.2} | {:.2} |", small.0, large.1[0] / small.1[0], large.1[1] / small.1[1]);
     }
+    println!();
+    print(["rack", "ring of n + 1"], RACK_SIZES, &RACK_SIZES.map(rack_rows));
 }

@@ -2,6 +2,7 @@
 //! other runs of that order, and a conflict call on a chain of pairs, all of which its list names. Prints how often each call was made.
 //!
 //!     count n
+use tokuwhape::Layout::Ring;
 use tokuwhape::{aim, conflict, intersect, join, open, order, read, trial, write, Node, GROUPS, RECORDS, TEXT, WORDS};
 
 /// Marsaglia's xorshift32.
@@ -33,9 +34,9 @@ fn run(circle: &[u16], start: usize, many: usize) -> Vec<u16> {
 /// The node table of the tree with these groups, made by the plain planner, so that no call counts for it.
 fn grown(n: usize, groups: &[Vec<u16>]) -> Vec<Node> {
     let (mut nodes, mut book) = (vec![plain::Node::UNUSED; RECORDS], vec![0; WORDS]);
-    plain::open(n, &mut nodes, &mut book).expect("opened");
+    plain::open(plain::Layout::Ring, n, &mut nodes, &mut book).expect("opened");
     for (count, group) in groups.iter().enumerate() {
-        plain::join(n, &mut nodes, &mut book, count, group).expect("kept");
+        plain::join(plain::Layout::Ring, n, &mut nodes, &mut book, count, group).expect("kept");
     }
     nodes.iter().map(|&plain::Node { kind, count, items }| Node { kind, count, items }).collect()
 }
@@ -58,22 +59,22 @@ fn main() {
     let runs: Vec<_> = (0..2 * GROUPS).map(|_| run(&circle, draws.below(n), 1 + draws.below(n - 1))).collect();
     let (groups, others) = runs.split_at(GROUPS);
     let (mut nodes, mut book) = (vec![Node::UNUSED; RECORDS], vec![0; WORDS]);
-    open(n, &mut nodes, &mut book).expect("opened");
+    open(Ring, n, &mut nodes, &mut book).expect("opened");
     for (count, group) in groups.iter().enumerate() {
-        trial(n, &nodes, &book, count, group).expect("possible");
-        join(n, &mut nodes, &mut book, count, group).expect("kept");
+        trial(Ring, n, &nodes, &book, count, group).expect("possible");
+        join(Ring, n, &mut nodes, &mut book, count, group).expect("kept");
     }
-    order(n, &nodes, &mut vec![0; n]).expect("in form");
+    order(Ring, n, &nodes, &mut vec![0; n]).expect("in form");
     for k in 1..=GROUPS {
-        aim(n, &nodes, &book, GROUPS, k).expect("consecutive");
+        aim(Ring, n, &nodes, &book, GROUPS, k).expect("consecutive");
     }
-    intersect(n, &nodes, n, &grown(n, others), &mut vec![Node::UNUSED; RECORDS]).expect("of one order");
+    intersect(Ring, n, &nodes, Ring, n, &grown(n, others), &mut vec![Node::UNUSED; RECORDS]).expect("of one order");
     let mut text = vec![0; TEXT];
-    let length = write(n, &nodes, &mut text).expect("in form");
-    read(n, &mut nodes, &mut book, &text[..length]).expect("a tree text");
+    let length = write(Ring, n, &nodes, &mut text).expect("in form");
+    read(Ring, n, &mut nodes, &mut book, &text[..length]).expect("a tree text");
     let pairs: Vec<_> = (1..n as u16 - 1).take(GROUPS).map(|leaf| vec![leaf, leaf + 1]).collect();
     let last = pairs.len() as u16 + 1;
-    let named = conflict(n, &booked(&pairs), pairs.len(), &[1, last], &mut vec![0; GROUPS]).expect("a list");
+    let named = conflict(Ring, n, &booked(&pairs), pairs.len(), &[1, last], &mut vec![0; GROUPS]).expect("a list");
     assert_eq!(named, pairs.len());
     println!("open 1 join {GROUPS} trial {GROUPS} order 1 aim {GROUPS} intersect 1 write 1 read 1 conflict 1");
 }

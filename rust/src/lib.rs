@@ -1,22 +1,35 @@
-//! Safe calls to the proved planner of a bag ring.
+//! Safe calls to the proved planner of a bag ring or rack.
 //!
-//! The functions of this crate pass lent tables on to the archive that `tools/archive tokuwhape` makes; [`Ring`] owns its tables, and [`RingFile`]
-//! is a file that was read through first. What each call answers, refuses and writes is proved in the Rattle crates `c_update`, `c_order`,
-//! `c_conflict`, `c_text`, `c_intersection` and `c_file`.
+//! The functions of this crate pass lent tables on to the archive that `tools/archive tokuwhape` makes; [`Ring`] and [`Rack`] own their tables, and
+//! [`RingFile`] is a file that was read through first. What each call answers, refuses and writes is proved in the Rattle crates `c_update`,
+//! `c_order`, `c_conflict`, `c_text`, `c_intersection` and `c_file`.
 //!
-//! A ring is its number of leaves n (document 01's bins), a node table, a book of mark words and the count of groups in the book. Longer
-//! tables than the sizes below may be lent: what stands past the stated size is never touched. A refusal leaves every table as it was.
+//! A ring is its number of leaves n (document 01's bins), a node table, a book of mark words and the count of groups in the book. So is a rack, which
+//! has two ends: its [`Layout`] tells a call which of the two it is lent. Longer tables than the sizes below may be lent: what stands past the stated
+//! size is never touched. A refusal leaves every table as it was.
 
+mod bins;
 mod refusal;
-mod ring;
 mod ring_file;
 pub mod symbols;
 
+pub use bins::{Bins, Circular, Orders, Rack, Ring, Straight};
 pub use refusal::Refusal;
-pub use ring::Ring;
 pub use ring_file::RingFile;
+use symbols::*;
 
-/// Leaves of the largest ring.
+/// How the leaves hang. A rack is planned as a ring with one leaf more, the hidden end n + 1, which no list and no book may name: its node table and
+/// its tree text are those of that ring.
+#[repr(u8)]
+#[derive(Clone, Copy, PartialEq, Eq, Debug)]
+pub enum Layout {
+    /// Round a circle: the run of a group may pass the seam before leaf 1.
+    Ring = 0,
+    /// In a line with two ends, which no run passes.
+    Rack = 1,
+}
+
+/// Leaves of the largest ring; the largest rack has one less.
 pub const LEAVES: usize = 256;
 /// Records of a node table.
 pub const RECORDS: usize = 256;
@@ -80,74 +93,84 @@ fn answer(call: impl FnOnce(*mut usize) -> u8) -> Result<usize, Refusal> {
 // Each pointer below is a slice's or a local's, with the slice's size beside it, so it is valid for the call and never null; the borrow
 // checker keeps the mutable ones apart from the others.
 
-/// Opens a ring: writes the fresh tree and an empty book. Returns the count of groups, 0.
-pub fn open(n: usize, nodes: &mut [Node], book: &mut [u64]) -> Result<usize, Refusal> {
-    answer(|value| unsafe { symbols::tokuwhape_open(n, nodes.as_mut_ptr(), numbers(nodes), book.as_mut_ptr(), book.len(), value) })
+/// Opens a ring or a rack: writes the fresh tree and an empty book. Returns the count of groups, 0.
+pub fn open(layout: Layout, n: usize, nodes: &mut [Node], book: &mut [u64]) -> Result<usize, Refusal> {
+    answer(|value| unsafe { tokuwhape_open(layout as u8, n, nodes.as_mut_ptr(), numbers(nodes), book.as_mut_ptr(), book.len(), value) })
 }
 
 /// Joins the list's group, which may be empty: writes the new tree, and the group to the book's next place. Returns the new count of groups.
-pub fn join(n: usize, nodes: &mut [Node], book: &mut [u64], count: usize, list: &[u16]) -> Result<usize, Refusal> {
+pub fn join(layout: Layout, n: usize, nodes: &mut [Node], book: &mut [u64], count: usize, list: &[u16]) -> Result<usize, Refusal> {
     answer(|value| unsafe {
         let (tree, marks) = (nodes.as_mut_ptr(), book.as_mut_ptr());
-        symbols::tokuwhape_join(n, tree, numbers(nodes), marks, book.len(), count, list.as_ptr(), list.len(), value)
+        tokuwhape_join(layout as u8, n, tree, numbers(nodes), marks, book.len(), count, list.as_ptr(), list.len(), value)
     })
 }
 
 /// Returns what joining the list's group would, and writes no table.
-pub fn trial(n: usize, nodes: &[Node], book: &[u64], count: usize, list: &[u16]) -> Result<usize, Refusal> {
+pub fn trial(layout: Layout, n: usize, nodes: &[Node], book: &[u64], count: usize, list: &[u16]) -> Result<usize, Refusal> {
     answer(|value| unsafe {
         let (tree, marks) = (nodes.as_ptr(), book.as_ptr());
-        symbols::tokuwhape_trial(n, tree, numbers(nodes), marks, book.len(), count, list.as_ptr(), list.len(), value)
+        tokuwhape_trial(layout as u8, n, tree, numbers(nodes), marks, book.len(), count, list.as_ptr(), list.len(), value)
     })
 }
 
-/// Writes the standard order, from leaf 1, to the first n places. Returns n.
-pub fn order(n: usize, nodes: &[Node], order: &mut [u16]) -> Result<usize, Refusal> {
-    answer(|value| unsafe { symbols::tokuwhape_order(n, nodes.as_ptr(), numbers(nodes), order.as_mut_ptr(), order.len(), value) })
+/// Writes the standard order, a ring's from leaf 1, to the first n places. Returns n.
+pub fn order(layout: Layout, n: usize, nodes: &[Node], order: &mut [u16]) -> Result<usize, Refusal> {
+    answer(|value| unsafe { tokuwhape_order(layout as u8, n, nodes.as_ptr(), numbers(nodes), order.as_mut_ptr(), order.len(), value) })
 }
 
 /// Returns the aim of the book's group with this number from 1, the leaf in the middle of its run in the standard order: of two middle
-/// places, counted from 0, the even one; of the last place and place 0, place 0. An empty group has none.
-pub fn aim(n: usize, nodes: &[Node], book: &[u64], count: usize, group: usize) -> Result<usize, Refusal> {
-    answer(|value| unsafe { symbols::tokuwhape_aim(n, nodes.as_ptr(), numbers(nodes), book.as_ptr(), book.len(), count, group, value) })
+/// places, counted from 0, the even one; of a ring's last place and place 0, place 0. An empty group has none.
+pub fn aim(layout: Layout, n: usize, nodes: &[Node], book: &[u64], count: usize, group: usize) -> Result<usize, Refusal> {
+    answer(|value| unsafe {
+        tokuwhape_aim(layout as u8, n, nodes.as_ptr(), numbers(nodes), book.as_ptr(), book.len(), count, group, value)
+    })
 }
 
 /// Writes the numbers of the book's groups that are in conflict with the list's group, rising, then zeros, to the first 96 places: none where
 /// the whole book and the group can be consecutive together. Returns how many numbers.
-pub fn conflict(n: usize, book: &[u64], count: usize, list: &[u16], conflicts: &mut [u16]) -> Result<usize, Refusal> {
+pub fn conflict(layout: Layout, n: usize, book: &[u64], count: usize, list: &[u16], conflicts: &mut [u16]) -> Result<usize, Refusal> {
     answer(|value| unsafe {
         let numbers = conflicts.as_mut_ptr();
-        symbols::tokuwhape_conflict(n, book.as_ptr(), book.len(), count, list.as_ptr(), list.len(), numbers, conflicts.len(), value)
+        tokuwhape_conflict(layout as u8, n, book.as_ptr(), book.len(), count, list.as_ptr(), list.len(), numbers, conflicts.len(), value)
     })
 }
 
 /// Writes the tree text, then zeros, to the first 2,048 bytes. Returns the length of the text.
-pub fn write(n: usize, nodes: &[Node], bytes: &mut [u8]) -> Result<usize, Refusal> {
-    answer(|value| unsafe { symbols::tokuwhape_write(n, nodes.as_ptr(), numbers(nodes), bytes.as_mut_ptr(), bytes.len(), value) })
+pub fn write(layout: Layout, n: usize, nodes: &[Node], bytes: &mut [u8]) -> Result<usize, Refusal> {
+    answer(|value| unsafe { tokuwhape_write(layout as u8, n, nodes.as_ptr(), numbers(nodes), bytes.as_mut_ptr(), bytes.len(), value) })
 }
 
-/// Reads a tree text of n leaves: writes its tree, a P-node where the text has a C-node with two items, and an empty book. Returns the count of
-/// groups, 0.
-pub fn read(n: usize, nodes: &mut [Node], book: &mut [u64], text: &[u8]) -> Result<usize, Refusal> {
+/// Reads a tree text, a rack's of n + 1 leaves: writes its tree, a P-node where the text has a C-node with two items, and an empty book. Returns
+/// the count of groups, 0.
+pub fn read(layout: Layout, n: usize, nodes: &mut [Node], book: &mut [u64], text: &[u8]) -> Result<usize, Refusal> {
     answer(|value| unsafe {
         let (tree, marks) = (nodes.as_mut_ptr(), book.as_mut_ptr());
-        symbols::tokuwhape_read(n, tree, numbers(nodes), marks, book.len(), text.as_ptr(), text.len(), value)
+        tokuwhape_read(layout as u8, n, tree, numbers(nodes), marks, book.len(), text.as_ptr(), text.len(), value)
     })
 }
 
-/// Writes the tree that allows exactly the orders allowed by the tree of n leaves and by that of m to the third node table.
+/// Writes the tree that allows exactly the orders allowed by the tree of n leaves and by that of m, of the same layout, to the third node table.
 /// Returns 0.
-pub fn intersect(n: usize, nodes: &[Node], m: usize, other: &[Node], third: &mut [Node]) -> Result<usize, Refusal> {
+pub fn intersect(
+    layout: Layout,
+    n: usize,
+    nodes: &[Node],
+    layout2: Layout,
+    m: usize,
+    other: &[Node],
+    third: &mut [Node],
+) -> Result<usize, Refusal> {
     answer(|value| unsafe {
         let (one, two, both) = (nodes.as_ptr(), other.as_ptr(), third.as_mut_ptr());
-        symbols::tokuwhape_intersect(n, one, numbers(nodes), m, two, numbers(other), both, numbers(third), value)
+        tokuwhape_intersect(layout as u8, n, one, numbers(nodes), layout2 as u8, m, two, numbers(other), both, numbers(third), value)
     })
 }
 
 /// Reads a ring file through. Returns what it holds; a malformed file is refused with its byte, from 0. [`RingFile::read`] does this first.
 pub fn scan(file: &[u8]) -> Result<File, Refusal> {
     let (mut head, mut lines) = (0, 0);
-    let names = answer(|value| unsafe { symbols::tokuwhape_scan(file.as_ptr(), file.len(), &mut head, &mut lines, value) })?;
+    let names = answer(|value| unsafe { tokuwhape_scan(file.as_ptr(), file.len(), &mut head, &mut lines, value) })?;
     Ok(File { names, head, lines })
 }
 
@@ -155,7 +178,7 @@ pub fn scan(file: &[u8]) -> Result<File, Refusal> {
 /// parted at spaces; the empty part at the start of the file where there is no such word.
 pub fn name_of(file: &[u8], k: usize) -> &[u8] {
     let mut start = 0;
-    let length = unsafe { symbols::tokuwhape_name(file.as_ptr(), file.len(), k, &mut start) };
+    let length = unsafe { tokuwhape_name(file.as_ptr(), file.len(), k, &mut start) };
     &file[start..start + length]
 }
 
@@ -164,5 +187,5 @@ pub fn name_of(file: &[u8], k: usize) -> &[u8] {
 /// fewer places than there are names, nothing is written and 0 is returned. (`shape.lines` is not looked at.)
 pub fn group_of(file: &[u8], shape: File, line: usize, list: &mut [u16]) -> usize {
     let File { names, head, .. } = shape;
-    unsafe { symbols::tokuwhape_group(file.as_ptr(), file.len(), names, head, line, list.as_mut_ptr(), list.len()) }
+    unsafe { tokuwhape_group(file.as_ptr(), file.len(), names, head, line, list.as_mut_ptr(), list.len()) }
 }

@@ -26,10 +26,12 @@ pub enum Refusal {
     RingFile(usize),
     /// 12: the tree text is malformed.
     TreeText(usize),
-    /// 13: the two counts of bins differ.
+    /// 13: the two counts of bins differ, or one is of a ring and one of a rack.
     BinCounts,
     /// 14: the book's group is empty, so it has no aim.
     NoAim,
+    /// 15: a rack has 256 bins.
+    RackSize,
 }
 
 impl Refusal {
@@ -50,6 +52,7 @@ impl Refusal {
             12 => Refusal::TreeText(value),
             13 => Refusal::BinCounts,
             14 => Refusal::NoAim,
+            15 => Refusal::RackSize,
             _ => unreachable!("no call of the archive returns {number}"),
         })
     }
@@ -70,6 +73,7 @@ impl Refusal {
             Refusal::TreeText(_) => 12,
             Refusal::BinCounts => 13,
             Refusal::NoAim => 14,
+            Refusal::RackSize => 15,
         }
     }
 
@@ -96,8 +100,9 @@ impl fmt::Display for Refusal {
             Refusal::NotConsecutive => write!(f, "the book's group is not consecutive in the standard order"),
             Refusal::RingFile(at) => write!(f, "the ring file is malformed, at byte {at}"),
             Refusal::TreeText(at) => write!(f, "the tree text is malformed, at byte {at}"),
-            Refusal::BinCounts => write!(f, "the two counts of bins differ"),
+            Refusal::BinCounts => write!(f, "the two counts of bins differ, or one is of a ring and one of a rack"),
             Refusal::NoAim => write!(f, "the book's group is empty, so it has no aim"),
+            Refusal::RackSize => write!(f, "a rack has 256 bins"),
         }
     }
 }

@@ -3,8 +3,9 @@
 use crate::Node;
 
 extern "C" {
-    pub fn tokuwhape_open(n: usize, nodes: *mut Node, numbers: usize, book: *mut u64, words: usize, value: *mut usize) -> u8;
+    pub fn tokuwhape_open(layout: u8, n: usize, nodes: *mut Node, numbers: usize, book: *mut u64, words: usize, value: *mut usize) -> u8;
     pub fn tokuwhape_join(
+        layout: u8,
         n: usize,
         nodes: *mut Node,
         numbers: usize,
@@ -16,6 +17,7 @@ extern "C" {
         value: *mut usize,
     ) -> u8;
     pub fn tokuwhape_trial(
+        layout: u8,
         n: usize,
         nodes: *const Node,
         numbers: usize,
@@ -26,8 +28,17 @@ extern "C" {
         length: usize,
         value: *mut usize,
     ) -> u8;
-    pub fn tokuwhape_order(n: usize, nodes: *const Node, numbers: usize, order: *mut u16, places: usize, value: *mut usize) -> u8;
+    pub fn tokuwhape_order(
+        layout: u8,
+        n: usize,
+        nodes: *const Node,
+        numbers: usize,
+        order: *mut u16,
+        places: usize,
+        value: *mut usize,
+    ) -> u8;
     pub fn tokuwhape_aim(
+        layout: u8,
         n: usize,
         nodes: *const Node,
         numbers: usize,
@@ -38,6 +49,7 @@ extern "C" {
         value: *mut usize,
     ) -> u8;
     pub fn tokuwhape_conflict(
+        layout: u8,
         n: usize,
         book: *const u64,
         words: usize,
@@ -48,8 +60,17 @@ extern "C" {
         places: usize,
         value: *mut usize,
     ) -> u8;
-    pub fn tokuwhape_write(n: usize, nodes: *const Node, numbers: usize, bytes: *mut u8, places: usize, value: *mut usize) -> u8;
+    pub fn tokuwhape_write(
+        layout: u8,
+        n: usize,
+        nodes: *const Node,
+        numbers: usize,
+        bytes: *mut u8,
+        places: usize,
+        value: *mut usize,
+    ) -> u8;
     pub fn tokuwhape_read(
+        layout: u8,
         n: usize,
         nodes: *mut Node,
         numbers: usize,
@@ -60,9 +81,11 @@ extern "C" {
         value: *mut usize,
     ) -> u8;
     pub fn tokuwhape_intersect(
+        layout: u8,
         n: usize,
         nodes: *const Node,
         nodes_numbers: usize,
+        layout2: u8,
         m: usize,
         other: *const Node,
         other_numbers: usize,

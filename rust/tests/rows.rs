@@ -1,16 +1,20 @@
-//! Circle e of document 01: its node table in numbers, lent to the archive's functions with any count of them; its conflicts; ring files; and
-//! rings that own their tables.
+//! Circle e of document 01, and the same groups on a rack: their node tables in numbers, lent to the archive's functions with any count of them;
+//! their conflicts; ring files; and rings and racks that own their tables.
 use tokuwhape::symbols::*;
-use tokuwhape::{File, Node, Refusal, Ring, RingFile};
+use tokuwhape::{Bins, Circular, File, Layout, Node, Orders, Rack, Refusal, Ring, RingFile, Straight};
 
 /// Numbers of a node table.
 const NUMBERS: usize = 256 * 257;
 /// What stands past a table's stated size.
 const OLD: u16 = 52_719;
 
-/// The tables of a ring of five leaves, the node table as its numbers.
+/// Both layouts.
+const LAYOUTS: [Layout; 2] = [Layout::Ring, Layout::Rack];
+
+/// The tables of a ring or a rack of five leaves, the node table as its numbers.
 #[derive(Clone, PartialEq, Debug)]
 struct Rows {
+    layout: Layout,
     numbers: Vec<u16>,
     book: Vec<u64>,
 }
@@ -20,77 +24,104 @@ fn row(node: &Node) -> Vec<u16> {
     [&[node.kind, node.count][..], &node.items].concat()
 }
 
-/// Circle e: five leaves, {1, 3} and {3, 5} joined. Its node table has so many numbers, those past the 256th record old.
-fn circle_e(numbers: usize) -> Rows {
+/// Five leaves, {1, 3} and {3, 5} joined: circle e, or a rack. The node table has so many numbers, those past the 256th record old.
+fn joined(layout: Layout, numbers: usize) -> Rows {
     let (mut nodes, mut book) = (vec![Node { kind: OLD, count: OLD, items: [OLD; 255] }; 256], vec![u64::MAX; 384]);
-    assert_eq!(tokuwhape::open(5, &mut nodes, &mut book), Ok(0));
-    assert_eq!(tokuwhape::join(5, &mut nodes, &mut book, 0, &[1, 3]), Ok(1));
-    assert_eq!(tokuwhape::join(5, &mut nodes, &mut book, 1, &[3, 5]), Ok(2));
-    let mut rows = Rows { numbers: nodes.iter().flat_map(row).collect(), book };
+    assert_eq!(tokuwhape::open(layout, 5, &mut nodes, &mut book), Ok(0));
+    assert_eq!(tokuwhape::join(layout, 5, &mut nodes, &mut book, 0, &[1, 3]), Ok(1));
+    assert_eq!(tokuwhape::join(layout, 5, &mut nodes, &mut book, 1, &[3, 5]), Ok(2));
+    let mut rows = Rows { layout, numbers: nodes.iter().flat_map(row).collect(), book };
     rows.numbers.resize(numbers, OLD);
     rows
 }
 
-/// A call on circle e's tables, which writes its value.
-type OnRows = fn(&mut Rows, *mut usize) -> u8;
+/// A call on these tables, told this number as their layout, which writes its value.
+type OnRows = fn(&mut Rows, u8, *mut usize) -> u8;
 
 /// Each function that is lent a node table.
 const CALLS: [OnRows; 8] = [
-    |t, value| unsafe { tokuwhape_open(5, t.numbers.as_mut_ptr().cast(), t.numbers.len(), t.book.as_mut_ptr(), 384, value) },
-    |t, value| unsafe {
-        let list = [2, 4];
-        tokuwhape_join(5, t.numbers.as_mut_ptr().cast(), t.numbers.len(), t.book.as_mut_ptr(), 384, 2, list.as_ptr(), 2, value)
+    |t, layout, value| unsafe {
+        tokuwhape_open(layout, 5, t.numbers.as_mut_ptr().cast(), t.numbers.len(), t.book.as_mut_ptr(), 384, value)
     },
-    |t, value| unsafe {
+    |t, layout, value| unsafe {
         let list = [2, 4];
-        tokuwhape_trial(5, t.numbers.as_ptr().cast(), t.numbers.len(), t.book.as_ptr(), 384, 2, list.as_ptr(), 2, value)
+        tokuwhape_join(layout, 5, t.numbers.as_mut_ptr().cast(), t.numbers.len(), t.book.as_mut_ptr(), 384, 2, list.as_ptr(), 2, value)
     },
-    |t, value| unsafe { tokuwhape_order(5, t.numbers.as_ptr().cast(), t.numbers.len(), [0; 5].as_mut_ptr(), 5, value) },
-    |t, value| unsafe { tokuwhape_aim(5, t.numbers.as_ptr().cast(), t.numbers.len(), t.book.as_ptr(), 384, 2, 1, value) },
-    |t, value| unsafe { tokuwhape_write(5, t.numbers.as_ptr().cast(), t.numbers.len(), [0; 2048].as_mut_ptr(), 2048, value) },
-    |t, value| unsafe {
+    |t, layout, value| unsafe {
+        let list = [2, 4];
+        tokuwhape_trial(layout, 5, t.numbers.as_ptr().cast(), t.numbers.len(), t.book.as_ptr(), 384, 2, list.as_ptr(), 2, value)
+    },
+    |t, layout, value| unsafe { tokuwhape_order(layout, 5, t.numbers.as_ptr().cast(), t.numbers.len(), [0; 5].as_mut_ptr(), 5, value) },
+    |t, layout, value| unsafe { tokuwhape_aim(layout, 5, t.numbers.as_ptr().cast(), t.numbers.len(), t.book.as_ptr(), 384, 2, 1, value) },
+    |t, layout, value| unsafe {
+        tokuwhape_write(layout, 5, t.numbers.as_ptr().cast(), t.numbers.len(), [0; 2048].as_mut_ptr(), 2048, value)
+    },
+    |t, layout, value| unsafe {
         let (nodes, other, third) = (t.numbers.clone(), t.numbers.clone(), &mut t.numbers);
         let (one, two, both) = (nodes.as_ptr().cast(), other.as_ptr().cast(), third.as_mut_ptr().cast());
-        tokuwhape_intersect(5, one, nodes.len(), 5, two, other.len(), both, third.len(), value)
+        tokuwhape_intersect(layout, 5, one, nodes.len(), t.layout as u8, 5, two, other.len(), both, third.len(), value)
     },
-    |t, value| unsafe {
-        let text = b"1 P(2 3 4 5)";
-        tokuwhape_read(5, t.numbers.as_mut_ptr().cast(), t.numbers.len(), t.book.as_mut_ptr(), 384, text.as_ptr(), text.len(), value)
+    |t, layout, value| unsafe {
+        let text: &[u8] = if t.layout == Layout::Ring { b"1 P(2 3 4 5)" } else { b"1 P(2 3 4 5 6)" };
+        let (tree, marks) = (t.numbers.as_mut_ptr().cast(), t.book.as_mut_ptr());
+        tokuwhape_read(layout, 5, tree, t.numbers.len(), marks, 384, text.as_ptr(), text.len(), value)
     },
 ];
 
-/// Makes the call on circle e with so many numbers. Returns what it returns, its value, and the tables afterwards.
-fn made(call: OnRows, numbers: usize) -> (u8, usize, Rows) {
-    let (mut rows, mut value) = (circle_e(numbers), 77);
-    let returned = call(&mut rows, &mut value);
+/// Makes the call on these tables, told this layout. Returns what it returns, its value, and the tables afterwards.
+fn made(call: OnRows, mut rows: Rows, layout: u8) -> (u8, usize, Rows) {
+    let mut value = 77;
+    let returned = call(&mut rows, layout, &mut value);
     (returned, value, rows)
 }
 
 #[test]
 fn too_few_numbers_are_refused() {
-    for numbers in [0, 257, 255 * 257, NUMBERS - 256, NUMBERS - 1] {
-        for call in CALLS {
-            assert_eq!(made(call, numbers), (2, 0, circle_e(numbers)));
+    for layout in LAYOUTS {
+        for numbers in [0, 257, 255 * 257, NUMBERS - 256, NUMBERS - 1] {
+            let rows = joined(layout, numbers);
+            for call in CALLS {
+                assert_eq!(made(call, rows.clone(), layout as u8), (2, 0, rows.clone()));
+            }
         }
     }
 }
 
 #[test]
 fn numbers_past_the_last_record_are_not_touched() {
-    for more in [1, 2, 256, 257, 258] {
-        for call in CALLS {
-            let (returned, value, rows) = made(call, NUMBERS);
-            let (again, other, mut longer) = made(call, NUMBERS + more);
-            assert_eq!((returned, again, value), (0, 0, other));
-            assert_eq!(longer.numbers.split_off(NUMBERS), vec![OLD; more]);
-            assert!(longer == rows);
+    for layout in LAYOUTS {
+        for more in [1, 2, 256, 257, 258] {
+            for call in CALLS {
+                let (returned, value, rows) = made(call, joined(layout, NUMBERS), layout as u8);
+                let (again, other, mut longer) = made(call, joined(layout, NUMBERS + more), layout as u8);
+                assert_eq!((returned, again, value), (0, 0, other));
+                assert_eq!(longer.numbers.split_off(NUMBERS), vec![OLD; more]);
+                assert!(longer == rows);
+            }
         }
     }
 }
 
+/// Every number but 0 is the layout of a rack. A ring's table is not in form for a rack of as many leaves, nor a rack's for a ring.
+#[test]
+fn layouts_in_numbers() {
+    let (ring, rack) = (joined(Layout::Ring, NUMBERS), joined(Layout::Rack, NUMBERS));
+    for call in CALLS {
+        for layout in [1, 2, 128, 255] {
+            assert!(made(call, rack.clone(), layout) == made(call, rack.clone(), 1));
+        }
+    }
+    for call in &CALLS[1..6] {
+        assert!(made(*call, ring.clone(), 1) == (3, 0, ring.clone()));
+        assert!(made(*call, rack.clone(), 0) == (3, 0, rack.clone()));
+    }
+    assert!(made(CALLS[6], ring.clone(), 1) == (13, 0, ring.clone()));
+    assert!(made(CALLS[6], rack.clone(), 0) == (13, 0, rack));
+}
+
 #[test]
 fn circle_e_in_numbers() {
-    let Rows { numbers, book } = circle_e(NUMBERS);
+    let Rows { numbers, book, .. } = joined(Layout::Ring, NUMBERS);
     assert_eq!(numbers[..6], [2, 3, 257, 5, 3, 0]);
     assert_eq!(numbers[257..262], [1, 2, 2, 4, 0]);
     assert_eq!((book[0], book[4]), (0b00101, 0b10100));
@@ -98,15 +129,23 @@ fn circle_e_in_numbers() {
     assert_eq!(book.iter().filter(|word| **word != 0).count(), 2);
 }
 
-/// Checks that each call that looks at circle e's node table refuses it with this number at a place, and changes nothing.
-fn refused_with(at: usize, number: u16) {
-    let mut rows = circle_e(NUMBERS);
+/// A rack's table has one leaf more, its hidden end.
+#[test]
+fn a_rack_in_numbers() {
+    let Rows { numbers, book, .. } = joined(Layout::Rack, NUMBERS);
+    assert_eq!(numbers[..6], [2, 3, 257, 5, 3, 0]);
+    assert_eq!(numbers[257..263], [1, 3, 2, 4, 6, 0]);
+    assert_eq!((book[0], book[4]), (0b00101, 0b10100));
+    assert_eq!(numbers.iter().filter(|number| **number != 0).count(), 10);
+    assert_eq!(book.iter().filter(|word| **word != 0).count(), 2);
+}
+
+/// Checks that each call that looks at the node table of five leaves refuses it with this number at a place, and changes nothing.
+fn refused_with(layout: Layout, at: usize, number: u16) {
+    let mut rows = joined(layout, NUMBERS);
     rows.numbers[at] = number;
-    let before = rows.clone();
     for call in &CALLS[1..7] {
-        let mut value = 77;
-        assert_eq!((call(&mut rows, &mut value), value), (3, 0));
-        assert!(rows == before);
+        assert!(made(*call, rows.clone(), layout as u8) == (3, 0, rows.clone()));
     }
 }
 
@@ -114,14 +153,14 @@ fn refused_with(at: usize, number: u16) {
 #[test]
 fn kinds_above_a_byte_are_refused() {
     for (at, kind) in [(0, 258), (0, 512), (257, 257), (257, 65_281), (514, 256), (255 * 257, 65_280)] {
-        refused_with(at, kind);
+        LAYOUTS.iter().for_each(|&layout| refused_with(layout, at, kind));
     }
 }
 
 /// A C-node has at least four neighbours: a table that holds one with three is refused, and a text that names one is read as a P-node there.
 #[test]
 fn three_neighbours() {
-    refused_with(257, 2);
+    refused_with(Layout::Ring, 257, 2);
     let cases = [
         (3, "1 C(2 3)", "1 P(2 3)"),
         (4, "1 C(2 C(3 4))", "1 P(2 P(3 4))"),
@@ -137,25 +176,42 @@ fn three_neighbours() {
 }
 
 #[test]
-fn conflicts_of_circle_e() {
-    let (book, mut conflicts) = (circle_e(NUMBERS).book, [9; 97]);
-    assert_eq!(tokuwhape::conflict(5, &book, 2, &[1, 5], &mut conflicts[..95]), Err(Refusal::ShortTable));
-    assert_eq!(tokuwhape::conflict(5, &book[..383], 2, &[1, 5], &mut conflicts), Err(Refusal::ShortTable));
-    assert_eq!(conflicts, [9; 97]);
-    assert_eq!(tokuwhape::conflict(5, &book, 2, &[1, 5], &mut conflicts), Ok(2));
-    assert_eq!(conflicts[..3], [1, 2, 0]);
-    assert!(conflicts[3..96].iter().all(|number| *number == 0) && conflicts[96] == 9);
-    assert_eq!(tokuwhape::conflict(5, &book, 3, &[], &mut conflicts), Ok(0));
-    assert!(conflicts[..96].iter().all(|number| *number == 0));
+fn conflicts_of_five_leaves() {
+    for layout in LAYOUTS {
+        let (book, mut conflicts) = (joined(layout, NUMBERS).book, [9; 97]);
+        assert_eq!(tokuwhape::conflict(layout, 5, &book, 2, &[1, 5], &mut conflicts[..95]), Err(Refusal::ShortTable));
+        assert_eq!(tokuwhape::conflict(layout, 5, &book[..383], 2, &[1, 5], &mut conflicts), Err(Refusal::ShortTable));
+        assert_eq!(tokuwhape::conflict(layout, 5, &book, 2, &[1, 6], &mut conflicts), Err(Refusal::OutsideRing(1)));
+        assert_eq!(conflicts, [9; 97]);
+        assert_eq!(tokuwhape::conflict(layout, 5, &book, 2, &[1, 5], &mut conflicts), Ok(2));
+        assert_eq!(conflicts[..3], [1, 2, 0]);
+        assert!(conflicts[3..96].iter().all(|number| *number == 0) && conflicts[96] == 9);
+        assert_eq!(tokuwhape::conflict(layout, 5, &book, 3, &[], &mut conflicts), Ok(0));
+        assert!(conflicts[..96].iter().all(|number| *number == 0));
+    }
+}
+
+/// Four pairs of a ring that hang together round the circle, but not between a rack's ends.
+#[test]
+fn conflicts_past_the_ends() {
+    let (mut book, mut conflicts) = ([0; 384], [9; 96]);
+    for (group, marks) in [0b0011, 0b0110, 0b1100].into_iter().enumerate() {
+        book[4 * group] = marks;
+    }
+    assert_eq!(tokuwhape::conflict(Layout::Ring, 4, &book, 3, &[1, 4], &mut conflicts), Ok(0));
+    assert_eq!(tokuwhape::conflict(Layout::Rack, 4, &book, 3, &[1, 4], &mut conflicts), Ok(3));
+    assert_eq!(conflicts[..4], [1, 2, 3, 0]);
 }
 
 /// An empty group is in conflict with a book that is impossible by itself, but with no empty group of it.
 #[test]
 fn conflicts_of_an_impossible_book() {
-    let (mut book, mut conflicts) = (circle_e(NUMBERS).book, [9; 96]);
-    book[12] = 0b10001;
-    assert_eq!(tokuwhape::conflict(5, &book, 5, &[], &mut conflicts), Ok(3));
-    assert_eq!(conflicts[..4], [1, 2, 4, 0]);
+    for layout in LAYOUTS {
+        let (mut book, mut conflicts) = (joined(layout, NUMBERS).book, [9; 96]);
+        book[12] = 0b10001;
+        assert_eq!(tokuwhape::conflict(layout, 5, &book, 5, &[], &mut conflicts), Ok(3));
+        assert_eq!(conflicts[..4], [1, 2, 4, 0]);
+    }
 }
 
 #[test]
@@ -210,6 +266,34 @@ fn a_ring_owns_its_tables() {
 }
 
 #[test]
+fn a_rack_owns_its_tables() {
+    let mut rack = Rack::new(5).unwrap();
+    assert_eq!(rack.text(), "1 P(2 3 4 5 6)");
+    assert_eq!((rack.join(&[1, 3]), rack.join(&[3, 5])), (Ok(1), Ok(2)));
+    assert_eq!(rack.trial(&[1, 5]), Err(Refusal::Impossible));
+    assert_eq!(rack.conflict(&[1, 5]), Ok(vec![1, 2]));
+    assert_eq!((rack.join(&[6]), rack.conflict(&[1, 6])), (Err(Refusal::OutsideRing(0)), Err(Refusal::OutsideRing(1))));
+    assert_eq!(rack.order(), [1, 3, 5, 2, 4]);
+    assert_eq!((rack.join(&[2, 4]), rack.join(&[1, 4])), (Ok(3), Ok(4)));
+    assert_eq!(rack.order(), [2, 4, 1, 3, 5]);
+    assert_eq!([1, 2, 3, 4, 5].map(|group| rack.aim(group)), [Ok(1), Ok(5), Ok(2), Ok(1), Err(Refusal::NoSuchGroup)]);
+    assert_eq!((rack.join(&[2, 5]), rack.conflict(&[2, 5])), (Err(Refusal::Impossible), Ok(vec![1, 2, 3, 4])));
+    let again = Rack::from_text(5, &rack.text()).unwrap();
+    assert_eq!((again.leaves(), again.groups(), again.text()), (5, 0, rack.text()));
+    assert_eq!(Rack::from_text(5, "1 P(2 3 4 5)"), Err(Refusal::TreeText(11)));
+}
+
+#[test]
+fn sizes_of_racks() {
+    assert_eq!([1, 2, 3].map(|n| Rack::new(n).unwrap().text()), ["1 2", "1 P(2 3)", "1 P(2 3 4)"]);
+    assert_eq!(Rack::new(255).unwrap().order(), (1..=255).collect::<Vec<_>>());
+    assert_eq!([0, 256, 257].map(Rack::new), [Refusal::RingSize, Refusal::RackSize, Refusal::RingSize].map(Err));
+    assert_eq!(Rack::from_text(256, "1"), Err(Refusal::RackSize));
+    assert_eq!((Refusal::RackSize.number(), Refusal::RackSize.place()), (15, None));
+    assert_eq!(Refusal::RackSize.to_string(), "a rack has 256 bins");
+}
+
+#[test]
 fn groups_with_no_bins() {
     let mut ring = Ring::new(5).unwrap();
     assert_eq!([&[][..], &[1, 3], &[3, 5], &[]].map(|group| ring.join(group)), [Ok(1), Ok(2), Ok(3), Ok(4)]);
@@ -220,19 +304,43 @@ fn groups_with_no_bins() {
     assert_eq!(Refusal::NoAim.to_string(), "the book's group is empty, so it has no aim");
 }
 
-#[test]
-fn two_rings_intersect() {
-    let joined = |groups: &[[u16; 2]]| {
-        let mut ring = Ring::new(5).unwrap();
-        groups.iter().for_each(|group| assert!(ring.join(group).is_ok()));
-        ring
-    };
-    let (one, other) = (joined(&[[1, 3]]), joined(&[[3, 5]]));
+/// Five leaves with one pair joined.
+fn with_pair<O: Orders>(pair: [u16; 2]) -> Bins<O> {
+    let mut bins = Bins::new(5).unwrap();
+    assert_eq!(bins.join(&pair), Ok(1));
+    bins
+}
+
+/// Checks the intersection of the tree with {1, 3} and of that with {3, 5}.
+fn intersected<O: Orders>(text: &str, order: [u16; 5]) {
+    let (one, other) = (with_pair::<O>([1, 3]), with_pair([3, 5]));
     let both = one.intersect(&other).unwrap();
-    assert_eq!((both.leaves(), both.groups(), both.text().as_str()), (5, 0, "1 C(P(2 4) 5 3)"));
+    assert_eq!((both.leaves(), both.groups(), both.text().as_str()), (5, 0, text));
     assert_eq!(other.intersect(&one), Ok(both.clone()));
-    assert_eq!(both.order(), [1, 2, 4, 5, 3]);
-    assert_eq!(both.intersect(&joined(&[[1, 5]])), Err(Refusal::Impossible));
-    assert_eq!(both.intersect(&Ring::new(6).unwrap()), Err(Refusal::BinCounts));
+    assert_eq!(both.order(), order);
+    assert_eq!(both.intersect(&with_pair([1, 5])), Err(Refusal::Impossible));
+    assert_eq!(both.intersect(&Bins::new(6).unwrap()), Err(Refusal::BinCounts));
+}
+
+#[test]
+fn two_trees_intersect() {
+    intersected::<Circular>("1 C(P(2 4) 5 3)", [1, 2, 4, 5, 3]);
+    intersected::<Straight>("1 C(P(2 4 6) 5 3)", [1, 3, 5, 2, 4]);
     assert_eq!((Refusal::BinCounts.number(), Refusal::BinCounts.place()), (13, None));
+}
+
+/// A ring and a rack have none, with as many leaves or with as many in their trees.
+#[test]
+fn a_ring_and_a_rack_do_not_intersect() {
+    let (mut nodes, mut third) = (vec![Node::UNUSED; 256], vec![Node::UNUSED; 256]);
+    assert_eq!(tokuwhape::open(Layout::Rack, 5, &mut nodes, &mut [0; 384]), Ok(0));
+    for n in [5, 6] {
+        let answers = [
+            tokuwhape::intersect(Layout::Rack, 5, &nodes, Layout::Ring, n, &nodes, &mut third),
+            tokuwhape::intersect(Layout::Ring, n, &nodes, Layout::Rack, 5, &nodes, &mut third),
+        ];
+        assert_eq!(answers, [Err(Refusal::BinCounts); 2]);
+    }
+    assert_eq!(tokuwhape::intersect(Layout::Rack, 5, &nodes, Layout::Rack, 5, &nodes, &mut third), Ok(0));
+    assert!(third == nodes);
 }

@@ -1,6 +1,6 @@
 //! Every call on the deepest trees, in a thread with the stack that include/tokuwhape.h asks for.
 use std::thread;
-use tokuwhape::{Refusal, Ring};
+use tokuwhape::{Bins, Circular, Orders, Refusal, Straight};
 
 const STACK: usize = 1 << 20;
 
@@ -18,23 +18,28 @@ fn deepest(kinds: &str) -> String {
     format!("{text}256{}", ")".repeat(depth))
 }
 
-/// Makes every call on the tree of this text.
-fn every_call(text: &str) {
-    let mut ring = Ring::from_text(256, text).expect("a tree text");
-    assert_eq!(ring.text(), text);
-    assert_eq!(ring.order(), (1..=256).collect::<Vec<u16>>());
-    assert_eq!(ring.intersect(&ring).map(|both| both.order()), Ok(ring.order()));
-    for group in [vec![255, 256], vec![2, 256], vec![128, 129], (100..=200).collect(), (1..=256).collect()] {
-        let tried = ring.trial(&group);
-        assert_eq!(ring.join(&group), tried);
+/// Makes every call on the tree of this text, of n leaves and perhaps a rack's hidden end.
+fn every_call<O: Orders>(n: u16, text: &str) {
+    let mut bins = Bins::<O>::from_text(n.into(), text).expect("a tree text");
+    assert_eq!(bins.text(), text);
+    assert_eq!(bins.order(), (1..=n).collect::<Vec<u16>>());
+    assert_eq!(bins.intersect(&bins).map(|both| both.order()), Ok(bins.order()));
+    for group in [vec![n - 1, n], vec![2, n], vec![128, 129], (100..=200).collect(), (1..=n).collect()] {
+        let tried = bins.trial(&group);
+        assert_eq!(bins.join(&group), tried);
         assert!(matches!(tried, Ok(_) | Err(Refusal::Impossible)));
-        assert_eq!(ring.conflict(&[1, 128]), Ok(vec![]));
+        assert_eq!(bins.conflict(&[1, 128]), Ok(vec![]));
     }
-    assert!(ring.aim(1).is_ok());
+    assert!(bins.aim(1).is_ok());
 }
 
 #[test]
 fn a_mebibyte_of_stack_is_enough() {
-    let calls = || ["P", "CP", "C"].map(deepest).iter().for_each(|text| every_call(text));
+    let calls = || {
+        for text in ["P", "CP", "C"].map(deepest) {
+            every_call::<Circular>(256, &text);
+            every_call::<Straight>(255, &text);
+        }
+    };
     thread::Builder::new().stack_size(STACK).spawn(calls).expect("a thread").join().expect("every call");
 }

@@ -1,7 +1,7 @@
 """The declarations of the calls for C and Rust."""
 import calls
 from layers.refusals import constants
-from layers.table import params
+from layers.table import coded
 from layers.text import MADE, signature, wrapped
 
 C_TYPES = {"Node": "tokuwhape_node", "usize": "size_t", "u8": "uint8_t", "u16": "uint16_t", "u32": "uint32_t", "u64": "uint64_t"}
@@ -11,14 +11,14 @@ def exported():
     """Each call for C and Rust: its name, what it is lent, its result, and what it does."""
     for call in calls.RING:
         value = f" *value: {call.value}." if call.value else ""
-        yield call.name, params(call.lent + " value!"), "u8", call.does + value
+        yield call.name, coded(call.lent + " value!"), "u8", call.does + value
     for call in calls.FILE:
-        yield call.name, params(call.lent), call.result, call.does
+        yield call.name, coded(call.lent), call.result, call.does
 
 
 def counts(lent, nodes):
     """What the number of entries of each table is called, of a node table `nodes`; with the table's name where two would be called alike."""
-    short = {p.name: nodes if p.nodes else "words" if p.name == "book" else "places" if p.written else "length" for p in lent if not p.number}
+    short = {p.name: nodes if p.nodes else "words" if p.name == "book" else "places" if p.written else "length" for p in lent if p.table}
     return {name: word if list(short.values()).count(word) == 1 else f"{name}_{word}" for name, word in short.items()}
 
 
@@ -28,10 +28,10 @@ def declared():
         given, counted = [], counts(lent, "numbers")
         for p in lent:
             kind = C_TYPES[p.type]
-            if p.number:
-                given.append(f"{kind} {'*' if p.written else ''}{p.name}")
-            else:
+            if p.table:
                 given += [f"{'' if p.written else 'const '}{kind} *{p.name}", f"size_t {counted[p.name]}"]
+            else:
+                given.append(f"{kind} {'*' if p.written else ''}{p.name}")
         head = f"{C_TYPES[result]} tokuwhape_{name}("
         does = does.replace("leaves", "bins").replace("leaf", "bin")
         yield wrapped(f"{does}~*/", 140, "/* ", " * ")
@@ -54,9 +54,9 @@ def symbols(prefix, made, about, nodes):
     for name, lent, result, _ in made:
         given, counted = [], counts(lent, nodes)
         for p in lent:
-            if p.number:
-                given.append(f"{p.name}: {'*mut ' if p.written else ''}{p.type}")
-            else:
+            if p.table:
                 given += [f"{p.name}: *{'mut' if p.written else 'const'} {p.type}", f"{counted[p.name]}: usize"]
+            else:
+                given.append(f"{p.name}: {'*mut ' if p.written else ''}{p.type}")
         yield signature(f"pub fn {prefix}_{name}", given, result, 140, "    ", ";")
     yield "}"

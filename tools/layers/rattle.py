@@ -1,13 +1,33 @@
 """The Rattle functions of the outer layers; and the proofs of those for C and Rust."""
 import calls
-from layers.table import counted, functions, lent_uses, names, node_tables, of_crate, on_records, params, promise, with_nodes, written
-from layers.text import CODED, MADE, comment, signature
+from layers.table import (
+    coded,
+    counted,
+    enum_uses,
+    enums,
+    functions,
+    lent_uses,
+    names,
+    node_tables,
+    of_crate,
+    on_records,
+    params,
+    promise,
+    with_nodes,
+    written,
+)
+from layers.text import CODED, MADE, comment, listed, signature
 
 REPLY = "(reply r (now (value .exit)))"
 
 
 def at_entry(p):
-    return p.name if p.number else f"(now ({p.name} .entry))"
+    return f"(now ({p.name} .entry))" if p.table else p.name
+
+
+def coded_entry(p):
+    """The same in a function for C or Rust."""
+    return f"({p.enum.definition} {p.name})" if p.enum else at_entry(p)
 
 
 def at_exit(p):
@@ -16,8 +36,8 @@ def at_exit(p):
 
 def declared(p, node):
     """A parameter, where a node table's entries are `node`."""
-    kind = "&mut " if p.written else "" if p.number else "&"
-    return f"{p.name}: {kind}{p.type if p.number else f'[{node if p.nodes else p.type}]'}"
+    kind = "&mut " if p.written else "&" if p.table else ""
+    return f"{p.name}: {kind}{f'[{node if p.nodes else p.type}]' if p.table else p.type}"
 
 
 def head(name, lent, result, node):
@@ -39,6 +59,11 @@ def with_answer(call):
     return f"{call.does} Answers {call.value}; or refuses ({call.refuses}){left}."
 
 
+def decoded(call):
+    """What a function for C or Rust does first: of each number of an enum's value it takes the value."""
+    return [f"let {p.name} = spec_calls::{p.enum.numbered}({p.name});" for p in enums(call)]
+
+
 def uses(module, named):
     if named:
         yield f"ghost use {module}.{{{', '.join(named)}}};"
@@ -56,55 +81,71 @@ def c_source(crate):
     tables = [call for call in made if call in with_nodes()]
     where = f", {on_tables(made)} of rows of 257 numbers, one row a record" if tables else ""
     yield comment(f"{calls.CRATES[crate]}, for C and Rust{where}. {CODED} {MADE}")
-    yield from uses("Rattle.spec_calls.specs.Tables", ["lent-rows"] * bool(tables) + lent_uses(made))
+    yield from uses("Rattle.spec_calls.specs.Tables", ["lent-rows"] * bool(tables) + enum_uses(made) + lent_uses(made))
     yield from uses("Rattle.spec_calls.specs.Refusals", ["reply"])
     yield from uses("Rattle.spec_calls.specs.Promises", [call.promise for call in made])
     for call in made:
-        body = [f"let {calls.RECORDS[x]} = c_rows::records({x});" for x in node_tables(call)]
-        body.append(f"let answer = {call.rows}::{call.name}({', '.join(counted(call))});")
+        body = decoded(call) + [f"let {calls.RECORDS[x]} = c_rows::records({x});" for x in node_tables(call)]
+        body += listed(f"let answer = {call.rows}::{call.name}", counted(call), ";", 96).splitlines()
         body.append("spec_calls::code(answer, value)")
-        ensures = promise(call, at_entry, at_exit, lambda of, p: f"(lent-rows {of} {at_entry(p)})", REPLY)
+        ensures = promise(call, coded_entry, at_exit, lambda of, p: f"(lent-rows {of} {at_entry(p)})", REPLY)
         yield "\n" + comment(with_value(call)) + "\n#[no_mangle]"
-        yield function(head(f'pub extern "C" fn tokuwhape_{call.name}', params(call.lent + " value!"), "u8", "u16"), ensures, body)
+        yield function(head(f'pub extern "C" fn tokuwhape_{call.name}', coded(call.lent + " value!"), "u8", "u16"), ensures, body)
 
 
 def file_heads():
     """The head of each function of crate c_file."""
-    return [head(f'pub extern "C" fn tokuwhape_{call.name}', params(call.lent), call.result, "u16") for call in calls.FILE]
+    return [head(f'pub extern "C" fn tokuwhape_{call.name}', coded(call.lent), call.result, "u16") for call in calls.FILE]
+
+
+def paired(xs, pair):
+    """These, each put to the rest behind it by `pair`."""
+    *before, rest = xs
+    for x in reversed(before):
+        rest = pair(x, rest)
+    return rest
 
 
 def c_proof(call):
     crate, name = f"c_{call.crate}", f"tokuwhape_{call.name}"
     dashed, field = name.replace("_", "-"), {"open": "«open»"}.get(call.name, call.name)
-    tables = [p for p in params(call.lent) if not p.number]
+    tables, values = [p for p in params(call.lent) if p.table], enums(call)
     nodes = [p for p in tables if p.nodes]
     passed = counted(call)
-    # how many facts lie between the function's end and its call, its counts of records, and its start
+    # how many facts lie between the function's end and its call, its counts of records, its enums' values, and its start
     many = len(written(call))
     to_call = 2 + 2 * many
     to_records = [to_call + many + 1 + sum(1 + p.written for p in nodes[i + 1 :]) for i in range(len(nodes))]
-    to_start = to_call + many + 1 + len(tables) + sum(1 + p.written for p in nodes)
+    to_values = to_call + many + 1 + sum(1 + p.written for p in nodes)
+    to_start = to_values + len(values) + len(tables)
     back = lambda k: "c" + " .before" * k
-    entry = lambda p: f"(a .{p.name})" if p.number else f"(a .{p.name} .now)"
+    numbered = lambda fact, i: fact + str(i + 1) * bool(i)
+    # what is a result of another call before it: its type, and what is ensured of it
+    results = {p.name: (p.type, f"({back(to_values + len(values) - 1 - i)} .{numbered(p.enum.definition, i)} .ensures)") for i, p in enumerate(values)}
+    results |= {calls.RECORDS[p.name]: ("ℕ", f"({back(to_records[i])} .{numbered('records', i)} .ensures)") for i, p in enumerate(nodes)}
+    types, ensured = zip(*results.values())
+    result = {x: f"(z{' .1' * i}{' .0' * (i + 1 < len(results))})" for i, x in enumerate(results)} if len(results) > 1 else dict.fromkeys(results, "z")
+    entry = lambda p: result.get(p.name) or (f"(a .{p.name} .now)" if p.table else f"(a .{p.name})")
     exit = lambda p: f"(x{' .1' * passed.index(p.name)} .0)"
-    said = promise(call, entry, exit, lambda of, p: f"(lent-nodes {of} {calls.RECORDS[p.name]} {entry(p)})", "").rstrip()
+    said = promise(call, entry, exit, lambda of, p: f"(lent-nodes {of} {result[calls.RECORDS[p.name]]} {entry(p)})", "").rstrip()
     yield f"-- The promise of `{call.rows}::{call.name}`, of the two numbers in which its answer is coded. {MADE}"
-    yield "use Prim.Native.Nat.{ℕ}" if nodes else "use mathlib.Core.Path.{refl}"
+    if nodes:
+        yield "use Prim.Native.Nat.{ℕ}"
     yield "use borrow.Author.Needs.{needs}"
+    yield from sorted({f"use Rattle.{p.enum.crate}.specs.declared.{p.type}.{{{p.type}}}" for p in values})
     yield f"use Rattle.spec_calls.specs.Tables.{{{', '.join(['lent-nodes'] * bool(nodes) + lent_uses([call]))}}}"
     yield f"use Rattle.spec_calls.specs.Promises.{{{call.promise}}}"
-    coded = {0: "coded", 1: "coded", 3: "coded-three"}[len(nodes)]
-    yield f"use Rattle.c_rows.proofs.Coded.{{{coded}}}"
+    yield f"use Rattle.c_rows.proofs.Coded.{{coded{', both' * (len(results) > 1)}}}"
     yield f"use Rattle.{crate}.proofs.{name}.Statement.{{statement}}"
     yield f"use Rattle.{crate}.proofs.{name}.Tie as tie\n"
     yield "returns : tie.Need-returns"
     yield f"returns c =\n    let a = {back(to_start)} .args in"
     if many:
         yield f"    let x = {back(to_call)} .{field} .last in"
-    counts = " ".join(f"({back(k)} .records{i + 1 if i else ''} .ensures)" for i, k in enumerate(to_records))
-    records = f"(λ ({' '.join(calls.RECORDS[p.name] for p in nodes)} : ℕ). {said}) {counts}" if nodes else f"(λ _. {said}) {{h = 0}} refl"
-    yield f"    {coded} {records} (c .code .ensures) ({back(to_call)} .{field} .ensures)\n"
-    needs = ["(λ c κs. search needs)"] * (2 + len(nodes)) + ["(λ c. search needs)"] * many + ["returns"]
+    of = paired(types, lambda x, rest: f"{x} × {f'({rest})' if '×' in rest else rest}")
+    are = paired(ensured, lambda x, rest: f"(both {x} {rest})")
+    yield f"    coded (λ (z : {of}). {said}) {are} (c .code .ensures) ({back(to_call)} .{field} .ensures)\n"
+    needs = ["(λ c κs. search needs)"] * (2 + len(values) + len(nodes)) + ["(λ c. search needs)"] * many + ["returns"]
     yield f"pub {dashed}-spec : {{M : Type 1}} → statement M"
     yield f"{dashed}-spec =\n    tie.close\n    (tie.spec\n    " + "\n    ".join(needs) + ")"
 
@@ -117,14 +158,20 @@ def with_rows(f):
     return f"As `{f.call.name}`, with {lent} as rows and their number of records."
 
 
-def records_uses(made, reply, in_rows=False):
-    yield from uses("Rattle.spec_calls.specs.Tables", ["lent-nodes"] * in_rows + lent_uses(made))
+def records_uses(made, reply, tables):
+    """`tables`: what is used besides of spec_calls/specs/Tables."""
+    yield from uses("Rattle.spec_calls.specs.Tables", tables + lent_uses(made))
     yield from uses("Rattle.spec_calls.specs.Refusals", [reply])
     yield from uses("Rattle.spec_calls.specs.Promises", [call.promise for call in made])
     stored = any(p.nodes for call in made for p in written(call))
     yield from uses("Rattle.record_copy.specs.Rows", ["node-rows"] * stored)
     yield from uses("Rattle.record_left.specs.Records", ["lent-records"] + ["Left"] * stored)
     yield "use record_copy::Node;"
+
+
+def enum_names(made):
+    """The uses of the enums of which these calls are lent a value."""
+    return sorted({f"use {p.enum.crate}::{p.type};" for call in made for p in enums(call)})
 
 
 def on_records_head(call):
@@ -136,8 +183,9 @@ def records_source(crate):
     made = [call for call in of_crate(crate) if not call.by_hand]
     apart = "".join(f", but for `{call.name}`, which stands in {call.by_hand}" for call in of_crate(crate) if call.by_hand)
     yield comment(f"{calls.CRATES[crate]}, {on_tables(made)} of records{apart}. {MADE}")
-    yield from records_uses(made, "report", any(f.in_rows for call in made for f in functions(call)))
+    yield from records_uses(made, "report", ["lent-nodes"] * any(f.in_rows for call in made for f in functions(call)))
     yield "use spec_calls::Answer;"
+    yield from enum_names(made)
     for call in made:
         for f in functions(call):
             does, public = (with_answer(call), "pub ") if f.name == call.name else (with_rows(f), "")
@@ -159,8 +207,9 @@ def records_body(f):
 def tests_source():
     made = with_nodes()
     yield comment(f"The calls of crate `record_calls` on node records, for tests from C and Rust. {CODED} {MADE}")
-    yield from records_uses(made, "reply")
+    yield from records_uses(made, "reply", enum_uses(made))
     for call in made:
-        body = [f"let answer = record_calls::{call.name}({', '.join(names(call))});", "spec_calls::code(answer, value)"]
+        body = decoded(call) + [f"let answer = record_calls::{call.name}({', '.join(names(call))});", "spec_calls::code(answer, value)"]
         yield "\n" + comment(with_value(call)) + "\n#[no_mangle]"
-        yield function(head(f'pub extern "C" fn ring_{call.name}', params(call.lent + " value!"), "u8", "Node"), on_records(call, at_entry, at_exit, REPLY), body)
+        made_head = head(f'pub extern "C" fn ring_{call.name}', coded(call.lent + " value!"), "u8", "Node")
+        yield function(made_head, on_records(call, coded_entry, at_exit, REPLY), body)

@@ -9,13 +9,23 @@ class Param:
 
     def __init__(self, word, type=None):
         self.name, self.written = word.rstrip("!"), word.endswith("!")
-        self.number = self.name not in calls.TABLES
-        self.type = type or (calls.NUMBERS if self.number else calls.TABLES)[self.name]
-        self.nodes = self.type == "Node"
+        self.table = self.name in calls.TABLES
+        self.type = type or (calls.TABLES if self.table else calls.VALUES)[self.name]
+        self.nodes, self.enum = self.type == "Node", calls.ENUMS.get(self.type)
 
 
 def params(lent):
     return [Param(word) for word in lent.split()]
+
+
+def coded(lent):
+    """What a function for C or Rust is lent: for a value of an enum its number."""
+    return [Param(p.name, p.enum.type) if p.enum else p for p in params(lent)]
+
+
+def enums(call):
+    """The values of enums that the call is lent."""
+    return [p for p in params(call.lent) if p.enum]
 
 
 def names(call):
@@ -83,15 +93,15 @@ def of_book(call, words, entry):
 
 
 def lent(call, entry, nodes):
-    """What is lent as a promise takes it: `entry` gives a parameter, `nodes` a node table, from the number of bins before it and the table."""
+    """What is lent as a promise takes it: `entry` gives a parameter, `nodes` a node table, from what stands before it and the table."""
     by_name = {p.name: p for p in params(call.lent)}
-    bins = [calls.OF_NODES[name] for name in node_tables(call)]
+    before = {x for name in node_tables(call) for x in calls.OF_NODES[name]}
     for p in by_name.values():
         if p.nodes:
-            yield nodes(entry(by_name[calls.OF_NODES[p.name]]), p)
+            yield nodes(" ".join(entry(by_name[x]) for x in calls.OF_NODES[p.name]), p)
         elif p.name == "book":
             yield of_book(call, entry(p), entry)
-        elif p.name not in bins and p.name not in calls.OF_BOOK:
+        elif p.name not in before and p.name not in calls.OF_BOOK:
             yield entry(p)
 
 
@@ -102,7 +112,7 @@ def promise(call, entry, exit, nodes, said):
 
 
 def lent_table(of, p, entry, in_rows):
-    """A node table of so many bins: of records, or of rows with their number where it is among `in_rows`."""
+    """A node table of such a ring or rack: of records, or of rows with their number where it is among `in_rows`."""
     return f"(lent-nodes {of} {calls.RECORDS[p.name]} {entry(p)})" if p.name in in_rows else f"(lent-records {of} {entry(p)})"
 
 
@@ -117,3 +127,8 @@ def on_records(call, entry, exit, said, in_rows=()):
 def lent_uses(made):
     """The definitions of spec_calls/specs/Tables that the promises of these calls are stated with."""
     return ["lent-book"] * any("book" in names(call) for call in made)
+
+
+def enum_uses(made):
+    """The definitions there by which a value of an enum is given for C and Rust."""
+    return sorted({p.enum.definition for call in made for p in enums(call)})

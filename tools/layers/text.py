@@ -19,12 +19,17 @@ def comment(text):
     return wrapped(text, 150, "// ", "// ")
 
 
-def signature(head, lent, result, width, indent="", end=""):
-    """A function's head: in one line, or where that is too long a line for each parameter."""
-    line = f"{indent}{head}({', '.join(lent)}) -> {result}{end}"
+def listed(head, xs, tail, width, indent=""):
+    """What stands before and behind a list in brackets, and this: in one line, or where that is too long a line for each of the list."""
+    line = f"{indent}{head}({', '.join(xs)}){tail}"
     if len(line) > width:
-        line = f"{indent}{head}(\n" + "".join(f"{indent}    {p},\n" for p in lent) + f"{indent}) -> {result}{end}"
+        line = f"{indent}{head}(\n" + "".join(f"{indent}    {x},\n" for x in xs) + f"{indent}){tail}"
     return line
+
+
+def signature(head, lent, result, width, indent="", end=""):
+    """A function's head."""
+    return listed(head, lent, f" -> {result}{end}", width, indent)
 
 
 LETTER = r"[^\s(){}\[\],;.:=⌜⌝λ`@]"

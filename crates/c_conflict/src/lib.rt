@@ -1,6 +1,6 @@
 // The call that lists the groups in conflict, for C and Rust. Each returns 0, or the number of its refusal, and writes one number through `value`:
 // its own answer; or the place or byte of the refusal, 0 where the table names none. Written by tools/outer.py.
-ghost use Rattle.spec_calls.specs.Tables.{lent-book};
+ghost use Rattle.spec_calls.specs.Tables.{layout-numbered, lent-book};
 ghost use Rattle.spec_calls.specs.Refusals.{reply};
 ghost use Rattle.spec_calls.specs.Promises.{ConflictPromise};
 
@@ -8,6 +8,7 @@ ghost use Rattle.spec_calls.specs.Promises.{ConflictPromise};
 // whole book and the group can be consecutive together. The value is how many numbers.
 #[no_mangle]
 pub extern "C" fn tokuwhape_conflict(
+    layout: u8,
     n: usize,
     book: &[u64],
     count: usize,
@@ -15,8 +16,9 @@ pub extern "C" fn tokuwhape_conflict(
     conflicts: &mut [u16],
     value: &mut usize,
 ) -> u8
-    ensures { λ r. ⌜ ConflictPromise n (lent-book (now (book .entry)) count) (now (list .entry)) (now (conflicts .entry)) (now (conflicts .exit)) (reply r (now (value .exit))) ⌝ }
+    ensures { λ r. ⌜ ConflictPromise (layout-numbered layout) n (lent-book (now (book .entry)) count) (now (list .entry)) (now (conflicts .entry)) (now (conflicts .exit)) (reply r (now (value .exit))) ⌝ }
 {
-    let answer = call_conflict::conflict(n, book, count, list, conflicts);
+    let layout = spec_calls::layout_numbered(layout);
+    let answer = call_conflict::conflict(layout, n, book, count, list, conflicts);
     spec_calls::code(answer, value)
 }

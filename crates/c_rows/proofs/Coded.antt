@@ -1,12 +1,10 @@
--- What holds of a call's answer and a count of records holds of the two numbers that it is coded in and of the records as they are counted; so it
--- does of a call that is lent three node tables.
-use mathlib.Core.Path.{_≡_, sym, subst}
-use Prim.Native.Nat.{ℕ}
+-- What holds of a call's answer and of values that it was passed holds of the two numbers that the answer is coded in and of what these values are.
+use mathlib.Core.Path.{_≡_, sym, ap₂, subst}
 use Rattle.spec_calls.specs.Refusals.{Reply}
 
-pub coded : (F : ℕ → Reply → Type 0) {h k : ℕ} {a b : Reply} → h ≡ k → b ≡ a → F h a → F k b
-coded F {h} {k} {a} {b} e d f = subst (λ (m : ℕ). F m b) e (subst (λ (x : Reply). F h x) (sym d) f)
+pub coded : {A : Type 0} (F : A → Reply → Type 0) {x y : A} {a b : Reply} → x ≡ y → b ≡ a → F x a → F y b
+coded {A} F {x} {y} {a} {b} e d f = subst (λ (z : A). F z b) e (subst (λ (r : Reply). F x r) (sym d) f)
 
-pub coded-three : (F : ℕ → ℕ → ℕ → Reply → Type 0) {h k h₂ k₂ h₃ k₃ : ℕ} {a b : Reply} → h ≡ k → h₂ ≡ k₂ → h₃ ≡ k₃ → b ≡ a → F h h₂ h₃ a → F k k₂ k₃ b
-coded-three F {h} {k} {h₂} {k₂} {h₃} {k₃} {a} {b} e e₂ e₃ d f =
-    subst (λ (m : ℕ). F k k₂ m b) e₃ (subst (λ (m : ℕ). F k m h₃ b) e₂ (coded (λ (m : ℕ). F m h₂ h₃) e d f))
+-- Of two values.
+pub both : {A B : Type 0} {x y : A} {u v : B} → x ≡ y → u ≡ v → _≡_ {A = A × B} (x, u) (y, v)
+both {A} {B} e d = ap₂ (λ (a : A) (b : B). (a, b)) e d

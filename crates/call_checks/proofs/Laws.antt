@@ -3,55 +3,63 @@ use mathlib.Core.Path.{_≡_, refl, sym, _∙_, ap, subst}
 use mathlib.Core.Bool.{Bool, true, false, not, _||_}
 use mathlib.Core.Option.{Option, none, some}
 use mathlib.Core.List.{List, [], _∷_, _++_}
-use Prim.Native.Nat.{ℕ, _≤_, _<_}
+use Prim.Native.Nat.{ℕ, _≤_}
 use native.Mathlib.Omega.{arith}
-use borrow.Author.Tests.{eq-eqb, ne-eqb, lt-ltb, ltb-false, not-false}
+use borrow.Author.Tests.{ltb-false, not-false}
 use lib.ListN.{length}
-use Rattle.spec_orders.specs.Tree.{Forest}
+use Rattle.spec_orders.specs.declared.Layout.{Layout}
+use Rattle.spec_orders.specs.declared.Layout.the-variants.{Ring, Rack}
+use Rattle.spec_orders.specs.Layout.{leaf-count}
 use Rattle.spec_orders.proofs.Tests.{or-neither}
 use Rattle.spec_calls.specs.declared.Refusal.{Refusal}
-use Rattle.spec_calls.specs.declared.Refusal.the-variants.{RingSize, ShortTable, NotInForm}
+use Rattle.spec_calls.specs.declared.Refusal.the-variants.{RingSize, RackSize, ShortTable, NotInForm}
 use Rattle.spec_calls.specs.Tables.{Nodes, leaves, Book}
 use Rattle.spec_calls.specs.Book.{book-in-form?}
-use Rattle.spec_calls.specs.NodeTable.{Holds, held-tree}
-use Rattle.spec_calls.specs.Refusals.{refuse, first-refusal, bad-size, short, short-nodes}
+use Rattle.spec_calls.specs.NodeTable.{held-tree}
+use Rattle.spec_calls.specs.Refusals.{refuse, first-refusal, bad-size, full-rack, size-checks, short, short-nodes}
 use Rattle.spec_calls.specs.Calls.{is-none, table-checks, tree-checks, ring-checks}
-use Rattle.spec_calls.specs.Demands.{LentTree, LentBook}
+use Rattle.spec_calls.specs.Demands.{LentWhole, LentBook}
 use Rattle.spec_calls.proofs.NodeTables.{tree-in-holds}
 use Rattle.spec_calls.proofs.Checks.{first-refusal-some, first-refusal-none, first-refusal-passed}
-use Rattle.spec_calls.proofs.Demands.{size-fine, size-whole, tables-whole}
+use Rattle.spec_calls.proofs.Demands.{few-bins, size-whole, tables-whole}
 use Rattle.table_walk.specs.declared.Loaded.the-variants.{Tree}
 use Rattle.table_walk.specs.Walks.{Loads}
 use Rattle.call_checks.specs.declared.Lent.{Lent}
 use Rattle.call_checks.specs.declared.Lent.the-variants.{Refused}
 use Rattle.call_checks.specs.Lent.{TreeLent, LendsTree, RingLent, LendsRing, book-checks}
 
--- 1 and 2.
+-- 1 and 15, and then 2.
 module _ (nodes : Nodes) (other : Bool) where
-  pub no-leaf : nodes .bins ≡ 0 → some RingSize ≡ first-refusal (table-checks nodes other)
-  no-leaf e = rw (eq-eqb (nodes .bins) 0 e)
+  abbrev of-tables : List (Option Refusal)
+  of-tables = refuse (short-nodes nodes || other) ShortTable ∷ []
 
-  pub many-leaves : 256 < nodes .bins → some RingSize ≡ first-refusal (table-checks nodes other)
-  many-leaves h = rw (ne-eqb (nodes .bins) 0 (λ e. omega arith), lt-ltb 256 (nodes .bins) h)
+  abbrev of-size : List (Option Refusal)
+  of-size = size-checks (nodes .layout) (nodes .bins)
 
-  module _ (l : 1 ≤ nodes .bins) (m : nodes .bins ≤ 256) where
+  pub size-refused : (r : Refusal) → first-refusal of-size ≡ some r → some r ≡ first-refusal (table-checks nodes other)
+  size-refused r e = sym (first-refusal-some of-size of-tables r e)
+
+  module _ (e : first-refusal of-size ≡ none) where
     pub own-short : short-nodes nodes ≡ true → some ShortTable ≡ first-refusal (table-checks nodes other)
-    own-short q = rw (size-fine (nodes .bins) l m, q)
+    own-short q = sym (first-refusal-none of-size of-tables e ∙ rw q)
 
     pub other-short : short-nodes nodes ≡ false → other ≡ true → some ShortTable ≡ first-refusal (table-checks nodes other)
-    other-short q e = rw (size-fine (nodes .bins) l m, q, e)
+    other-short q o = sym (first-refusal-none of-size of-tables e ∙ rw (q, o))
 
     pub tables-pass : short-nodes nodes ≡ false → other ≡ false → none ≡ first-refusal (table-checks nodes other)
-    tables-pass q e = rw (size-fine (nodes .bins) l m, q, e)
+    tables-pass q o = sym (first-refusal-none of-size of-tables e ∙ rw (q, o))
 
-  -- Where none of them refuses.
-  holds-lent : first-refusal (table-checks nodes other) ≡ none → (t : Forest) → Holds (leaves nodes) (nodes .rows) t → LentTree nodes t
-  holds-lent e t h = let w = tables-whole nodes other e in record { whole = record { some-leaf = w .0; few-leaves = w .1; all-records = w .2; all-rows = w .3 }; tree = h }
+-- How many leaves the tree has, of a table that passes.
+pub some-leaf : (l : Layout) (n : ℕ) → 1 ≤ n → 1 ≤ leaf-count l n
+some-leaf Ring n m = m
+some-leaf Rack n m = omega arith
+
+pub leaves-are : {nodes : Nodes} {r : ℕ} → LentWhole nodes → (nodes .bins ≤ 256 → r ≡ leaf-count (nodes .layout) (nodes .bins)) → r ≡ leaves nodes
+leaves-are {nodes} w h = h (few-bins (nodes .layout) (nodes .bins) (w .few-leaves))
 
 -- Of a ring that is to be made: room for its tree and its book.
-pub room-passed : (nodes : Nodes) (words : List ℕ) → first-refusal (table-checks nodes (short 384 words)) ≡ none
-    → (1 ≤ nodes .bins) × (nodes .bins ≤ 256) × (65792 ≤ length (nodes .rows)) × (384 ≤ length words)
-room-passed nodes words e = let w = tables-whole nodes (short 384 words) e in (w .0, w .1, w .3, ltb-false (length words) 384 (w .4))
+pub room-passed : (nodes : Nodes) (words : List ℕ) → first-refusal (table-checks nodes (short 384 words)) ≡ none → LentWhole nodes × (384 ≤ length words)
+room-passed nodes words e = let w = tables-whole nodes (short 384 words) e in (w .0, ltb-false (length words) 384 (w .1))
 
 -- And 3, on a node table.
 module _ (nodes : Nodes) (other : Bool) where
@@ -70,27 +78,26 @@ module _ (nodes : Nodes) (other : Bool) where
         let w = tables-whole nodes other e in
         record {
           passes = first-refusal-none (table-checks nodes other) of-tree e ∙ rw (h .1);
-          long = w .4;
+          long = w .1;
           tree = h .0;
-          lent = holds-lent nodes other e (h .0) (tree-in-holds (leaves nodes) (nodes .rows) (h .0) (w .1) .0 (h .1));
+          lent = record { whole = w .0; tree = tree-in-holds (leaves nodes) (nodes .rows) (h .0) (w .0 .few-leaves) .0 (h .1) };
           wrote = h .2;
         }
 
 -- With a book: its form is looked at after the tree's.
-both-forms : (a b c d : Bool) → first-refusal (refuse a RingSize ∷ refuse b ShortTable ∷ refuse (c || d) NotInForm ∷ [])
-    ≡ first-refusal (refuse a RingSize ∷ refuse b ShortTable ∷ refuse c NotInForm ∷ refuse d NotInForm ∷ [])
-both-forms true b c d = refl
-both-forms false true c d = refl
-both-forms false false true d = refl
-both-forms false false false true = refl
-both-forms false false false false = refl
+both-forms : (xs : List (Option Refusal)) (c d : Bool)
+    → first-refusal (xs ++ (refuse (c || d) NotInForm ∷ [])) ≡ first-refusal ((xs ++ (refuse c NotInForm ∷ [])) ++ (refuse d NotInForm ∷ []))
+both-forms [] true d = refl
+both-forms [] false d = refl
+both-forms (none ∷ xs) c d = both-forms xs c d
+both-forms (some x ∷ xs) c d = refl
 
 module _ (nodes : Nodes) (book : Book) where
   abbrev of-book : List (Option Refusal)
   of-book = refuse (not (book-in-form? (nodes .bins) book)) NotInForm ∷ []
 
   split : first-refusal (ring-checks nodes book) ≡ first-refusal (tree-checks nodes (short 384 (book .words)) ++ of-book)
-  split = both-forms (bad-size (nodes .bins)) (short-nodes nodes || short 384 (book .words)) (is-none (held-tree nodes)) (not (book-in-form? (nodes .bins) book))
+  split = both-forms (table-checks nodes (short 384 (book .words))) (is-none (held-tree nodes)) (not (book-in-form? (nodes .bins) book))
 
   pub tree-refused : (old new : List ℕ) (x : Lent) (r : Refusal) → x ≡ Refused r → LendsTree nodes (short 384 (book .words)) old new x
       → LendsRing nodes book old new x
@@ -117,10 +124,21 @@ module _ (nodes : Nodes) (book : Book) where
       wrote = h .wrote;
     }
 
--- On a book by itself: where none of 1, 2 and 3 refuses.
-pub book-lent : (n : ℕ) (book : Book) (other : Bool) → first-refusal (book-checks n book other) ≡ none → (1 ≤ n) × (n ≤ 256) × LentBook n book × (other ≡ false)
-book-lent n book other e =
-    let p = first-refusal-passed ((bad-size n, RingSize) ∷ (short 384 (book .words) || other, ShortTable) ∷ (not (book-in-form? n book), NotInForm) ∷ []) e in
-    let tables = or-neither (short 384 (book .words)) other (p .1 .0) in
-    let size = size-whole n (p .0) in
-    (size .0, size .1, record { all-words = ltb-false (length (book .words)) 384 (tables .0); in-form = not-false (book-in-form? n book) (p .1 .1 .0) }, tables .1)
+-- On a book by itself.
+module _ (l : Layout) (n : ℕ) (book : Book) (other : Bool) where
+  abbrev after-size : List (Option Refusal)
+  after-size = refuse (short 384 (book .words) || other) ShortTable ∷ refuse (not (book-in-form? n book)) NotInForm ∷ []
+
+  pub size-refuses : (r : Refusal) → first-refusal (size-checks l n) ≡ some r → some r ≡ first-refusal (book-checks l n book other)
+  size-refuses r e = sym (first-refusal-some (size-checks l n) after-size r e)
+
+  pub past-size : {o : Option Refusal} → first-refusal (size-checks l n) ≡ none → o ≡ first-refusal after-size → o ≡ first-refusal (book-checks l n book other)
+  past-size e q = q ∙ sym (first-refusal-none (size-checks l n) after-size e)
+
+  -- Where none of 1, 15, 2 and 3 refuses.
+  pub book-lent : first-refusal (book-checks l n book other) ≡ none → (1 ≤ n) × (leaf-count l n ≤ 256) × LentBook n book × (other ≡ false)
+  book-lent e =
+      let p = first-refusal-passed ((bad-size n, RingSize) ∷ (full-rack l n, RackSize) ∷ (short 384 (book .words) || other, ShortTable) ∷ (not (book-in-form? n book), NotInForm) ∷ []) e in
+      let tables = or-neither (short 384 (book .words)) other (p .1 .1 .0) in
+      let size = size-whole l n (p .0) (p .1 .0) in
+      (size .0, size .1, record { all-words = ltb-false (length (book .words)) 384 (tables .0); in-form = not-false (book-in-form? n book) (p .1 .1 .1 .0) }, tables .1)

@@ -2,15 +2,16 @@
 use mathlib.Core.Path.{_≡_}
 use mathlib.Core.Bool.{Bool, false, not, _||_}
 use mathlib.Core.Option.{Option, none, some}
-use mathlib.Core.List.{List, [], _∷_}
+use mathlib.Core.List.{List, [], _∷_, _++_}
 use Prim.Native.Nat.{ℕ}
+use Rattle.spec_orders.specs.declared.Layout.{Layout}
 use Rattle.spec_orders.specs.Tree.{Forest}
 use Rattle.tree_tokens.specs.Tokens.{Wrote, flat}
 use Rattle.spec_calls.specs.declared.Refusal.{Refusal}
-use Rattle.spec_calls.specs.declared.Refusal.the-variants.{RingSize, ShortTable, NotInForm}
+use Rattle.spec_calls.specs.declared.Refusal.the-variants.{ShortTable, NotInForm}
 use Rattle.spec_calls.specs.Tables.{Nodes, Book}
 use Rattle.spec_calls.specs.Book.{book-in-form?}
-use Rattle.spec_calls.specs.Refusals.{refuse, first-refusal, bad-size, short}
+use Rattle.spec_calls.specs.Refusals.{refuse, first-refusal, size-checks, short}
 use Rattle.spec_calls.specs.Calls.{tree-checks, ring-checks}
 use Rattle.spec_calls.specs.Demands.{LentTree, LentBook}
 use Rattle.call_checks.specs.declared.Lent.{Lent}
@@ -40,7 +41,7 @@ abbrev pub LendsRing : Nodes → Book → List ℕ → List ℕ → Lent → Typ
 LendsRing nodes book old new (Tree k) = RingLent nodes book old new k
 LendsRing nodes book old new (Refused r) = first-refusal (ring-checks nodes book) ≡ some r
 
--- Checks 1, 2 and 3 of a call that is lent a book and no node table, where `other` says that another lent table is too short.
-abbrev pub book-checks : ℕ → Book → Bool → List (Option Refusal)
-book-checks n book other =
-    refuse (bad-size n) RingSize ∷ refuse (short 384 (book .words) || other) ShortTable ∷ refuse (not (book-in-form? n book)) NotInForm ∷ []
+-- Checks 1, 15, 2 and 3 of a call that is lent a book and no node table, where `other` says that another lent table is too short.
+abbrev pub book-checks : Layout → ℕ → Book → Bool → List (Option Refusal)
+book-checks layout n book other =
+    size-checks layout n ++ (refuse (short 384 (book .words) || other) ShortTable ∷ refuse (not (book-in-form? n book)) NotInForm ∷ [])

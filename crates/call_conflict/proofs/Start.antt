@@ -7,6 +7,7 @@ use mathlib.Core.List.{List, [], _∷_, _++_}
 use Prim.Native.Nat.{ℕ, zero, suc, _≤_}
 use native.Mathlib.Decide.{ℕ-discrete}
 use native.Mathlib.Omega.{arith}
+use Rattle.spec_orders.specs.declared.Layout.the-variants.{Ring}
 use Rattle.spec_orders.specs.Lists.{In, those-of}
 use Rattle.spec_orders.specs.CircularOrder.{others, CircularOrder, Restriction, Consecutive}
 use Rattle.spec_orders.specs.Tree.{Forest}
@@ -117,4 +118,4 @@ module _ {n : ℕ} {new : Restriction} {f : ℕ → Restriction} {keep : Restric
       joined-represented new start-represented (wide-hangs new (λ b u. u .not-new)) (new ∷ []) (λ ord. ((λ w. (tt, w .0)), (λ w. (w .1, tt)))) e
 
   pub one-joins : join new (start n keep) ≡ none → ⊥
-  one-joins e = joined-not new start-represented (new ∷ []) (λ ord w. (tt, w .0)) e (one-possible n new)
+  one-joins e = joined-not new start-represented (new ∷ []) (λ ord w. (tt, w .0)) e (one-possible Ring n new)

@@ -2,6 +2,7 @@
 ghost use mathlib.Core.Path.{_≡_};
 ghost use Prim.Native.Nat.{_≤_};
 ghost use lib.ListN.{length};
+ghost use Rattle.spec_orders.specs.declared.Layout.the-variants.{Ring};
 ghost use Rattle.spec_orders.specs.Lists.{numbers-from};
 ghost use Rattle.mark_words.specs.Marks.{marked};
 ghost use Rattle.tree_tokens.specs.Tokens.{Wrote};
@@ -10,6 +11,7 @@ ghost use Rattle.spec_calls.specs.Calls.{conflicts-of};
 ghost use Rattle.spec_calls.specs.Refusals.{report};
 ghost use Rattle.spec_calls.specs.Promises.{ConflictPromise};
 use spec_calls::Answer;
+use spec_orders::Layout;
 use table_book::Checked;
 use tree_update::Updated;
 
@@ -26,10 +28,10 @@ fn rising(count: usize, out: &mut [u16]) -> usize
     i
 }
 
-// Writes the numbers of the groups in conflict with the group that four words mark, rising, and says how many.
+// Writes the numbers of the groups in conflict with the group that four words mark, in a ring of n bins, rising, and says how many.
 pub fn find(n: usize, book: &[u64], count: usize, group: &[u64], out: &mut [u16]) -> usize
     requires { ⌜ (n ≤ 256) × (384 ≤ length (now book)) × (count ≤ 96) × (length (now group) ≡ 4) × (count ≤ length (now out)) ⌝ }
-    ensures { λ r. ⌜ Wrote (conflicts-of n (lent-book (now (book .entry)) count) (marked (now (group .entry)))) (now (out .entry)) (now (out .exit)) r ⌝ }
+    ensures { λ r. ⌜ Wrote (conflicts-of Ring n (lent-book (now (book .entry)) count) (marked (now (group .entry)))) (now (out .entry)) (now (out .exit)) r ⌝ }
 {
     let mut words = [group[0], group[1], group[2], group[3]];
     conflict_leaves::choose(&mut words, book, n);
@@ -46,12 +48,25 @@ pub fn find(n: usize, book: &[u64], count: usize, group: &[u64], out: &mut [u16]
     conflict_rule::leave_out(&toks[0..k], book, n, &numbers[0..many], out)
 }
 
-// Writes the numbers of the groups in conflict with the list's group, rising, and zeros up to 96 places. Answers how many numbers there are, or
-// why the call is refused.
-pub fn conflict(n: usize, book: &[u64], count: usize, list: &[u16], conflicts: &mut [u16]) -> Answer
-    ensures { λ r. ⌜ ConflictPromise n (lent-book (now (book .entry)) count) (now (list .entry)) (now (conflicts .entry)) (now (conflicts .exit)) (report r) ⌝ }
+// Writes the numbers of the groups in conflict with the list's group, rising, and zeros up to 96 places: those of a rack are those of its ring of n + 1
+// bins. Answers how many numbers there are; or refuses (1, 15, 2, 3, 5, 6), and leaves the places as they were.
+pub fn conflict(
+    layout: Layout,
+    n: usize,
+    book: &[u64],
+    count: usize,
+    list: &[u16],
+    conflicts: &mut [u16],
+) -> Answer
+    ensures { λ r. ⌜ ConflictPromise layout n (lent-book (now (book .entry)) count) (now (list .entry)) (now (conflicts .entry)) (now (conflicts .exit)) (report r) ⌝ }
 {
-    if let Checked::Bad(refusal) = call_checks::lent_book(n, book, count, conflicts.len() < 96) {
+    if let Checked::Bad(refusal) = call_checks::lent_book(
+        layout,
+        n,
+        book,
+        count,
+        conflicts.len() < 96,
+    ) {
         return Answer::Refused(refusal);
     }
     let mut group = [0u64; 4];
@@ -59,7 +74,8 @@ pub fn conflict(n: usize, book: &[u64], count: usize, list: &[u16], conflicts: &
         return Answer::Refused(refusal);
     }
     let mut numbers = [0u16; 96];
-    let k = find(n, book, count, &group, &mut numbers);
+    let leaves = spec_orders::leaf_count(layout, n);
+    let k = find(leaves, book, count, &group, &mut numbers);
     tree_tokens::copy(&numbers, conflicts);
     Answer::Done(k)
 }

@@ -1,82 +1,38 @@
 -- The checks of the pair, and the call's answer and table, from what its checks and its work come to.
 use mathlib.Core.Path.{_≡_, refl, sym, _∙_, ap, ap₂, subst}
-use mathlib.Core.Bool.{Bool, true, false, not, _||_}
+use mathlib.Core.Bool.{_||_}
 use mathlib.Core.Option.{Option, none, some}
 use mathlib.Core.List.{List, [], _∷_}
-use Prim.Native.Nat.{ℕ, _≤_}
-use native.Mathlib.Omega.{arith}
-use lib.Dec.{eqb}
+use Prim.Native.Nat.{ℕ}
 use Rattle.spec_orders.specs.Tree.{Forest}
 use Rattle.spec_intersection.specs.Intersection.{intersection}
 use Rattle.tree_update.specs.declared.Updated.the-variants.{Impossible as Not-possible, Tokens}
 use Rattle.tree_update.specs.Update.{Answers, written}
 use Rattle.spec_calls.specs.declared.Refusal.{Refusal}
-use Rattle.spec_calls.specs.declared.Refusal.the-variants.{RingSize, ShortTable, NotInForm, Impossible, BinCounts}
-use Rattle.spec_calls.specs.Tables.{Nodes, leaves, over}
+use Rattle.spec_calls.specs.declared.Refusal.the-variants.{ShortTable, NotInForm, Impossible, BinCounts}
+use Rattle.spec_calls.specs.Tables.{Nodes, over}
 use Rattle.spec_calls.specs.NodeTable.{table-of, held-tree}
-use Rattle.spec_calls.specs.Refusals.{Reply, reply, reported, refuse, first-refusal, bad-size, short-nodes}
-use Rattle.spec_calls.specs.Calls.{filled-as, filled, is-none, of-tree, table-checks, common-tree, pair-checks, common-checks, intersect-refusal, intersect-call}
+use Rattle.spec_calls.specs.Refusals.{Reply, reply, reported, refuse, first-refusal, short-nodes, other-bins}
+use Rattle.spec_calls.specs.Calls.{filled-as, filled, is-none, of-tree, common-tree, pair-sizes, pair-checks, common-checks, intersect-refusal, intersect-call}
 use Rattle.spec_calls.specs.Demands.{Intersects, IntersectDemand}
 use Rattle.spec_calls.proofs.Intersect.{common-of, intersect-meets}
-use Rattle.spec_calls.proofs.Demands.{size-whole}
 use Rattle.spec_calls.proofs.Checks.{first-refusal-some, first-refusal-none}
 use Rattle.call_intersection.specs.Common.{CommonLent}
 
--- ---- checks 1, 2 and 13
+-- ---- checks 1, 15, 2 and 13
 
 module _ (nodes other third : Nodes) where
-  -- `check_tables` makes those of the first table, and measures the second.
-  abbrev first-checks : Option Refusal
-  first-checks = first-refusal (table-checks nodes (short-nodes other))
+  abbrev sizes : List (Option Refusal)
+  sizes = pair-sizes (nodes .layout) (nodes .bins) (other .layout) (other .bins)
 
-  abbrev checks : Bool → Bool → Bool → Bool → Bool → Option Refusal
-  checks a b c d e = first-refusal (refuse (a || b) RingSize ∷ refuse (c || d) ShortTable ∷ refuse (not e) BinCounts ∷ [])
+  abbrev after-sizes : List (Option Refusal)
+  after-sizes = refuse ((short-nodes nodes || short-nodes other) || short-nodes third) ShortTable ∷ refuse (other-bins nodes other) BinCounts ∷ []
 
-  -- Where none of them refuses, there is a leaf.
-  pub some-leaf : first-refusal (pair-checks nodes other third) ≡ none → 1 ≤ nodes .bins
-  some-leaf e =
-      size-whole (nodes .bins) (go (bad-size (nodes .bins)) (bad-size (other .bins)) (short-nodes nodes || short-nodes other) (short-nodes third) (eqb (nodes .bins) (other .bins)) e) .0
-    where
-      go : (a b c d f : Bool) → checks a b c d f ≡ none → a ≡ false
-      go true b c d f e = absurd (let z : _≡_ {A = ℕ} 0 1 = cc in omega arith)
-      go false b c d f e = refl
+  pub sizes-refused : (r : Refusal) → first-refusal sizes ≡ some r → some r ≡ first-refusal (pair-checks nodes other third)
+  sizes-refused r e = sym (first-refusal-some sizes after-sizes r e)
 
-  pub bad-other : bad-size (other .bins) ≡ true → some RingSize ≡ first-refusal (pair-checks nodes other third)
-  bad-other e = go (bad-size (nodes .bins)) ∙ ap (λ b. checks (bad-size (nodes .bins)) b (short-nodes nodes || short-nodes other) (short-nodes third) (eqb (nodes .bins) (other .bins))) (sym e)
-    where
-      go : (a : Bool) → some RingSize ≡ checks a true (short-nodes nodes || short-nodes other) (short-nodes third) (eqb (nodes .bins) (other .bins))
-      go true = refl
-      go false = refl
-
-  module _ (q : bad-size (other .bins) ≡ false) where
-    pair-are : first-refusal (pair-checks nodes other third) ≡ checks (bad-size (nodes .bins)) false (short-nodes nodes || short-nodes other) (short-nodes third) (eqb (nodes .bins) (other .bins))
-    pair-are = ap (λ b. checks (bad-size (nodes .bins)) b (short-nodes nodes || short-nodes other) (short-nodes third) (eqb (nodes .bins) (other .bins))) q
-
-    pub first-refused : (r : Refusal) → some r ≡ first-checks → some r ≡ first-refusal (pair-checks nodes other third)
-    first-refused r e = go (bad-size (nodes .bins)) (short-nodes nodes || short-nodes other) e ∙ sym pair-are
-      where
-        go : (a c : Bool) → some r ≡ first-refusal (refuse a RingSize ∷ refuse c ShortTable ∷ []) → some r ≡ checks a false c (short-nodes third) (eqb (nodes .bins) (other .bins))
-        go true c e = e
-        go false true e = e
-        go false false e = absurd (let z : _≡_ {A = ℕ} 0 1 = cc in omega arith)
-
-    module _ (p : none ≡ first-checks) where
-      passed : first-refusal (pair-checks nodes other third) ≡ checks false false false (short-nodes third) (eqb (nodes .bins) (other .bins))
-      passed = pair-are ∙ go (bad-size (nodes .bins)) (short-nodes nodes || short-nodes other) p
-        where
-          go : (a c : Bool) → none ≡ first-refusal (refuse a RingSize ∷ refuse c ShortTable ∷ []) → checks a false c (short-nodes third) (eqb (nodes .bins) (other .bins)) ≡ checks false false false (short-nodes third) (eqb (nodes .bins) (other .bins))
-          go true c e = absurd (let z : _≡_ {A = ℕ} 0 1 = cc in omega arith)
-          go false true e = absurd (let z : _≡_ {A = ℕ} 0 1 = cc in omega arith)
-          go false false e = refl
-
-      pub third-short : short-nodes third ≡ true → some ShortTable ≡ first-refusal (pair-checks nodes other third)
-      third-short e = ap (λ d. checks false false false d (eqb (nodes .bins) (other .bins))) (sym e) ∙ sym passed
-
-      pub counts-differ : short-nodes third ≡ false → eqb (nodes .bins) (other .bins) ≡ false → some BinCounts ≡ first-refusal (pair-checks nodes other third)
-      counts-differ d e = ap₂ (checks false false false) (sym d) (sym e) ∙ sym passed
-
-      pub pair-fine : short-nodes third ≡ false → eqb (nodes .bins) (other .bins) ≡ true → none ≡ first-refusal (pair-checks nodes other third)
-      pair-fine d e = ap₂ (checks false false false) (sym d) (sym e) ∙ sym passed
+  pub past-sizes : {o : Option Refusal} → first-refusal sizes ≡ none → o ≡ first-refusal after-sizes → o ≡ first-refusal (pair-checks nodes other third)
+  past-sizes e q = q ∙ sym (first-refusal-none sizes after-sizes e)
 
 -- ---- checks 3 and 8
 
@@ -135,4 +91,4 @@ module _ (nodes other third : Nodes) where
 
   pub demand : (said : Reply) (rows′ : List ℕ) → filled-as said rows′ ≡ intersect-call nodes other third → IntersectDemand nodes other third said rows′
   demand said rows′ e t u h g same records rows =
-      subst (λ x. Intersects (leaves nodes) t u (x .answer) (x .table)) (sym e) (intersect-meets nodes other third t u h g same records rows)
+      subst (λ x. Intersects (nodes .layout) (nodes .bins) t u (x .answer) (x .table)) (sym e) (intersect-meets nodes other third t u h g same records rows)

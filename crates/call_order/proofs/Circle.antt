@@ -1,19 +1,23 @@
--- A group is consecutive round a circle iff it starts there at most once.
+-- A group is consecutive round a circle, or on a line, iff it starts there at most once.
 use mathlib.Core.Path.{_≡_, refl, sym, _∙_, ap}
 use mathlib.Core.Bool.{Bool, true, false, cond, not, _&&_}
 use mathlib.Core.List.{[], _∷_, _++_, append-nil}
-use Prim.Native.Nat.{ℕ, suc, _+_, _≤_}
+use Prim.Native.Nat.{ℕ, suc, _+_, _≤_, _<_}
 use native.Mathlib.Omega.{arith}
 use borrow.Author.Tests.{leb-true, le-leb}
 use lib.Dec.{leb}
+use lib.ListN.{length}
+use Rattle.spec_orders.specs.declared.Layout.{Layout}
+use Rattle.spec_orders.specs.declared.Layout.the-variants.{Ring, Rack}
 use Rattle.spec_orders.specs.CircularOrder.{Restriction, Inside, Outside}
 use Rattle.spec_orders.specs.Reduce.{complement}
 use Rattle.spec_orders.specs.Join.{side}
-use Rattle.spec_orders.specs.Conflict.{consecutive?}
-use Rattle.spec_orders.specs.Aim.{last-of}
-use Rattle.spec_orders.proofs.Contiguous.{L, Early, Contiguous, sided-before, sided-last, con-out, early-con}
+use Rattle.spec_orders.specs.Layout.{Contiguous, Visible}
+use Rattle.spec_orders.specs.Conflict.{consecutive?, consecutive-on?}
+use Rattle.spec_orders.specs.Aim.{last-of, before-first}
+use Rattle.spec_orders.proofs.Contiguous.{L, Early, sided-before, sided-last, con-out, early-con}
 use Rattle.spec_orders.proofs.CircleAndLine.{consecutive-side}
-use Rattle.spec_orders.proofs.Decide.{consecutive-decides}
+use Rattle.spec_orders.proofs.Decide.{consecutive-decides, decides-on}
 use Rattle.spec_orders.proofs.Tests.{same-tests}
 use Rattle.call_order.specs.Starts.{starts}
 
@@ -119,8 +123,15 @@ side-out G x = go (G x) refl
     go true e = ap not e
     go false e = e
 
--- The test by starts.
-pub consecutive-starts : (G : Restriction) (x : ℕ) (xs : L) → leb (starts G (last-of x xs) (x ∷ xs)) 1 ≡ consecutive? G (x ∷ xs)
+-- The test by starts: round a circle, and on a rack, where the hidden end bin stands before the first place.
+consecutive-starts : (G : Restriction) (x : ℕ) (xs : L) → leb (starts G (last-of x xs) (x ∷ xs)) 1 ≡ consecutive? G (x ∷ xs)
 consecutive-starts G x xs = same-tests _ _
     (λ e. consecutive-decides G (x ∷ xs) .1 (consecutive-side G x xs .1 (one-contiguous (side x G) x xs (side-out G x) (omega (arith, circle-starts G x xs, leb-true (starts G (last-of x xs) (x ∷ xs)) 1 e)))))
     (λ e. le-leb (starts G (last-of x xs) (x ∷ xs)) 1 (omega (arith, circle-starts G x xs, contiguous-one (side x G) x xs (consecutive-side G x xs .0 (consecutive-decides G (x ∷ xs) .0 e)))))
+
+pub together-starts : (l : Layout) (G : Restriction) (ord : L) → 0 < length ord → Visible l (length ord) G → leb (starts G (before-first l ord) ord) 1 ≡ consecutive-on? l G ord
+together-starts Ring G [] h v = absurd (omega arith)
+together-starts Ring G (x ∷ xs) h v = consecutive-starts G x xs
+together-starts Rack G ord h v = same-tests _ _
+    (λ e. decides-on Rack G ord .1 (one-contiguous G (suc (length ord)) ord v (leb-true (starts G (suc (length ord)) ord) 1 e)))
+    (λ e. le-leb (starts G (suc (length ord)) ord) 1 (contiguous-one G (suc (length ord)) ord (decides-on Rack G ord .0 e)))

@@ -2,20 +2,23 @@
 use mathlib.Core.Path.{_≡_, refl, ap, _∙_}
 use mathlib.Core.Bool.{Bool, true, false, not, _&&_}
 use mathlib.Core.List.{List, [], _∷_}
-use Prim.Native.Nat.{ℕ, suc, _+_, _-_, _<_}
+use Prim.Native.Nat.{ℕ, suc, _+_, _-_, _≤_, _<_}
 use native.Mathlib.Omega.{arith}
 use native.Mathlib.Numerals.{add-one}
-use lib.Dec.{leb}
 use lib.ListN.{length, getD}
+use Rattle.spec_orders.specs.declared.Layout.{Layout}
+use Rattle.spec_orders.specs.declared.Layout.the-variants.{Ring, Rack}
 use Rattle.spec_orders.specs.Lists.{count}
 use Rattle.spec_orders.specs.CircularOrder.{Restriction}
-use Rattle.spec_orders.specs.Conflict.{consecutive?}
+use Rattle.spec_orders.specs.Layout.{Visible, ConsecutiveOn}
+use Rattle.spec_orders.specs.Conflict.{consecutive-on?}
 use Rattle.spec_orders.specs.Aim.{last-of, start-after, run-start, aim-place, aim-of}
 use Rattle.spec_orders.proofs.ListLaws.{tail, tail-is}
+use Rattle.spec_orders.proofs.Decide.{decides-on}
+use Rattle.spec_orders.proofs.StraightAims.{straight-aim}
 use Rattle.spec_calls.specs.declared.Refusal.the-variants.{NotConsecutive}
 use Rattle.spec_calls.specs.declared.Answer.the-variants.{Done, Refused}
 use Rattle.call_order.specs.Starts.{enters, starts, aim-in}
-use Rattle.call_order.proofs.Circle.{consecutive-starts}
 
 module _ (G : Restriction) (b : ℕ) where
   pub starts-none : (l : List ℕ) → length l ≡ 0 → starts G b l ≡ 0
@@ -55,10 +58,6 @@ pub last-is : (l : List ℕ) → 0 < length l → getD l (length l - 1) 0 ≡ la
 last-is [] h = absurd (omega arith)
 last-is (x ∷ xs) h = last-index x xs
 
-pub consecutive-is : (G : Restriction) (l : List ℕ) → 0 < length l → leb (starts G (getD l (length l - 1) 0) l) 1 ≡ consecutive? G l
-consecutive-is G [] h = absurd (omega arith)
-consecutive-is G (x ∷ xs) h = ap (λ (b : ℕ). leb (starts G b (x ∷ xs)) 1) (last-index x xs) ∙ consecutive-starts G x xs
-
 pub after-inside : (a b : Bool) → b ≡ true → (a && not b) ≡ false
 after-inside true b e = rw e
 after-inside false b e = refl
@@ -68,15 +67,20 @@ after-outside true b e = rw e
 after-outside false b e = refl
 
 -- The aim, from where the run starts and its size.
-pub aim-is : (G : Restriction) (l : List ℕ) (start size : ℕ) → 0 < length l → start ≡ start-after G (getD l (length l - 1) 0) 0 l → size ≡ count G l
-    → getD l (aim-place (length l) start size) 0 ≡ aim-of G l
+pub aim-is : (G : Restriction) (ord : List ℕ) (start size : ℕ) → 0 < length ord → start ≡ start-after G (getD ord (length ord - 1) 0) 0 ord → size ≡ count G ord
+    → getD ord (aim-place Ring (length ord) start size) 0 ≡ aim-of Ring G ord
 unfolding aim-of run-start
-aim-is G l start size h s m = rw (s, m, last-is l h)
+aim-is G ord start size h s m = rw (s, m, last-is ord h)
 
-pub aim-in-yes : (G : Restriction) (l : List ℕ) → consecutive? G l ≡ true → aim-in G l ≡ Done (aim-of G l)
-unfolding aim-in
-aim-in-yes G l e = rw e
+-- On a rack it is that of the circle.
+same-aim : (l : Layout) (G : Restriction) (ord : List ℕ) → Visible l (length ord) G → ConsecutiveOn l G ord → 1 ≤ count G ord → aim-of l G ord ≡ aim-of Ring G ord
+same-aim Ring G ord v h m = refl
+same-aim Rack G ord v h m = straight-aim G ord h m v
 
-pub aim-in-no : (G : Restriction) (l : List ℕ) → consecutive? G l ≡ false → aim-in G l ≡ Refused NotConsecutive
+pub aim-in-yes : (l : Layout) (G : Restriction) (ord : List ℕ) → Visible l (length ord) G → 1 ≤ count G ord → consecutive-on? l G ord ≡ true → aim-in l G ord ≡ Done (aim-of Ring G ord)
 unfolding aim-in
-aim-in-no G l e = rw e
+aim-in-yes l G ord v m e = rw e (ap Done (same-aim l G ord v (decides-on l G ord .0 e) m))
+
+pub aim-in-no : (l : Layout) (G : Restriction) (ord : List ℕ) → consecutive-on? l G ord ≡ false → aim-in l G ord ≡ Refused NotConsecutive
+unfolding aim-in
+aim-in-no l G ord e = rw e

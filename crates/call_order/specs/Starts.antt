@@ -1,12 +1,13 @@
--- How often a group starts round a circle: at most once where it is consecutive.
+-- How often a group starts round a circle, or on a line: at most once where it is consecutive.
 use mathlib.Core.Path.{_≡_}
 use mathlib.Core.Bool.{Bool, cond, not, _&&_}
 use mathlib.Core.List.{List, [], _∷_}
 use Prim.Native.Nat.{ℕ, suc, _≤_, _<_}
 use lib.ListN.{length}
+use Rattle.spec_orders.specs.declared.Layout.{Layout}
 use Rattle.spec_orders.specs.Lists.{count}
 use Rattle.spec_orders.specs.CircularOrder.{Restriction}
-use Rattle.spec_orders.specs.Conflict.{consecutive?}
+use Rattle.spec_orders.specs.Conflict.{consecutive-on?}
 use Rattle.spec_orders.specs.Aim.{aim-of}
 use Rattle.mark_words.specs.Marks.{marked, leaves-of}
 use Rattle.spec_calls.specs.declared.Refusal.the-variants.{NotConsecutive}
@@ -31,5 +32,5 @@ pub record GroupWithin (words order : List ℕ) : Type 0 where
   pub few-places : length order ≤ 256
 
 -- Check 10, and the aim.
-unfoldable pub aim-in : Restriction → List ℕ → Answer
-aim-in G order = cond (consecutive? G order) (Done (aim-of G order)) (Refused NotConsecutive)
+unfoldable pub aim-in : Layout → Restriction → List ℕ → Answer
+aim-in l G order = cond (consecutive-on? l G order) (Done (aim-of l G order)) (Refused NotConsecutive)

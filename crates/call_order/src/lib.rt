@@ -1,12 +1,14 @@
-// The calls of document 01 that read the order of a ring's tree: the standard order, and the aim of a book's group in it. A node table is lent as
+// The calls that read the order of a ring's or a rack's tree: the standard order, and the aim of a book's group in it. A node table is lent as
 // rows of 257 numbers, with the number of records that they are.
 ghost use mathlib.Core.Path.{_≡_};
 ghost use Prim.Native.Nat.{_+_, _≤_, _<_};
 ghost use lib.ListN.{length};
 ghost use Rattle.tree_tokens.specs.Tokens.{flat};
 ghost use Rattle.spec_orders.specs.Tree.{Forest};
-ghost use Rattle.spec_orders.specs.Conflict.{consecutive?};
-ghost use Rattle.spec_orders.specs.Aim.{start-after, rounded, aim-of};
+ghost use Rattle.spec_orders.specs.declared.Layout.the-variants.{Ring};
+ghost use Rattle.spec_orders.specs.Layout.{Visible};
+ghost use Rattle.spec_orders.specs.Conflict.{consecutive-on?};
+ghost use Rattle.spec_orders.specs.Aim.{start-after, before-first, rounded, aim-of};
 ghost use Rattle.mark_words.specs.Marks.{marked, leaves-of};
 ghost use Rattle.spec_calls.specs.Tables.{lent-nodes, lent-book};
 ghost use Rattle.spec_calls.specs.Refusals.{report};
@@ -16,16 +18,17 @@ ghost use Rattle.call_order.specs.Rings.{Lends, aim-of-group};
 use call_checks::Lent;
 use spec_calls::Answer;
 use spec_calls::Refusal;
+use spec_orders::Layout;
 
-// Writes the standard order to the first n places of order. Answers n; or refuses (1, 2, 3), and leaves them as they were.
-pub fn order(n: usize, nodes: &[u16], have: usize, order: &mut [u16]) -> Answer
-    ensures { λ r. ⌜ OrderPromise (lent-nodes n have (now (nodes .entry))) (now (order .entry)) (now (order .exit)) (report r) ⌝ }
+// Writes the standard order to the first n places of order. Answers n; or refuses (1, 15, 2, 3), and leaves them as they were.
+pub fn order(layout: Layout, n: usize, nodes: &[u16], have: usize, order: &mut [u16]) -> Answer
+    ensures { λ r. ⌜ OrderPromise (lent-nodes layout n have (now (nodes .entry))) (now (order .entry)) (now (order .exit)) (report r) ⌝ }
 {
     let mut toks = [0u16; 512];
-    let found = call_checks::lent_tree(n, nodes, have, order.len() < n, &mut toks);
+    let found = call_checks::lent_tree(layout, n, nodes, have, order.len() < n, &mut toks);
     match found {
         Lent::Refused(refusal) => Answer::Refused(refusal),
-        Lent::Tree(k) => Answer::Done(tree_order::standard_order(&toks[0..k], order)),
+        Lent::Tree(k) => Answer::Done(tree_order::order_on(layout, n, &toks[0..k], order)),
     }
 }
 
@@ -68,13 +71,23 @@ fn first_start(words: &[u64], before: u16, p: usize, order: &[u16]) -> usize
     first_start(words, leaf, p + 1, &order[1..])
 }
 
-// Whether the marked leaves are consecutive in the circular order.
-fn is_consecutive(words: &[u64], order: &[u16]) -> bool
-    requires { ⌜ 0 < length (now order) ⌝ }
-    ensures { λ r. ⌜ r ≡ consecutive? (marked (now (words .entry))) (now (order .entry)) ⌝ }
+// What stands before the first place: on a ring the last leaf, on a rack the hidden end bin.
+fn before_first(layout: Layout, order: &[u16]) -> u16
+    requires { ⌜ (0 < length (now order)) × (length (now order) ≤ 256) ⌝ }
+    ensures { λ r. ⌜ r ≡ before-first layout (now (order .entry)) ⌝ }
 {
-    let last = order[order.len() - 1];
-    starts(words, last, order) <= 1
+    match layout {
+        Layout::Ring => order[order.len() - 1],
+        Layout::Rack => (order.len() + 1) as u16,
+    }
+}
+
+// Whether the marked leaves are consecutive in the order.
+fn is_consecutive(layout: Layout, words: &[u64], order: &[u16]) -> bool
+    requires { ⌜ (0 < length (now order)) × (length (now order) ≤ 256) × Visible layout (length (now order)) (marked (now words)) ⌝ }
+    ensures { λ r. ⌜ r ≡ consecutive-on? layout (marked (now (words .entry))) (now (order .entry)) ⌝ }
+{
+    starts(words, before_first(layout, order), order) <= 1
 }
 
 // How many leaves a group's four words mark.
@@ -98,10 +111,10 @@ fn rounded(lower: usize, upper: usize) -> usize
     upper
 }
 
-// The leaf in the middle of the run of marked leaves; of two, the one at the rounded place.
+// The leaf in the middle of the run of marked leaves in the circular order; of two, the one at the rounded place.
 pub fn middle(words: &[u64], order: &[u16]) -> usize
     requires { ⌜ GroupWithin (now words) (now order) ⌝ }
-    ensures { λ r. ⌜ r ≡ aim-of (marked (now (words .entry))) (now (order .entry)) ⌝ }
+    ensures { λ r. ⌜ r ≡ aim-of Ring (marked (now (words .entry))) (now (order .entry)) ⌝ }
 {
     let n = order.len();
     let last = order[n - 1];
@@ -112,21 +125,28 @@ pub fn middle(words: &[u64], order: &[u16]) -> usize
     order[rounded(lower, upper)] as usize
 }
 
-// The aim of the group with these marks, or that it is not consecutive.
-fn aim_in(words: &[u64], order: &[u16]) -> Answer
-    requires { ⌜ GroupWithin (now words) (now order) ⌝ }
-    ensures { λ r. ⌜ r ≡ aim-in (marked (now (words .entry))) (now (order .entry)) ⌝ }
+// The aim of the group with these marks, or that it is not consecutive. A run that does not pass the ends has the middle that it has in a circle.
+fn aim_in(layout: Layout, words: &[u64], order: &[u16]) -> Answer
+    requires { ⌜ (GroupWithin (now words) (now order)) × (Visible layout (length (now order)) (marked (now words))) ⌝ }
+    ensures { λ r. ⌜ r ≡ aim-in layout (marked (now (words .entry))) (now (order .entry)) ⌝ }
 {
-    if is_consecutive(words, order) {
+    if is_consecutive(layout, words, order) {
         return Answer::Done(middle(words, order));
     }
     Answer::Refused(Refusal::NotConsecutive)
 }
 
 // Checks 9, 14 and 10 on the book's group with this number, and its aim in the standard order of the tree.
-fn group_aim(toks: &[u16], book: &[u64], count: usize, group: usize) -> Answer
-    requires { ⌜ Lends (now toks) (lent-book (now book) count) ⌝ }
-    ensures { λ r. ⌜ ((t : Forest) → now (toks .entry) ≡ flat t → r ≡ aim-of-group (lent-book (now (book .entry)) count) group t) ⌝ }
+fn group_aim(
+    layout: Layout,
+    n: usize,
+    toks: &[u16],
+    book: &[u64],
+    count: usize,
+    group: usize,
+) -> Answer
+    requires { ⌜ Lends layout n (now toks) (lent-book (now book) count) ⌝ }
+    ensures { λ r. ⌜ ((t : Forest) → now (toks .entry) ≡ flat t → r ≡ aim-of-group layout n (lent-book (now (book .entry)) count) group t) ⌝ }
 {
     if group == 0 {
         return Answer::Refused(Refusal::NoSuchGroup);
@@ -140,17 +160,25 @@ fn group_aim(toks: &[u16], book: &[u64], count: usize, group: usize) -> Answer
         return Answer::Refused(Refusal::NoAim);
     }
     let mut order = [0u16; 256];
-    let m = tree_order::standard_order(toks, &mut order);
-    aim_in(&book[at..end], &order[0..m])
+    let m = tree_order::order_on(layout, n, toks, &mut order);
+    aim_in(layout, &book[at..end], &order[0..m])
 }
 
-// The leaf at which the group with this number is aimed (the middle of its run), in the standard order; or refuses (1 to 3, 9, 14, 10).
-pub fn aim(n: usize, nodes: &[u16], have: usize, book: &[u64], count: usize, group: usize) -> Answer
-    ensures { λ r. ⌜ AimPromise (lent-nodes n have (now (nodes .entry))) (lent-book (now (book .entry)) count) group (report r) ⌝ }
+// The leaf at which the group with this number is aimed (the middle of its run), in the standard order; or refuses (1, 15, 2, 3, 9, 14, 10).
+pub fn aim(
+    layout: Layout,
+    n: usize,
+    nodes: &[u16],
+    have: usize,
+    book: &[u64],
+    count: usize,
+    group: usize,
+) -> Answer
+    ensures { λ r. ⌜ AimPromise (lent-nodes layout n have (now (nodes .entry))) (lent-book (now (book .entry)) count) group (report r) ⌝ }
 {
     let mut toks = [0u16; 512];
-    match call_checks::lent_ring(n, nodes, have, book, count, &mut toks) {
+    match call_checks::lent_ring(layout, n, nodes, have, book, count, &mut toks) {
         Lent::Refused(r) => Answer::Refused(r),
-        Lent::Tree(k) => group_aim(&toks[0..k], book, count, group),
+        Lent::Tree(k) => group_aim(layout, n, &toks[0..k], book, count, group),
     }
 }

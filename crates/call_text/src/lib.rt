@@ -12,6 +12,7 @@ ghost use Rattle.call_text.specs.Fills.{Fills};
 use call_checks::Lent;
 use spec_calls::Answer;
 use spec_calls::Refusal;
+use spec_orders::Layout;
 use table_book::Checked;
 use text_read::Read;
 
@@ -39,27 +40,41 @@ fn fill(toks: &[u16], bytes: &mut [u8]) -> usize
     m
 }
 
-// Writes the tree text and zeros up to 2,048 bytes; answers the text's length.
-pub fn write(n: usize, nodes: &[u16], have: usize, bytes: &mut [u8]) -> Answer
-    ensures { λ r. ⌜ WritePromise (lent-nodes n have (now (nodes .entry))) (now (bytes .entry)) (now (bytes .exit)) (report r) ⌝ }
+// Writes the tree text, of a rack that of its ring of n + 1 bins, and zeros up to 2,048 bytes. Answers the text's length; or refuses (1, 15, 2, 3), and
+// leaves the bytes as they were.
+pub fn write(layout: Layout, n: usize, nodes: &[u16], have: usize, bytes: &mut [u8]) -> Answer
+    ensures { λ r. ⌜ WritePromise (lent-nodes layout n have (now (nodes .entry))) (now (bytes .entry)) (now (bytes .exit)) (report r) ⌝ }
 {
     let mut toks = [0u16; 512];
-    match call_checks::lent_tree(n, nodes, have, bytes.len() < 2048, &mut toks) {
+    match call_checks::lent_tree(layout, n, nodes, have, bytes.len() < 2048, &mut toks) {
         Lent::Refused(r) => Answer::Refused(r),
         Lent::Tree(k) => Answer::Done(fill(&toks[0..k], bytes)),
     }
 }
 
-// Reads a tree text for n leaves, lent exactly: the node table gets its tree, a P-node where the text has a C-node with two items, and the book is
-// emptied. Answers the count of groups, 0; or refuses (1, 2, 12), and leaves both tables as they were.
-pub fn read(n: usize, nodes: &mut [u16], have: usize, book: &mut [u64], text: &[u8]) -> Answer
-    ensures { λ r. ⌜ ReadPromise (lent-nodes n have (now (nodes .entry))) (lent-book (now (book .entry)) 0) (now (text .entry)) (now (nodes .exit)) (lent-book (now (book .exit)) 0) (report r) ⌝ }
+// Reads a tree text for n bins, of a rack that of its ring of n + 1 bins, lent exactly: the node table gets its tree, a P-node where the text has a
+// C-node with two items, and the book is emptied. Answers the count of groups, 0; or refuses (1, 15, 2, 12), and leaves both tables as they were.
+pub fn read(
+    layout: Layout,
+    n: usize,
+    nodes: &mut [u16],
+    have: usize,
+    book: &mut [u64],
+    text: &[u8],
+) -> Answer
+    ensures { λ r. ⌜ ReadPromise (lent-nodes layout n have (now (nodes .entry))) (lent-book (now (book .entry)) 0) (now (text .entry)) (now (nodes .exit)) (lent-book (now (book .exit)) 0) (report r) ⌝ }
 {
-    if let Checked::Bad(refusal) = call_checks::check_tables(n, nodes, have, book.len() < 384) {
+    if let Checked::Bad(refusal) = call_checks::check_tables(
+        layout,
+        n,
+        nodes,
+        have,
+        book.len() < 384,
+    ) {
         return Answer::Refused(refusal);
     }
     let mut toks = [0u16; 512];
-    let found = text_read::read_text(text, n, &mut toks);
+    let found = text_read::read_text(text, spec_orders::leaf_count(layout, n), &mut toks);
     match found {
         Read::Refused(byte) => Answer::Refused(Refusal::TreeText(byte)),
         Read::Tree(k) => {

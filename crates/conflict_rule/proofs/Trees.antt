@@ -8,7 +8,9 @@ use native.Mathlib.Omega.{arith}
 use lib.ListN.{length, take, drop, getD, take-append-drop}
 use lib.Seq.{drop-length, drop-drop}
 use Rattle.tree_tokens.specs.Tokens.{flat}
-use Rattle.spec_orders.specs.CircularOrder.{Restriction, Consecutive, AllConsecutive, Possible}
+use Rattle.spec_orders.specs.declared.Layout.the-variants.{Ring}
+use Rattle.spec_orders.specs.CircularOrder.{Restriction, Consecutive}
+use Rattle.spec_orders.specs.Layout.{AllOn, Possible}
 use Rattle.spec_orders.specs.Tree.{Forest, Allowed}
 use Rattle.spec_orders.specs.Form.{standard}
 use Rattle.spec_orders.specs.Join.{join}
@@ -16,7 +18,7 @@ use Rattle.spec_orders.proofs.ListLaws.{all-map, all-middle}
 use Rattle.spec_orders.proofs.StandardOrders.{standard-allowed}
 use Rattle.spec_orders.proofs.Joining.{Allows, orders-left}
 use Rattle.spec_orders.specs.Conflict.{possible?, leave-out, conflict-list}
-use Rattle.spec_orders.proofs.Conflicts.{list-empty, list-kept, ring-tests}
+use Rattle.spec_orders.proofs.Conflicts.{list-empty, list-kept, possible-tests}
 use Rattle.tree_update.specs.Update.{TokensWithin}
 use Rattle.tree_update.proofs.Updates.{join-form}
 use Rattle.conflict_leaves.specs.StandIn.{OrderOf}
@@ -27,7 +29,7 @@ use Rattle.conflict_rule.proofs.Places.{from-before}
 module _ {n : ℕ} {f : ℕ → Restriction} {Gs : List Restriction} {t : Forest} (G : Restriction) (rep : Represents n f Gs t) where
   -- A group joins. It stands anywhere among the others.
   pub joined-represented : ((ord : List ℕ) → Consecutive G ord → Consecutive G (rep .over .wide ord)) → (Hs : List Restriction) {u : Forest}
-      → ((ord : List ℕ) → AllConsecutive Hs ord ↔ (AllConsecutive Gs ord × Consecutive G ord)) → join G t ≡ some u → Represents n f Hs u
+      → ((ord : List ℕ) → AllOn Ring Hs ord ↔ (AllOn Ring Gs ord × Consecutive G ord)) → join G t ≡ some u → Represents n f Hs u
   joined-represented g Hs {u} h e = record {
     over = rep .over;
     form = join-form G (rep .form) e;
@@ -38,21 +40,21 @@ module _ {n : ℕ} {f : ℕ → Restriction} {Gs : List Restriction} {t : Forest
       left : (ord : List ℕ) → Allowed u ord ↔ (Allowed t ord × Consecutive G ord)
       left ord = subst (λ o. Allows o ord ↔ (Allowed t ord × Consecutive G ord)) e (orders-left G t (rep .form .single) (rep .form .canonical) ord)
 
-      to : (ord : List ℕ) → Allowed t ord × Consecutive G ord → OrderOf (rep .over .leaves) ord × AllConsecutive Hs ord
+      to : (ord : List ℕ) → Allowed t ord × Consecutive G ord → OrderOf (rep .over .leaves) ord × AllOn Ring Hs ord
       to ord a = let r = rep .orders ord .0 (a .0) in (r .0, h ord .1 (r .1, a .1))
 
-      from : (ord : List ℕ) → OrderOf (rep .over .leaves) ord × AllConsecutive Hs ord → Allowed u ord
+      from : (ord : List ℕ) → OrderOf (rep .over .leaves) ord × AllOn Ring Hs ord → Allowed u ord
       from ord r = let s = h ord .0 (r .1) in left ord .1 (rep .orders ord .1 (r .0, s .0), s .1)
 
-  pub joined-not : (Hs : List Restriction) → ((ord : List ℕ) → AllConsecutive Hs ord → AllConsecutive Gs ord × Consecutive G ord)
-      → join G t ≡ none → Possible n Hs → ⊥
+  pub joined-not : (Hs : List Restriction) → ((ord : List ℕ) → AllOn Ring Hs ord → AllOn Ring Gs ord × Consecutive G ord)
+      → join G t ≡ none → Possible Ring n Hs → ⊥
   joined-not Hs h e p =
       let ord = rep .over .narrow (p .order) in
       let s = h ord (all-map (λ H. Consecutive H (p .order)) (λ H. Consecutive H ord) (λ H. rep .over .narrow-keeps H (p .order)) Hs (p .hang)) in
       subst (λ o. Allows o ord) e (orders-left G t (rep .form .single) (rep .form .canonical) ord .1
       (rep .orders ord .1 (rep .over .narrow-order (p .order) (p .is-order), s .0), s .1))
 
-pub represented-possible : {n : ℕ} {f : ℕ → Restriction} {Gs : List Restriction} {t : Forest} → Represents n f Gs t → Possible n Gs
+pub represented-possible : {n : ℕ} {f : ℕ → Restriction} {Gs : List Restriction} {t : Forest} → Represents n f Gs t → Possible Ring n Gs
 represented-possible {t = t} rep =
     let r = rep .orders (standard t) .0 (standard-allowed t) in
     record {
@@ -65,8 +67,8 @@ pub stands-within : {n : ℕ} {f : ℕ → Restriction} {toks : List ℕ} → To
 stands-within s = (s .0, s .2, s .3 .form, s .4)
 
 -- All numbers, and those behind some.
-behind : (n : ℕ) (f : ℕ → Restriction) (Gs : List Restriction) (js : List ℕ) (i : ℕ) → Possible n (Gs ++ map f js) → Possible n (Gs ++ map f (drop i js))
-behind n f Gs js i p = fewer-behind (ring-tests n) f Gs (take i js) (drop i js) (subst (λ l. Possible n (Gs ++ map f l)) (sym (take-append-drop i js)) p)
+behind : (n : ℕ) (f : ℕ → Restriction) (Gs : List Restriction) (js : List ℕ) (i : ℕ) → Possible Ring n (Gs ++ map f js) → Possible Ring n (Gs ++ map f (drop i js))
+behind n f Gs js i p = fewer-behind (possible-tests Ring n) f Gs (take i js) (drop i js) (subst (λ l. Possible Ring n (Gs ++ map f l)) (sym (take-append-drop i js)) p)
 
 module _ {n : ℕ} {f : ℕ → Restriction} {Gs : List Restriction} where
   -- A walk begins; one group more joins; it cannot.
@@ -81,9 +83,9 @@ module _ {n : ℕ} {f : ℕ → Restriction} {Gs : List Restriction} where
     G : Restriction
     G = f (getD js (left - 1) 0)
 
-    more : (ord : List ℕ) → AllConsecutive (Gs ++ map f (drop (left - 1) js)) ord ↔ (AllConsecutive (Gs ++ map f (drop left js)) ord × Consecutive G ord)
+    more : (ord : List ℕ) → AllOn Ring (Gs ++ map f (drop (left - 1) js)) ord ↔ (AllOn Ring (Gs ++ map f (drop left js)) ord × Consecutive G ord)
     unfolding G
-    more ord = subst (λ l. AllConsecutive (Gs ++ map f l) ord ↔ (AllConsecutive (Gs ++ map f (drop left js)) ord × Consecutive G ord)) (sym (from-before js left h g))
+    more ord = subst (λ l. AllOn Ring (Gs ++ map f l) ord ↔ (AllOn Ring (Gs ++ map f (drop left js)) ord × Consecutive G ord)) (sym (from-before js left h g))
         (all-middle (λ H. Consecutive H ord) Gs G (map f (drop left js)))
 
     pub walk-joins : {u : Forest} {new : List ℕ} → (1 ≤ getD js (left - 1) 0) × (getD js (left - 1) 0 ≤ 96) → join (f (getD js (left - 1) 0)) (w .tree) ≡ some u → new ≡ flat u → Walked n f Gs js (left - 1) new
@@ -107,30 +109,30 @@ module _ {n : ℕ} {f : ℕ → Restriction} {Gs : List Restriction} where
   pub walked-all : {js : List ℕ} {left : ℕ} {toks : List ℕ} (w : Walked n f Gs js left toks) → left ≡ 0 → Represents n f (Gs ++ map f js) (w .tree)
   walked-all {js} w e = subst (λ i. Represents n f (Gs ++ map f (drop i js)) (w .tree)) e (w .stands)
 
-  walked-possible : {js : List ℕ} {left : ℕ} {toks : List ℕ} → Walked n f Gs js left toks → Possible n (Gs ++ map f (drop left js))
+  walked-possible : {js : List ℕ} {left : ℕ} {toks : List ℕ} → Walked n f Gs js left toks → Possible Ring n (Gs ++ map f (drop left js))
   walked-possible w = represented-possible (w .stands)
 
   -- The walk stopped: the number at which it did is kept, and those before it are left out.
   pub next-kept : (js : List ℕ) (mid left : ℕ) {toks : List ℕ} → Walked n f Gs (drop mid js) left toks → Stops n f Gs (drop mid js) left
-      → 0 < left → mid + left ≤ length js → leave-out (possible? n) f Gs js ≡ goes-on (possible? n) f Gs (getD js (mid + left - 1) 0 ∷ []) (drop (mid + left) js)
+      → 0 < left → mid + left ≤ length js → leave-out (possible? Ring n) f Gs js ≡ goes-on (possible? Ring n) f Gs (getD js (mid + left - 1) 0 ∷ []) (drop (mid + left) js)
   next-kept js mid left w s h g =
       let e : mid + (left - 1) ≡ mid + left - 1 = omega arith in
       let there = drop-drop (left - 1) mid js ∙ ap (λ (i : ℕ). drop i js) e in
-      ap (leave-out (possible? n) f Gs) (sym (take-append-drop (mid + left - 1) js))
-      ∙ rule-behind (ring-tests n) f Gs (take (mid + left - 1) js) (drop (mid + left - 1) js) (λ p. s .one-more h (subst (λ l. Possible n (Gs ++ map f l)) (sym there) p))
-      ∙ ap (leave-out (possible? n) f Gs) (from-before js (mid + left) (omega arith) g)
-      ∙ rule-next (ring-tests n) f Gs (getD js (mid + left - 1) 0) (drop (mid + left) js) (subst (λ l. Possible n (Gs ++ map f l)) (drop-drop left mid js) (walked-possible w))
+      ap (leave-out (possible? Ring n) f Gs) (sym (take-append-drop (mid + left - 1) js))
+      ∙ rule-behind (possible-tests Ring n) f Gs (take (mid + left - 1) js) (drop (mid + left - 1) js) (λ p. s .one-more h (subst (λ l. Possible Ring n (Gs ++ map f l)) (sym there) p))
+      ∙ ap (leave-out (possible? Ring n) f Gs) (from-before js (mid + left) (omega arith) g)
+      ∙ rule-next (possible-tests Ring n) f Gs (getD js (mid + left - 1) 0) (drop (mid + left) js) (subst (λ l. Possible Ring n (Gs ++ map f l)) (drop-drop left mid js) (walked-possible w))
 
-  pub no-more : (kept js : List ℕ) {left : ℕ} → Stops n f Gs kept left → 0 < left → goes-on (possible? n) f Gs kept js ≡ kept
-  no-more kept js {left} s h = goes-on-none (ring-tests n) f Gs kept js (λ p. s .one-more h (behind n f Gs kept (left - 1) p))
+  pub no-more : (kept js : List ℕ) {left : ℕ} → Stops n f Gs kept left → 0 < left → goes-on (possible? Ring n) f Gs kept js ≡ kept
+  no-more kept js {left} s h = goes-on-none (possible-tests Ring n) f Gs kept js (λ p. s .one-more h (behind n f Gs kept (left - 1) p))
 
   -- A walk down all numbers: all hang together; or the number at which it stopped is the first one kept.
-  pub list-all : (js : List ℕ) {left : ℕ} {toks : List ℕ} → Walked n f Gs js left toks → left ≡ 0 → conflict-list (possible? n) f Gs js ≡ []
-  list-all js w e = list-empty (ring-tests n) f Gs js (subst (λ i. Possible n (Gs ++ map f (drop i js))) e (walked-possible w))
+  pub list-all : (js : List ℕ) {left : ℕ} {toks : List ℕ} → Walked n f Gs js left toks → left ≡ 0 → conflict-list (possible? Ring n) f Gs js ≡ []
+  list-all js w e = list-empty (possible-tests Ring n) f Gs js (subst (λ i. Possible Ring n (Gs ++ map f (drop i js))) e (walked-possible w))
 
   pub first-kept : (js : List ℕ) (left : ℕ) {toks : List ℕ} → Walked n f Gs js left toks → Stops n f Gs js left → 0 < left → left ≤ length js
-      → conflict-list (possible? n) f Gs js ≡ goes-on (possible? n) f Gs (getD js (left - 1) 0 ∷ []) (drop left js)
+      → conflict-list (possible? Ring n) f Gs js ≡ goes-on (possible? Ring n) f Gs (getD js (left - 1) 0 ∷ []) (drop left js)
   first-kept js left w s h g =
       let e : 0 + left ≡ left = omega arith in
-      list-kept (ring-tests n) f Gs js (λ p. s .one-more h (behind n f Gs js (left - 1) p))
-      ∙ subst (λ i. leave-out (possible? n) f Gs js ≡ goes-on (possible? n) f Gs (getD js (i - 1) 0 ∷ []) (drop i js)) e (next-kept js 0 left w s h (omega arith))
+      list-kept (possible-tests Ring n) f Gs js (λ p. s .one-more h (behind n f Gs js (left - 1) p))
+      ∙ subst (λ i. leave-out (possible? Ring n) f Gs js ≡ goes-on (possible? Ring n) f Gs (getD js (i - 1) 0 ∷ []) (drop i js)) e (next-kept js 0 left w s h (omega arith))

@@ -3,6 +3,7 @@ ghost use mathlib.Core.Path.{_≡_};
 ghost use mathlib.Core.List.{List};
 ghost use Prim.Native.Nat.{_+_, _≤_};
 ghost use lib.ListN.{length, take};
+ghost use Rattle.spec_orders.specs.declared.Layout.the-variants.{Ring};
 ghost use Rattle.spec_orders.specs.CircularOrder.{Restriction};
 ghost use Rattle.spec_orders.specs.Tree.{Forest};
 ghost use Rattle.spec_orders.specs.Conflict.{possible?, leave-out, conflict-list};
@@ -51,7 +52,7 @@ fn halves(toks: &[u16], book: &[u64], n: usize, numbers: &[u16], out: &mut [u16]
     requires { ⌜ (TokensRepresent n (group-numbered (now book)) (now toks)) × (384 ≤ length (now book)) × (InBook (now numbers)) × (length (now numbers) ≤ length (now out)) ⌝ }
     ensures { λ r. ⌜ (r ≤ length (now (numbers .entry)))
         × ((t : Forest) (Gs : List Restriction) → now (toks .entry) ≡ flat t → Represents n (group-numbered (now (book .entry))) Gs t
-        → Wrote (leave-out (possible? n) (group-numbered (now (book .entry))) Gs (now (numbers .entry))) (now (out .entry)) (now (out .exit)) r) ⌝ }
+        → Wrote (leave-out (possible? Ring n) (group-numbered (now (book .entry))) Gs (now (numbers .entry))) (now (out .entry)) (now (out .exit)) r) ⌝ }
 {
     let many = numbers.len();
     if many <= 1 {
@@ -78,7 +79,7 @@ fn go_on(toks: &[u16], book: &[u64], n: usize, k: usize, numbers: &[u16], out: &
         × (InBook (take k (now out))) ⌝ }
     ensures { λ r. ⌜ (r ≤ k + length (now (numbers .entry)))
         × ((t : Forest) (Gs : List Restriction) → now (toks .entry) ≡ flat t → Represents n (group-numbered (now (book .entry))) Gs t
-        → Wrote (goes-on (possible? n) (group-numbered (now (book .entry))) Gs (take k (now (out .entry))) (now (numbers .entry))) (now (out .entry)) (now (out .exit)) r) ⌝ }
+        → Wrote (goes-on (possible? Ring n) (group-numbered (now (book .entry))) Gs (take k (now (out .entry))) (now (numbers .entry))) (now (out .entry)) (now (out .exit)) r) ⌝ }
 {
     let mut tree = [0u16; 512];
     let kept = walk(toks, book, n, &out[0..k], &mut tree);
@@ -95,7 +96,7 @@ fn go_on(toks: &[u16], book: &[u64], n: usize, k: usize, numbers: &[u16], out: &
 pub fn leave_out(toks: &[u16], book: &[u64], n: usize, numbers: &[u16], out: &mut [u16]) -> usize
     requires { ⌜ (TokensRepresent n (group-numbered (now book)) (now toks)) × (384 ≤ length (now book)) × (InBook (now numbers)) × (length (now numbers) ≤ length (now out)) ⌝ }
     ensures { λ r. ⌜ ((t : Forest) (Gs : List Restriction) → now (toks .entry) ≡ flat t → Represents n (group-numbered (now (book .entry))) Gs t
-        → Wrote (conflict-list (possible? n) (group-numbered (now (book .entry))) Gs (now (numbers .entry))) (now (out .entry)) (now (out .exit)) r) ⌝ }
+        → Wrote (conflict-list (possible? Ring n) (group-numbered (now (book .entry))) Gs (now (numbers .entry))) (now (out .entry)) (now (out .exit)) r) ⌝ }
 {
     let mut tree = [0u16; 512];
     let down = walk(toks, book, n, numbers, &mut tree);

@@ -5,6 +5,7 @@ use mathlib.Core.List.{List, [], _∷_, _++_}
 use Prim.Native.Nat.{ℕ, _≤_}
 use native.Mathlib.Omega.{arith}
 use lib.ListN.{length}
+use Rattle.spec_orders.specs.declared.Layout.the-variants.{Ring}
 use Rattle.spec_orders.specs.Lists.{All, count, elem, numbers-from}
 use Rattle.spec_orders.specs.CircularOrder.{Restriction, WellFormed, group-of}
 use Rattle.spec_orders.specs.Aim.{run-start, aim-place, aim-of}
@@ -33,7 +34,7 @@ line-marked n list words Fine g h = h .1
 line-marked n list words (Bad r) g h = absurd (let e = sym (well-formed-passes n list g) ∙ h in let z : _≡_ {A = ℕ} 0 1 = cc in omega (arith, z))
 
 -- The field of the aim, where there is a leaf; the fields where there is none.
-pub leaf-told : (names : List (List ℕ)) (ord list : List ℕ) → length list ≢ 0 → name names (aim-of (elem list) ord) ≡ aim-field names ord list
+pub leaf-told : (names : List (List ℕ)) (ord list : List ℕ) → length list ≢ 0 → name names (aim-of Ring (elem list) ord) ≡ aim-field names ord list
 leaf-told names ord [] h = absurd (h refl)
 leaf-told names ord (b ∷ l) h = refl
 
@@ -51,11 +52,11 @@ module _ {n : ℕ} {order : List ℕ} (o : Ordered n order) where
       (perm-all (λ b. (1 ≤ b) × (b ≤ n)) (all-standard n (o .tree) (o .form) (o .some-leaf))
       (in-all (λ b. (1 ≤ b) × (b ≤ n)) (numbers-from 1 n) (λ x i. let r = in-range 1 n x i in (r .0, omega (arith, r .1)))))
 
-  pub aim-range : (G : Restriction) → (1 ≤ aim-of G order) × (aim-of G order ≤ n)
+  pub aim-range : (G : Restriction) → (1 ≤ aim-of Ring G order) × (aim-of Ring G order ≤ n)
   unfolding aim-of
   aim-range G =
-      all-at (λ b. (1 ≤ b) × (b ≤ n)) 0 order (aim-place (length order) (run-start G order) (count G order)) order-all
-      (aim-place-in (length order) (run-start G order) (count G order) (omega (arith, order-length, o .some-leaf)))
+      all-at (λ b. (1 ≤ b) × (b ≤ n)) 0 order (aim-place Ring (length order) (run-start Ring G order) (count G order)) order-all
+      (aim-place-in (length order) (run-start Ring G order) (count G order) (omega (arith, order-length, o .some-leaf)))
 
   module _ (list words : List ℕ) (g : WellFormed n list) (w : words ≡ words-of 4 (elem list)) where
     pub same-group : marked words ≡ elem list

@@ -5,6 +5,7 @@ use mathlib.Core.List.{List, [], _∷_, _++_}
 use Prim.Native.Nat.{ℕ, _-_, _≤_, _<_}
 use native.Mathlib.Omega.{arith}
 use lib.ListN.{length, take, drop, length-append}
+use Rattle.spec_orders.specs.declared.Layout.the-variants.{Ring}
 use Rattle.spec_orders.specs.Lists.{elem}
 use Rattle.spec_orders.specs.Tree.{Forest}
 use Rattle.spec_orders.specs.Join.{join}
@@ -33,7 +34,7 @@ module _ (names : List (List ℕ)) (ord : List ℕ) (n : ℕ) (s : RingState) (l
     kept-told none h l = absurd (omega (arith, h .counted))
 
     refused-told : (o : Option Forest) → After (joined n s (elem list) o) → after ≤ length (s .groups)
-        → bytes " refused - " ++ commas (take (length (s .groups) - 0) (drop 0 table)) (conflicts-of n (lent-book book (length (s .groups))) (elem list))
+        → bytes " refused - " ++ commas (take (length (s .groups) - 0) (drop 0 table)) (conflicts-of Ring n (lent-book book (length (s .groups))) (elem list))
         ≡ fields names ord s list (joined n s (elem list) o)
     unfolding fields
     refused-told (some t) h l = absurd (omega (arith, h .counted, length-append (s .groups) (elem list ∷ [])))
@@ -50,8 +51,8 @@ module _ (names : List (List ℕ)) (ord : List ℕ) (n : ℕ) (s : RingState) (l
       tells-kept l = kept-told (join (elem list) (s .tree)) (subst After is h) l ∙ ap (fields names ord s list) (sym is)
 
       pub tells-refused : {count : ℕ} → count ≡ length (s .groups) → after ≤ length (s .groups)
-          → bytes " refused - " ++ commas (take (count - 0) (drop 0 table)) (conflicts-of n (lent-book book count) (elem list)) ≡ fields names ord s list (outcome n s list)
+          → bytes " refused - " ++ commas (take (count - 0) (drop 0 table)) (conflicts-of Ring n (lent-book book count) (elem list)) ≡ fields names ord s list (outcome n s list)
       tells-refused {count} e l =
-          ap (λ (i : ℕ). bytes " refused - " ++ commas (take (i - 0) (drop 0 table)) (conflicts-of n (lent-book book i) (elem list))) e
+          ap (λ (i : ℕ). bytes " refused - " ++ commas (take (i - 0) (drop 0 table)) (conflicts-of Ring n (lent-book book i) (elem list))) e
           ∙ refused-told (join (elem list) (s .tree)) (subst After is h) l
           ∙ ap (fields names ord s list) (sym is)

@@ -3,6 +3,7 @@ ghost use mathlib.Core.Path.{_≡_};
 ghost use mathlib.Core.List.{List, _++_};
 ghost use Prim.Native.Nat.{ℕ, _+_, _-_, _≤_};
 ghost use lib.ListN.{length, take, drop};
+ghost use Rattle.spec_orders.specs.declared.Layout.the-variants.{Ring};
 ghost use Rattle.spec_orders.specs.Lists.{elem};
 ghost use Rattle.spec_orders.specs.CircularOrder.{WellFormed, group-of};
 ghost use Rattle.spec_orders.specs.Circles.{bytes};
@@ -36,7 +37,7 @@ fn put_refused(
 ) -> usize
     requires { ⌜ (n ≤ 256) × (384 ≤ length (now book)) × (count ≤ 96) × (WellFormed n (now list)) × (count ≤ length (now table)) × (at + 2048 ≤ length (now out)) ⌝ }
     ensures { λ r. ⌜ (r ≤ at + 2048)
-        × (Appends (bytes " refused - " ++ commas (take (count - 0) (drop 0 (now (table .entry)))) (conflicts-of n (lent-book (now (book .entry)) count) (elem (now (list .entry)))))
+        × (Appends (bytes " refused - " ++ commas (take (count - 0) (drop 0 (now (table .entry)))) (conflicts-of Ring n (lent-book (now (book .entry)) count) (elem (now (list .entry)))))
         at (now (out .entry)) (now (out .exit)) r) ⌝ }
 {
     let mut group = [0u64; 4];

@@ -8,6 +8,7 @@ use native.Mathlib.Numerals.{add-one}
 use lib.Dec.{eqb}
 use lib.ListN.{length, getD, take, length-append, List·getD-append}
 use lib.Seq.{getD-append-add}
+use Rattle.spec_orders.specs.declared.Layout.the-variants.{Ring}
 use Rattle.spec_orders.specs.Lists.{elem}
 use Rattle.spec_orders.specs.Tree.{Forest}
 use Rattle.spec_orders.specs.Form.{standard}
@@ -94,7 +95,7 @@ module _ (names lists : List (List ℕ)) where
   unfolding group-line final fields
   kept-line l h t e b list q some-leaf few =
       let s = state-at (length names) lists l in (
-        aim-of (elem (b ∷ list)) ord,
+        aim-of Ring (elem (b ∷ list)) ord,
         kept-aimed (length names) lists l h t e b list q some-leaf few,
         middle-line l h
             ∙ ap (λ (o : Outcome). digits (l + 1) ++ fields names ord s (getD lists l []) o) e

@@ -1,5 +1,5 @@
-// The calls on a ring as it is lent, a node table of records and a book, and on two trees; and the ring file, read. Each is handed on as it stands in
-// the crate that is named, with its contract.
+// The calls on a ring or a rack as it is lent, a node table of records and a book, and on two trees; and the ring file, read. Each is handed on as it
+// stands in the crate that is named, with its contract.
 pub use call_conflict::conflict;
 pub use file_read::group_of;
 pub use file_read::name_at;

@@ -1,5 +1,6 @@
 -- The calls of a thin function over a slice of records, each as one step of a walk: the local array is filled (`loads`, `loads-shr`), worked on (`works`, `asks`), and written back (`stores`).
 -- `loads`, `loads-shr` and `stores` have at the head of the context [nodes; the token of its lifetime; the array], `works` and `asks` [the array; X], where X is what the function has of its other slices (a formula) and X′ what is left of them after the call.
+-- A call of any other function is `answers`, which has X at the head, what the function takes, and leaves X′.
 -- The rest of the context is as it was, and in the operands its positions are the same. ℓ is the lifetime's name in the function's signature, ℓ′ that of the array in the core's.
 -- Assumes `Given`.
 use mathlib.Core.Path.{_≡_, refl, sym, _∙_, ap, subst}
@@ -162,6 +163,18 @@ module _ {M : Type 1} {𝓤 : URA M} {H : Heap 𝓤} {A : Atoms 𝓤} {K : Type 
         -- [the token; true; the array; the last list; true; true; …]
         move t (1 ∷ []) $ drop t $ move t (3 ∷ []) $ drop t $ move t (3 ∷ []) $ drop t $ move t (2 ∷ 0 ∷ 1 ∷ []) $ rewrite t 0 (λ (zs : List Node). ‵ (finally T.the-row (s .name) zs)) e refl $
         k w (ap length (sym e) ∙ m) is))))))))
+
+  -- a function that meets c: what it asks of X, and what it says of r (its result and the last lists of the slices) and of what is left
+  pub answers : K → FmC 𝓤 H (W .laws) C → {f : Name} (c : Contract 𝓤) → Triple 𝓤 (C f) c → {R : Type 0} (φ : R → Val → Type 0) (X : Fml) (X′ : R → Fml) (z : c .Ghost)
+      → ent 𝓤 (sem 𝓤 H A X) (c .pre z)
+      → ((w : Val) → ent 𝓤 (c .post z w) (H .⇛ (ex 𝓤 (λ (r : R). sep 𝓤 (sem 𝓤 H A (X′ r)) (fact 𝓤 (φ r w))))))
+      → ((i : Item 𝓤) → Opds K W (i ∷ Γ) E xs (c .args z))
+      → ((r : R) (w : Val) → φ r w → Seq K W (‵ (X′ r) ∷ Γ) (lands C Λ E d w rest Q))
+      → Seq K W (‵ X ∷ Γ) (runs C Λ E (seq (call f xs d) rest) Q)
+  answers t fm c known {R} φ X X′ z goes said os k =
+      use1 W (raw (c .pre z)) goes $ calls-at t fm c known z (os _) (λ w.
+      use1 W (later (some (λ (r : R). ‵ (X′ r) ⊛ raw (fact 𝓤 (φ r w))))) (said w) $ await t tt $ pick t (λ r.
+      split t $ move t (1 ∷ []) $ heard t (φ r w) (λ h. k r w h)))
 
   -- an array of m numbers of the width v is lent by `&mut` to a function that meets c, whatever its other parameters and its result are: what it asks of the array and X, and what it says of r (its result and the last lists of the other slices), of what is left of X, and of the array's last list
   pub works : K → FmC 𝓤 H (W .laws) C → (v : Width) (m : ℕ) → Room (UInt v) m → (ℓ′ : Lifetime) {f : Name} (c : Contract 𝓤) → Triple 𝓤 (C f) c → {R : Type 0} (φ : R → Val → List ℕ → Type 0) (X : Fml) (X′ : R → Fml) (l : ℕ) (ys : List ℕ) (z : ℕ → GName → c .Ghost)

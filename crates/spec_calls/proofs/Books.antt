@@ -1,24 +1,28 @@
 -- A group more in the book: its words, and the book's groups and form.
 use mathlib.Core.Path.{_≡_, refl, sym, ap, ap₂, subst, _∙_}
 use mathlib.Core.Logic.{_⊎_, inl, inr, Iff·rfl}
-use mathlib.Core.Bool.{Bool, true}
+use mathlib.Core.Bool.{Bool, true, false}
 use mathlib.Core.List.{List, [], _∷_, _++_, map, map-append}
 use Prim.Native.Nat.{ℕ, _+_, _-_, _*_, _≤_, _<_}
 use native.Mathlib.Omega.{arith}
-use borrow.Author.Tests.{le-leb}
+use borrow.Author.Tests.{le-leb, leb-true}
 use lib.Dec.{eqb, leb}
 use lib.ListN.{length, take, drop, length-append, length-drop, take-append-drop}
 use lib.Seq.{take-add, take-append-le, take-append-seam, drop-drop, drop-append-le, drop-append-add, drop-at, length-take-le}
-use Rattle.spec_orders.specs.Lists.{In, numbers-from, all-of}
+use Rattle.spec_orders.specs.declared.Layout.{Layout}
+use Rattle.spec_orders.specs.Lists.{All, In, numbers-from, all-of}
 use Rattle.spec_orders.specs.CircularOrder.{Restriction}
-use Rattle.spec_orders.proofs.Tests.{both, and-both}
+use Rattle.spec_orders.specs.Layout.{Visible}
+use Rattle.spec_orders.proofs.Tests.{both, and-both, false-if}
 use Rattle.spec_orders.proofs.Members.{in-append, in-right, all-passed}
 use Rattle.spec_orders.proofs.Numbers.{numbers-append, numbers-in, in-range}
+use Rattle.spec_orders.proofs.Straight.{within-visible}
 use Rattle.mark_words.specs.Marks.{marked, words-of, leaves-of}
 use Rattle.mark_words.proofs.Words.{length-words, marked-words}
-use Rattle.mark_words.proofs.Leaves.{leaf-marked, leaf-range}
+use Rattle.mark_words.proofs.Leaves.{leaf-marked, leaf-range, marked-leaf}
 use Rattle.spec_calls.specs.Tables.{Book, lent-book}
 use Rattle.spec_calls.specs.Book.{group-words, groups, group-in-form?, book-in-form?, booked}
+use Rattle.spec_calls.specs.Calls.{group-numbered}
 use Rattle.spec_calls.specs.Demands.{LentBook}
 
 map-agree : {B : Type 0} (f g : ℕ → B) (l : List ℕ) → ((x : ℕ) → In x l → f x ≡ g x) → map f l ≡ map g l
@@ -88,6 +92,49 @@ pub group-form : (n : ℕ) (book : Book) (k : ℕ) → LentBook n book → k < b
 group-form n book k lent l =
     all-passed (λ j. group-in-form? n (group-words (book .words) j)) (numbers-from 0 (book .count)) .0 (form-parts n book lent .0) k
     (numbers-in 0 (book .count) k (omega arith) (omega arith))
+
+-- And has no hidden end bin.
+group-visible : (l : Layout) (n : ℕ) (book : Book) (k : ℕ) → LentBook n book → k < book .count → Visible l n (marked (group-words (book .words) k))
+group-visible l n book k lent m =
+    let words = group-words (book .words) k in
+    within-visible l n (marked words)
+    (λ x e. leb-true x n (all-passed (λ b. leb b n) (leaves-of words) .0 (group-form n book k lent m) x (marked-leaf words x e)))
+
+pub numbered-visible : (l : Layout) (n : ℕ) (book : Book) (k : ℕ) → LentBook n book → 1 ≤ k → k ≤ book .count → Visible l n (group-numbered (book .words) k)
+numbered-visible l n book k lent i m = group-visible l n book (k - 1) lent (omega arith)
+
+pub book-visible : (l : Layout) (n : ℕ) (book : Book) → LentBook n book → All (Visible l n) (map (group-numbered (book .words)) (numbers-from 1 (book .count)))
+book-visible l n book lent = go (numbers-from 1 (book .count)) (λ k i. let r = in-range 1 (book .count) k i in numbered-visible l n book k lent (r .0) (omega (arith, r .1)))
+  where
+    go : (ks : List ℕ) → ((k : ℕ) → In k ks → Visible l n (group-numbered (book .words) k)) → All (Visible l n) (map (group-numbered (book .words)) ks)
+    go [] h = tt
+    go (k ∷ ks) h = (h k (inl refl), go ks (λ j i. h j (inr i)))
+
+-- A group with a leaf above n: the book is not in form for n.
+pub outside-form : (n : ℕ) (book : Book) (k x : ℕ) → 384 ≤ length (book .words) → 1 ≤ k → k ≤ book .count → group-numbered (book .words) k x ≡ true → n < x
+    → book-in-form? n book ≡ false
+outside-form n book k x all i m g h =
+    false-if (book-in-form? n book)
+    (λ e. let words = group-words (book .words) (k - 1) in
+    let lent : LentBook n book = record { all-words = all; in-form = e } in
+    let low = leb-true x n (all-passed (λ b. leb b n) (leaves-of words) .0 (group-form n book (k - 1) lent (omega arith)) x (marked-leaf words x g)) in
+    omega arith)
+
+-- A book in form for n leaves is in form for more.
+pub form-more : (n m : ℕ) (book : Book) → n ≤ m → LentBook n book → LentBook m book
+unfolding book-in-form?
+form-more n m book h lent = record {
+  all-words = lent .all-words;
+  in-form = both Iff·rfl (both Iff·rfl Iff·rfl) .1 (and-both (leb (book .count) 96) _ (lent .in-form) .0, (groups-more, form-parts n book lent .1));
+}
+  where
+    groups-more : all-of (λ k. group-in-form? m (group-words (book .words) k)) (numbers-from 0 (book .count)) ≡ true
+    groups-more =
+        all-passed (λ k. group-in-form? m (group-words (book .words) k)) (numbers-from 0 (book .count)) .1
+        (λ k i. let words = group-words (book .words) k in
+        let fine = group-form n book k lent (omega (arith, in-range 0 (book .count) k i .1)) in
+        all-passed (λ b. leb b m) (leaves-of words) .1
+        (λ x j. le-leb x m (omega (arith, leb-true x n (all-passed (λ b. leb b n) (leaves-of words) .0 fine x j)))))
 
 -- The words of a group of leaves up to n are in form.
 words-form : (n : ℕ) (G : Restriction) → ((x : ℕ) → G x ≡ true → x ≤ n) → group-in-form? n (words-of 4 G) ≡ true

@@ -1,32 +1,35 @@
 -- The calls' definitions meet the second demand; and a list is refused by 5 or 6 just when it is not well formed.
-use mathlib.Core.Path.{_≡_, refl, sym, ap, subst}
+use mathlib.Core.Path.{_≡_, refl, sym, _∙_, ap, subst}
 use mathlib.Core.Logic.{_↔_, _≢_}
 use mathlib.Core.Bool.{Bool, true, false, cond, _||_, true≢false}
 use mathlib.Core.Option.{Option, none, some}
 use mathlib.Core.List.{List, [], _∷_, _++_}
 use Prim.Native.Nat.{ℕ, suc, _+_, _≤_, _<_}
-use native.Mathlib.Nat.{pos-of-ne-zero}
+use native.Mathlib.Nat.{add-zero, zero-add, pos-of-ne-zero}
 use native.Mathlib.Omega.{arith}
-use borrow.Author.Tests.{ne-eqb, le-ltb, eqb-false, ltb-false}
+use borrow.Author.Tests.{ne-eqb, lt-ltb, le-ltb, eqb-false, ltb-false}
 use lib.Dec.{eqb, ltb}
 use lib.ListN.{length, take, drop}
 use lib.Seq.{take-append-seam}
 use Rattle.spec_orders.specs.Lists.{All, Distinct, elem}
+use Rattle.spec_orders.specs.declared.Layout.{Layout}
+use Rattle.spec_orders.specs.declared.Layout.the-variants.{Ring, Rack}
 use Rattle.spec_orders.specs.CircularOrder.{Restriction, WellFormed, group-of}
+use Rattle.spec_orders.specs.Layout.{leaf-count, Visible}
 use Rattle.spec_orders.specs.Tree.{Forest}
-use Rattle.spec_orders.specs.Form.{InForm, FirstOf, StandardOrder, standard}
+use Rattle.spec_orders.specs.Form.{InForm, FirstOf, StandardOrder}
 use Rattle.spec_orders.specs.Join.{join}
+use Rattle.spec_orders.specs.SeenFrom.{standard-on}
 use Rattle.spec_orders.proofs.Tests.{or-neither}
-use Rattle.spec_orders.proofs.StandardOrders.{standard-is}
-use Rattle.spec_orders.proofs.TextTree.{form-length}
-use Rattle.spec_orders.proofs.Joining.{join-none, join-some}
-use Rattle.spec_calls.specs.declared.Refusal.the-variants.{RingSize, ShortTable, OutsideRing, Repeated, Impossible}
+use Rattle.spec_orders.proofs.Members.{all-in, in-all}
+use Rattle.spec_orders.proofs.Straight.{standard-first, standard-length, named-visible, joins-none, joins-some}
+use Rattle.spec_calls.specs.declared.Refusal.the-variants.{RingSize, RackSize, ShortTable, OutsideRing, Repeated, Impossible}
 use Rattle.spec_calls.specs.Tables.{Nodes, leaves, Book, over}
 use Rattle.spec_calls.specs.Book.{with-group}
 use Rattle.spec_calls.specs.NodeTable.{held-tree}
-use Rattle.spec_calls.specs.Refusals.{Reply, reply, refuse, first-refusal, bad-size, short, short-nodes, bad-leaf, bad-list}
+use Rattle.spec_calls.specs.Refusals.{Reply, reply, refuse, first-refusal, bad-size, full-rack, short, short-nodes, bad-leaf, bad-list}
 use Rattle.spec_calls.specs.Calls.{filled-as, is-none, table-checks, joined-tree, join-refusal, joined, join-call, order-refusal, order-call}
-use Rattle.spec_calls.specs.Demands.{LentTree, LentBook, Joins}
+use Rattle.spec_calls.specs.Demands.{LentWhole, LentTree, LentBook, Joins}
 use Rattle.spec_calls.proofs.NodeTables.{tree-in-holds, over-holds}
 use Rattle.spec_calls.proofs.Checks.{first-refusal-passed}
 
@@ -88,31 +91,82 @@ leaves-are n seen k (b ∷ l) e = go (leaves-are n (b ∷ seen) (suc k) l) (eqb 
 pub passes-iff : (n : ℕ) (l : List ℕ) → (bad-list n l ≡ none) ↔ WellFormed n l
 passes-iff n l = (λ e. let f = leaves-are n [] 0 l e in record { in-range = f .0; different = f .1 }, well-formed-passes n l)
 
--- ---- checks 1 and 2
+pub well-formed-more : (n m : ℕ) (l : List ℕ) → n ≤ m → WellFormed n l → WellFormed m l
+well-formed-more n m l h w = record {
+  in-range = in-all (λ b. (1 ≤ b) × (b ≤ m)) l (λ b i. let r = all-in (λ b. (1 ≤ b) × (b ≤ n)) b l (w .in-range) i in (r .0, omega (arith, r .1)));
+  different = w .different;
+}
 
-pub size-fine : (n : ℕ) → 1 ≤ n → n ≤ 256 → bad-size n ≡ false
-size-fine n l m = rw (ne-eqb n 0 (λ e. omega arith), le-ltb 256 n m)
+-- A number above n behind a well-formed list: 5, at its place.
+outside-from : (n : ℕ) (seen : List ℕ) (k : ℕ) (l : List ℕ) (b : ℕ) (after : List ℕ) → All (λ b. (1 ≤ b) × (b ≤ n)) l → Distinct l → New seen l → n < b
+    → bad-leaf n seen k (l ++ (b ∷ after)) ≡ some (OutsideRing (k + length l))
+unfolding bad-leaf
+outside-from n seen k [] b after r d a h = rw (ne-eqb b 0 (λ e. omega arith), lt-ltb n b h) (ap (λ p. some (OutsideRing p)) (sym (add-zero k)))
+outside-from n seen k (x ∷ l) b after r d a h =
+    let place : suc k + length l ≡ k + length (x ∷ l) = omega arith in
+    rw (ne-eqb x 0 (λ e. omega (arith, r .0 .0)), le-ltb n x (r .0 .1), a .0)
+    (outside-from n (x ∷ seen) (suc k) l b after (r .1) (d .1) (new-more seen x l (a .1) (d .0)) h ∙ ap (λ p. some (OutsideRing p)) place)
+
+pub outside-at : (n : ℕ) (before : List ℕ) (b : ℕ) (after : List ℕ) → WellFormed n before → n < b → bad-list n (before ++ (b ∷ after)) ≡ some (OutsideRing (length before))
+outside-at n before b after w h =
+    outside-from n [] 0 before b after (w .in-range) (w .different) (new-none before) h ∙ ap (λ p. some (OutsideRing p)) (zero-add (length before))
+
+-- ---- checks 1, 15 and 2
+
+pub few-bins : (l : Layout) (n : ℕ) → leaf-count l n ≤ 256 → n ≤ 256
+few-bins Ring n h = h
+few-bins Rack n h = omega arith
+
+pub size-fine : (l : Layout) (n : ℕ) → 1 ≤ n → leaf-count l n ≤ 256 → bad-size n ≡ false
+size-fine l n m few = rw (ne-eqb n 0 (λ e. omega arith), le-ltb 256 n (few-bins l n few))
+
+pub rack-fine : (l : Layout) (n : ℕ) → leaf-count l n ≤ 256 → full-rack l n ≡ false
+rack-fine Ring n few = refl
+rack-fine Rack n few = ne-eqb n 256 (λ e. omega arith)
 
 pub nodes-fine : (nodes : Nodes) → 256 ≤ nodes .records → 65792 ≤ length (nodes .rows) → short-nodes nodes ≡ false
 nodes-fine nodes l m = rw (le-ltb (nodes .records) 256 l, le-ltb (length (nodes .rows)) 65792 m)
 
-pub size-whole : (n : ℕ) → bad-size n ≡ false → (1 ≤ n) × (n ≤ 256)
-size-whole n e = let r = or-neither (eqb n 0) (ltb 256 n) e in (pos-of-ne-zero (eqb-false n 0 (r .0)), ltb-false 256 n (r .1))
+-- A node table lent whole passes them.
+pub whole-size : {nodes : Nodes} → LentWhole nodes → bad-size (nodes .bins) ≡ false
+whole-size {nodes} w = size-fine (nodes .layout) (nodes .bins) (w .some-bin) (w .few-leaves)
+
+pub whole-rack : {nodes : Nodes} → LentWhole nodes → full-rack (nodes .layout) (nodes .bins) ≡ false
+whole-rack {nodes} w = rack-fine (nodes .layout) (nodes .bins) (w .few-leaves)
+
+pub whole-nodes : {nodes : Nodes} → LentWhole nodes → short-nodes nodes ≡ false
+whole-nodes {nodes} w = nodes-fine nodes (w .all-records) (w .all-rows)
+
+-- And what passes them is whole.
+leaves-few : (l : Layout) (n : ℕ) → n ≤ 256 → full-rack l n ≡ false → leaf-count l n ≤ 256
+leaves-few Ring n m e = m
+leaves-few Rack n m e = lt-of-ne (eqb-false n 256 e) m
+  where
+    lt-of-ne : n ≢ 256 → n ≤ 256 → suc n ≤ 256
+    lt-of-ne h m = omega (arith, h)
+
+pub size-whole : (l : Layout) (n : ℕ) → bad-size n ≡ false → full-rack l n ≡ false → (1 ≤ n) × (leaf-count l n ≤ 256)
+size-whole l n e r =
+    let s = or-neither (eqb n 0) (ltb 256 n) e in
+    (pos-of-ne-zero (eqb-false n 0 (s .0)), leaves-few l n (ltb-false 256 n (s .1)) r)
 
 pub nodes-whole : (nodes : Nodes) → short-nodes nodes ≡ false → (256 ≤ nodes .records) × (65792 ≤ length (nodes .rows))
 nodes-whole nodes e =
     let r = or-neither (ltb (nodes .records) 256) (short 65792 (nodes .rows)) e in
     (ltb-false (nodes .records) 256 (r .0), ltb-false (length (nodes .rows)) 65792 (r .1))
 
--- Where none of them refuses; `other`: another lent table is too short.
-pub tables-whole : (nodes : Nodes) (other : Bool) → first-refusal (table-checks nodes other) ≡ none
-    → (1 ≤ nodes .bins) × (nodes .bins ≤ 256) × (256 ≤ nodes .records) × (65792 ≤ length (nodes .rows)) × (other ≡ false)
+pub lent-whole : (nodes : Nodes) → bad-size (nodes .bins) ≡ false → full-rack (nodes .layout) (nodes .bins) ≡ false → short-nodes nodes ≡ false → LentWhole nodes
+lent-whole nodes size rack rows =
+    let s = size-whole (nodes .layout) (nodes .bins) size rack in
+    let r = nodes-whole nodes rows in
+    record { some-bin = s .0; few-leaves = s .1; all-records = r .0; all-rows = r .1 }
+
+-- `other`: another lent table is too short.
+pub tables-whole : (nodes : Nodes) (other : Bool) → first-refusal (table-checks nodes other) ≡ none → LentWhole nodes × (other ≡ false)
 tables-whole nodes other e =
-    let p = first-refusal-passed ((bad-size (nodes .bins), RingSize) ∷ (short-nodes nodes || other, ShortTable) ∷ []) e in
-    let tables = or-neither (short-nodes nodes) other (p .1 .0) in
-    let size = size-whole (nodes .bins) (p .0) in
-    let rows = nodes-whole nodes (tables .0) in
-    (size .0, size .1, rows .0, rows .1, tables .1)
+    let p = first-refusal-passed ((bad-size (nodes .bins), RingSize) ∷ (full-rack (nodes .layout) (nodes .bins), RackSize) ∷ (short-nodes nodes || other, ShortTable) ∷ []) e in
+    let tables = or-neither (short-nodes nodes) other (p .1 .1 .0) in
+    (lent-whole nodes (p .0) (p .1 .0) (tables .0), tables .1)
 
 -- ---- joining
 
@@ -132,8 +186,9 @@ module _ (nodes : Nodes) (book : Book) (list : List ℕ) (t : Forest) (h : LentT
   unfolding join-refusal
   the-refusal =
       rw (
-        size-fine (nodes .bins) (h .whole .some-leaf) (h .whole .few-leaves),
-        nodes-fine nodes (h .whole .all-records) (h .whole .all-rows),
+        whole-size (h .whole),
+        whole-rack (h .whole),
+        whole-nodes (h .whole),
         le-ltb (length (book .words)) 384 (b .all-words),
         lent-held nodes t h,
         b .in-form,
@@ -154,56 +209,67 @@ module _ (nodes : Nodes) (book : Book) (list : List ℕ) (t : Forest) (h : LentT
       by-answer none q = absurd (q refl)
       by-answer (some u) q = (refl, refl)
 
-  pub join-meets : Joins (leaves nodes) (group-of (nodes .bins) list) t (join-call nodes book list .answer) (join-call nodes book list .rows)
+  pub join-meets : Joins (nodes .layout) (nodes .bins) (group-of (nodes .bins) list) t (join-call nodes book list .answer) (join-call nodes book list .rows)
   unfolding join-call joined
   join-meets = rw (the-refusal, the-joined) (by-answer (join G t) refl)
     where
+      l : Layout
+      l = nodes .layout
+
       n : ℕ
-      n = leaves nodes
+      n = nodes .bins
 
       G : Restriction
       G = group-of n list
 
-      t-form : InForm n t
+      visible : Visible l n G
+      visible = named-visible l n list (w .in-range)
+
+      t-form : InForm (leaf-count l n) t
       t-form = h .tree .in-form
 
       by-answer : (o : Option Forest) → join G t ≡ o
-          → Joins n G t (joined (first-refusal (refuse (is-none o) Impossible ∷ [])) o nodes book list .answer) (joined (first-refusal (refuse (is-none o) Impossible ∷ [])) o nodes book list .rows)
-      by-answer none e = record { impossible = (λ q. join-none n G t t-form .0 e, λ q. refl); otherwise = λ q. absurd (q refl) }
+          → Joins l n G t (joined (first-refusal (refuse (is-none o) Impossible ∷ [])) o nodes book list .answer) (joined (first-refusal (refuse (is-none o) Impossible ∷ [])) o nodes book list .rows)
+      by-answer none e = record { impossible = (λ q. joins-none l n G t (h .whole .some-bin) t-form visible .0 e, λ q. refl); otherwise = λ q. absurd (q refl) }
       by-answer (some u) e =
-          let j = join-some n G t u t-form e in
+          let j = joins-some l n G t (h .whole .some-bin) t-form visible u e in
+          let first = first-among (j .2) (j .1) in
           record {
-            impossible = (λ q. absurd (omega (arith, ap (λ (s : Reply). s .number) q)), λ q. absurd (q (standard u) (j .orders (standard u) .0 (j .standard-first .allowed) .0) (j .orders (standard u) .0 (j .standard-first .allowed) .1)));
+            impossible = (λ q. absurd (omega (arith, ap (λ (s : Reply). s .number) q)), λ q. absurd (q (standard-on l n u) (first .allowed .0) (first .allowed .1)));
             otherwise = λ q. record {
               new = u;
-              held = over-holds n u (nodes .rows) (j .form) (h .whole .few-leaves);
-              orders = j .orders;
-              first = first-among (j .standard-first) (j .orders);
+              held = over-holds (leaf-count l n) u (nodes .rows) (j .0) (h .whole .few-leaves);
+              orders = j .1;
+              first = first;
             };
           }
 
 -- ---- the standard order
 
 pub order-done : (nodes : Nodes) (order : List ℕ) (t : Forest) → LentTree nodes t → nodes .bins ≤ length order
-    → order-call nodes order ≡ filled-as (reply 0 (nodes .bins)) (over (standard t) order)
+    → order-call nodes order ≡ filled-as (reply 0 (nodes .bins)) (over (standard-on (nodes .layout) (nodes .bins) t) order)
 unfolding order-call order-refusal
 order-done nodes order t h l =
     rw (
-      size-fine (nodes .bins) (h .whole .some-leaf) (h .whole .few-leaves),
-      nodes-fine nodes (h .whole .all-records) (h .whole .all-rows),
+      whole-size (h .whole),
+      whole-rack (h .whole),
+      whole-nodes (h .whole),
       le-ltb (length order) (nodes .bins) l,
       lent-held nodes t h,
     )
 
 pub order-meets : (nodes : Nodes) (order : List ℕ) (t : Forest) → LentTree nodes t → nodes .bins ≤ length order
-    → StandardOrder t (take (nodes .bins) (order-call nodes order .table))
-order-meets nodes order t h l = rw (order-done nodes order t h l) (subst (StandardOrder t) (sym whole) (standard-is n t (h .tree .in-form)))
+    → StandardOrder (nodes .layout) (nodes .bins) t (take (nodes .bins) (order-call nodes order .table))
+order-meets nodes order t h m = rw (order-done nodes order t h m) (subst (StandardOrder l n t) (sym whole) (standard-first l n t (h .whole .some-bin) (h .tree .in-form)))
   where
+    l : Layout
+    l = nodes .layout
+
     n : ℕ
     n = nodes .bins
 
-    many : length (standard t) ≡ n
-    many = omega (arith, form-length n t (h .tree .in-form), h .whole .some-leaf)
+    ord : List ℕ
+    ord = standard-on l n t
 
-    whole : take n (standard t ++ drop (length (standard t)) order) ≡ standard t
-    whole = subst (λ k. take k (standard t ++ drop (length (standard t)) order) ≡ standard t) many (take-append-seam (standard t) (drop (length (standard t)) order))
+    whole : take n (ord ++ drop (length ord) order) ≡ ord
+    whole = subst (λ k. take k (ord ++ drop (length ord) order) ≡ ord) (standard-length l n t (h .whole .some-bin) (h .tree .in-form)) (take-append-seam ord (drop (length ord) order))

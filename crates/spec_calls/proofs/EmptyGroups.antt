@@ -10,25 +10,26 @@ use borrow.Author.Tests.{eq-eqb, eqb-true, le-ltb}
 use lib.Dec.{eqb}
 use lib.ListN.{length, take, drop, replicate, length-take, length-drop, take-append-drop}
 use lib.Seq.{take-take, drop-drop}
+use Rattle.spec_orders.specs.declared.Layout.{Layout}
 use Rattle.spec_orders.specs.Lists.{all-of}
 use Rattle.spec_orders.specs.CircularOrder.{Restriction, group-of, EmptyGroup}
 use Rattle.spec_orders.specs.Tree.{Forest}
-use Rattle.spec_orders.specs.Conflict.{ring-conflicts}
+use Rattle.spec_orders.specs.Conflict.{book-conflicts}
 use Rattle.spec_orders.proofs.Joining.{empty-joins}
 use Rattle.spec_orders.proofs.EmptyGroups.{conflicts-joined}
 use Rattle.spec_orders.proofs.Tests.{and-both}
 use Rattle.mark_words.specs.Marks.{marked, no-leaf}
 use Rattle.mark_words.proofs.Words.{no-words, empty-words}
 use Rattle.mark_words.proofs.Leaves.{marked-list}
-use Rattle.spec_calls.specs.Tables.{Nodes, Book, lent-book}
+use Rattle.spec_calls.specs.Tables.{Nodes, leaves, Book, lent-book}
 use Rattle.spec_calls.specs.Book.{group-words, booked}
 use Rattle.spec_calls.specs.declared.Refusal.the-variants.{BookFull}
 use Rattle.spec_calls.specs.Refusals.{reply}
-use Rattle.spec_calls.specs.Calls.{ring, unchanged, join-refusal, joined, join-call, group-numbered, conflict-refusal, conflicts-of, conflict-call}
+use Rattle.spec_calls.specs.Calls.{changed-as, unchanged, join-refusal, joined, join-call, group-numbered, conflict-refusal, conflicts-of, conflict-call}
 use Rattle.spec_calls.specs.Demands.{LentTree, LentBook}
 use Rattle.spec_calls.proofs.NodeTables.{over-same}
 use Rattle.spec_calls.proofs.Books.{form-parts, booked-form}
-use Rattle.spec_calls.proofs.Demands.{empty-well-formed, well-formed-passes, size-fine, nodes-fine, lent-held, the-joined, the-refusal}
+use Rattle.spec_calls.proofs.Demands.{empty-well-formed, well-formed-passes, whole-size, whole-rack, whole-nodes, lent-held, the-joined, the-refusal}
 
 zeros-first : (k : ℕ) (l : List ℕ) → all-of (eqb 0) l ≡ true → k ≤ length l → take k l ≡ replicate k 0
 zeros-first zero l e h = refl
@@ -71,12 +72,12 @@ next-in-form n book lent place-left =
 
 -- What joining an empty group returns, and leaves: the count rises, and the tables are as they were.
 pub join-empty : (nodes : Nodes) (book : Book) (t : Forest) → LentTree nodes t → LentBook (nodes .bins) book → book .count < 96
-    → join-call nodes book [] ≡ ring (reply 0 (book .count + 1)) (nodes .rows) book
+    → join-call nodes book [] ≡ changed-as (reply 0 (book .count + 1)) (nodes .rows) book
 unfolding join-call joined
 join-empty nodes book t h b place-left =
     let none : EmptyGroup (group-of (nodes .bins) []) = λ x. refl in
     rw (the-refusal nodes book [] t h b place-left (empty-well-formed (nodes .bins)), the-joined nodes book [] t h b place-left (empty-well-formed (nodes .bins)), empty-joins (group-of (nodes .bins) []) t none (h .tree .in-form .single))
-    (ap₂ (λ (rows words : List ℕ). ring (reply 0 (book .count + 1)) rows (lent-book words (book .count))) (over-same (nodes .bins) t (nodes .rows) (h .whole .few-leaves) (h .tree)) (booked-empty (nodes .bins) book (group-of (nodes .bins) []) b place-left none))
+    (ap₂ (λ (rows words : List ℕ). changed-as (reply 0 (book .count + 1)) rows (lent-book words (book .count))) (over-same (leaves nodes) t (nodes .rows) (h .whole .few-leaves) (h .tree)) (booked-empty (nodes .bins) book (group-of (nodes .bins) []) b place-left none))
 
 -- Where there is no place, 7 is the answer.
 pub join-empty-full : (nodes : Nodes) (book : Book) (t : Forest) → LentTree nodes t → LentBook (nodes .bins) book → book .count ≡ 96
@@ -84,8 +85,9 @@ pub join-empty-full : (nodes : Nodes) (book : Book) (t : Forest) → LentTree no
 unfolding join-call join-refusal joined
 join-empty-full nodes book t h b full =
     rw (
-      size-fine (nodes .bins) (h .whole .some-leaf) (h .whole .few-leaves),
-      nodes-fine nodes (h .whole .all-records) (h .whole .all-rows),
+      whole-size (h .whole),
+      whole-rack (h .whole),
+      whole-nodes (h .whole),
       le-ltb (length (book .words)) 384 (b .all-words),
       lent-held nodes t h,
       b .in-form,
@@ -94,16 +96,16 @@ join-empty-full nodes book t h b full =
     )
 
 -- One in the book's next place changes no conflict list, and no conflict call.
-list-joined : (n : ℕ) (book : Book) (new : Restriction) → EmptyGroup (group-numbered (book .words) (book .count + 1))
-    → conflicts-of n (lent-book (book .words) (book .count + 1)) new ≡ conflicts-of n book new
+list-joined : (l : Layout) (n : ℕ) (book : Book) (new : Restriction) → EmptyGroup (group-numbered (book .words) (book .count + 1))
+    → conflicts-of l n (lent-book (book .words) (book .count + 1)) new ≡ conflicts-of l n book new
 unfolding conflicts-of
-list-joined n book new h =
+list-joined l n book new h =
     let e : book .count + 1 ≡ suc (book .count) = omega arith in
-    ap (λ (k : ℕ). ring-conflicts n (group-numbered (book .words)) k new) e
-    ∙ conflicts-joined n (group-numbered (book .words)) (book .count) new (subst (λ (k : ℕ). EmptyGroup (group-numbered (book .words) k)) e h)
+    ap (λ (k : ℕ). book-conflicts l n (group-numbered (book .words)) k new) e
+    ∙ conflicts-joined l n (group-numbered (book .words)) (book .count) new (subst (λ (k : ℕ). EmptyGroup (group-numbered (book .words) k)) e h)
 
-pub conflict-joined : (n : ℕ) (book : Book) → LentBook n book → book .count < 96 → (list conflicts : List ℕ)
-    → conflict-call n (lent-book (book .words) (book .count + 1)) list conflicts ≡ conflict-call n book list conflicts
+pub conflict-joined : (l : Layout) (n : ℕ) (book : Book) → LentBook n book → book .count < 96 → (list conflicts : List ℕ)
+    → conflict-call l n (lent-book (book .words) (book .count + 1)) list conflicts ≡ conflict-call l n book list conflicts
 unfolding conflict-call conflict-refusal
-conflict-joined n book lent place-left list conflicts =
-    rw (lent .in-form, next-in-form n book lent place-left .in-form, list-joined n book (group-of n list) (next-empty n book lent place-left))
+conflict-joined l n book lent place-left list conflicts =
+    rw (lent .in-form, next-in-form n book lent place-left .in-form, list-joined l n book (group-of n list) (next-empty n book lent place-left))

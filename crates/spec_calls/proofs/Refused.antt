@@ -17,11 +17,11 @@ use Rattle.spec_calls.specs.declared.Refusal.{Refusal}
 use Rattle.spec_calls.specs.declared.Refusal.the-variants.{OutsideRing, Repeated}
 use Rattle.spec_calls.specs.Tables.{Nodes, Book}
 use Rattle.spec_calls.specs.Refusals.{bad-leaf}
-use Rattle.spec_calls.specs.Calls.{Ring, filled, opened, open-refusal, open-call, joined, join-refusal, joined-tree, join-call, read-outcome, ReadCall, unread, read}
+use Rattle.spec_calls.specs.Calls.{Changed, filled, opened, open-refusal, open-call, joined, join-refusal, joined-tree, join-call, read-outcome, ReadCall, unread, read}
 use Rattle.spec_calls.proofs.Demands.{Fine, fine-more}
 
 -- "Left as it was: every table."
-abbrev pub Keeps : Ring → Nodes → Book → Type 0
+abbrev pub Keeps : Changed → Nodes → Book → Type 0
 Keeps x nodes book = x .answer .number ≢ 0 → (x .rows ≡ nodes .rows) × (x .book ≡ book)
 
 opened-keeps : (o : Option Refusal) (nodes : Nodes) (book : Book) → Keeps (opened o nodes book) nodes book
@@ -47,7 +47,7 @@ unfolding read-outcome
 read-keeps (Found.refused p) nodes book e = (refl, refl)
 read-keeps (Found.tree t) nodes book e = absurd (e refl)
 
-pub read-call-keeps : (nodes : Nodes) (book : Book) (text : List ℕ) (x : Ring) → ReadCall nodes book text x → Keeps x nodes book
+pub read-call-keeps : (nodes : Nodes) (book : Book) (text : List ℕ) (x : Changed) → ReadCall nodes book text x → Keeps x nodes book
 read-call-keeps nodes book text x (unread p) e = (refl, refl)
 read-call-keeps nodes book text x (read {f} p q) e = read-keeps f nodes book e
 

@@ -6,7 +6,7 @@ use Prim.Native.Nat.{ℕ}
 use native.Mathlib.Omega.{arith}
 use lib.Dec.{eqb}
 use Rattle.spec_calls.specs.declared.Refusal.{Refusal}
-use Rattle.spec_calls.specs.declared.Refusal.the-variants.{RingSize, ShortTable, NotInForm, OutsideRing, Repeated, BookFull, Impossible, NoSuchGroup, NotConsecutive, RingFile, TreeText, BinCounts, NoAim}
+use Rattle.spec_calls.specs.declared.Refusal.the-variants.{RingSize, ShortTable, NotInForm, OutsideRing, Repeated, BookFull, Impossible, NoSuchGroup, NotConsecutive, RingFile, TreeText, BinCounts, NoAim, RackSize}
 use Rattle.spec_calls.specs.declared.Answer.{Answer}
 use Rattle.spec_calls.specs.declared.Answer.the-variants.{Done, Refused}
 use Rattle.spec_calls.specs.Refusals.{Reply, reply, reported, report}
@@ -16,7 +16,8 @@ abbrev refusal-of : ℕ → ℕ → Refusal
 refusal-of r v =
     cond (eqb r 2) ShortTable (cond (eqb r 3) NotInForm (cond (eqb r 5) (OutsideRing v) (cond (eqb r 6) (Repeated v)
     (cond (eqb r 7) BookFull (cond (eqb r 8) Impossible (cond (eqb r 9) NoSuchGroup (cond (eqb r 10) NotConsecutive
-    (cond (eqb r 11) (RingFile v) (cond (eqb r 12) (TreeText v) (cond (eqb r 13) BinCounts (cond (eqb r 14) NoAim RingSize)))))))))))
+    (cond (eqb r 11) (RingFile v) (cond (eqb r 12) (TreeText v) (cond (eqb r 13) BinCounts (cond (eqb r 14) NoAim
+    (cond (eqb r 15) RackSize RingSize))))))))))))
 
 abbrev answer-of : Reply → Answer
 answer-of s = cond (eqb (s .number) 0) (Done (s .value)) (Refused (refusal-of (s .number) (s .value)))
@@ -35,6 +36,7 @@ refused-back (RingFile p) = refl
 refused-back (TreeText p) = refl
 refused-back BinCounts = refl
 refused-back NoAim = refl
+refused-back RackSize = refl
 
 answer-back : (a : Answer) → answer-of (report a) ≡ a
 answer-back (Done v) = refl
@@ -58,6 +60,7 @@ neither (RingFile p) = (λ e. omega arith, λ e. omega arith)
 neither (TreeText p) = (λ e. omega arith, λ e. omega arith)
 neither BinCounts = (λ e. omega arith, λ e. omega arith)
 neither NoAim = (λ e. omega arith, λ e. omega arith)
+neither RackSize = (λ e. omega arith, λ e. omega arith)
 
 pub refused-number : (why : Refusal) → reported why .number ≢ 0
 refused-number why = neither why .0

@@ -7,34 +7,35 @@ use mathlib.Core.List.{List, [], _∷_, _++_}
 use Prim.Native.Nat.{ℕ, _+_, _-_}
 use lib.Dec.{eqb, ltb}
 use lib.ListN.{length}
+use Rattle.spec_orders.specs.declared.Layout.{Layout}
 use Rattle.spec_orders.specs.CircularOrder.{Restriction, group-of}
 use Rattle.spec_orders.specs.Tree.{Forest}
-use Rattle.spec_orders.specs.Form.{standard}
 use Rattle.spec_orders.specs.TreeText.{tree-text, Found, tree, refused, Reads}
 use Rattle.spec_orders.specs.Join.{fresh, join, then}
-use Rattle.spec_orders.specs.Conflict.{consecutive?, ring-conflicts}
+use Rattle.spec_orders.specs.SeenFrom.{standard-on}
+use Rattle.spec_orders.specs.Conflict.{consecutive-on?, book-conflicts}
 use Rattle.spec_orders.specs.Aim.{aim-of}
 use Rattle.spec_intersection.specs.Intersection.{intersection}
 use Rattle.mark_words.specs.Marks.{marked, no-mark?}
 use Rattle.spec_calls.specs.declared.Refusal.{Refusal}
-use Rattle.spec_calls.specs.declared.Refusal.the-variants.{RingSize, ShortTable, NotInForm, BookFull, Impossible, NoSuchGroup, NoAim, NotConsecutive, TreeText, BinCounts}
+use Rattle.spec_calls.specs.declared.Refusal.the-variants.{RingSize, ShortTable, NotInForm, BookFull, Impossible, NoSuchGroup, NoAim, NotConsecutive, TreeText, BinCounts, RackSize}
 use Rattle.spec_calls.specs.Tables.{Nodes, leaves, Book, over, padded}
 use Rattle.spec_calls.specs.Book.{group-words, book-in-form?, with-group, without-groups}
 use Rattle.spec_calls.specs.NodeTable.{table-of, held-tree}
-use Rattle.spec_calls.specs.Refusals.{Reply, reply, reported, refuse, first-refusal, bad-size, short, short-nodes, bad-list}
+use Rattle.spec_calls.specs.Refusals.{Reply, reply, reported, refuse, first-refusal, bad-size, full-rack, size-checks, short, short-nodes, other-bins, bad-list}
 
--- A call that may change a ring's tables: what it returns, and the rows and the book afterwards.
-pub record Ring : Type 0 where
+-- A call that may change a ring's or a rack's tables: what it returns, and the rows and the book afterwards.
+pub record Changed : Type 0 where
   pub answer : Reply
   pub rows : List ℕ
   pub book : Book
 
-abbrev pub ring : Reply → List ℕ → Book → Ring
-ring answer rows book = record { answer = answer; rows = rows; book = book }
+abbrev pub changed-as : Reply → List ℕ → Book → Changed
+changed-as answer rows book = record { answer = answer; rows = rows; book = book }
 
 -- A refusal, and both tables as they were.
-abbrev pub unchanged : Refusal → Nodes → Book → Ring
-unchanged r nodes book = ring (reported r) (nodes .rows) book
+abbrev pub unchanged : Refusal → Nodes → Book → Changed
+unchanged r nodes book = changed-as (reported r) (nodes .rows) book
 
 -- A call that fills one table: what it returns, and the table afterwards.
 pub record Filled : Type 0 where
@@ -48,9 +49,9 @@ abbrev pub is-none : {A : Type 0} → Option A → Bool
 is-none none = true
 is-none (some x) = false
 
--- Checks 1 and 2 of a call that is lent a node table, where `other` says that another lent table is too short.
+-- Checks 1, 15 and 2 of a call that is lent a node table, where `other` says that another lent table is too short.
 abbrev pub table-checks : Nodes → Bool → List (Option Refusal)
-table-checks nodes other = refuse (bad-size (nodes .bins)) RingSize ∷ refuse (short-nodes nodes || other) ShortTable ∷ []
+table-checks nodes other = size-checks (nodes .layout) (nodes .bins) ++ (refuse (short-nodes nodes || other) ShortTable ∷ [])
 
 -- And 3, of a call that reads the node table; of one that reads the node table and the book.
 abbrev pub tree-checks : Nodes → Bool → List (Option Refusal)
@@ -65,18 +66,18 @@ abbrev pub with-tree : Option Forest → List ℕ → List ℕ
 with-tree none rows = rows
 with-tree (some t) rows = over (table-of t) rows
 
--- Opening: checks 1 and 2; the fresh ring, an empty book. Answers the count of the book's groups, 0.
+-- Opening: checks 1, 15 and 2; the fresh ring, of a rack its ring of n + 1 bins, and an empty book. Answers the count of the book's groups, 0.
 unfoldable pub open-refusal : Nodes → Book → Option Refusal
 open-refusal nodes book = first-refusal (table-checks nodes (short 384 (book .words)))
 
-unfoldable pub opened : Option Refusal → Nodes → Book → Ring
+unfoldable pub opened : Option Refusal → Nodes → Book → Changed
 opened (some r) nodes book = unchanged r nodes book
-opened none nodes book = ring (reply 0 0) (over (table-of (fresh (leaves nodes))) (nodes .rows)) (without-groups book)
+opened none nodes book = changed-as (reply 0 0) (over (table-of (fresh (leaves nodes))) (nodes .rows)) (without-groups book)
 
-unfoldable pub open-call : Nodes → Book → Ring
+unfoldable pub open-call : Nodes → Book → Changed
 open-call nodes book = opened (open-refusal nodes book) nodes book
 
--- Joining: checks 1 to 3 and 5 to 8. The tree with the group joined to it.
+-- Joining: checks 1, 15, 2, 3 and 5 to 8. The tree with the group joined to it.
 unfoldable pub joined-tree : Nodes → List ℕ → Option Forest
 joined-tree nodes list = then (held-tree nodes) (join (group-of (nodes .bins) list))
 
@@ -87,19 +88,19 @@ join-refusal nodes book list =
     ++ (bad-list (nodes .bins) list ∷ refuse (eqb (book .count) 96) BookFull ∷ refuse (is-none (joined-tree nodes list)) Impossible ∷ []))
 
 -- "The accepted group takes the next book place in every case." Answers the new count of the book's groups.
-unfoldable pub joined : Option Refusal → Option Forest → Nodes → Book → List ℕ → Ring
+unfoldable pub joined : Option Refusal → Option Forest → Nodes → Book → List ℕ → Changed
 joined (some r) t nodes book list = unchanged r nodes book
 joined none t nodes book list =
-    ring (reply 0 (book .count + 1)) (with-tree t (nodes .rows)) (with-group book (group-of (nodes .bins) list))
+    changed-as (reply 0 (book .count + 1)) (with-tree t (nodes .rows)) (with-group book (group-of (nodes .bins) list))
 
-unfoldable pub join-call : Nodes → Book → List ℕ → Ring
+unfoldable pub join-call : Nodes → Book → List ℕ → Changed
 join-call nodes book list = joined (join-refusal nodes book list) (joined-tree nodes list) nodes book list
 
 -- "A trial answers as joining would and changes nothing."
 unfoldable pub trial-call : Nodes → Book → List ℕ → Reply
 trial-call nodes book list = join-call nodes book list .answer
 
--- A call that fills one table from a ring's tree: its answer and what it writes, or the table as it was.
+-- A call that fills one table from a lent tree: its answer and what it writes, or the table as it was.
 abbrev pub filled : Option Refusal → ℕ → List ℕ → List ℕ → Filled
 filled (some r) value xs table = filled-as (reported r) table
 filled none value xs table = filled-as (reply 0 value) (over xs table)
@@ -108,14 +109,14 @@ abbrev pub of-tree : Option Forest → (Forest → List ℕ) → List ℕ
 of-tree none f = []
 of-tree (some t) f = f t
 
--- The standard order: checks 1, 2 (n places for the order), 3. Answers n.
+-- The standard order: checks 1, 15, 2 (n places for the order), 3. Answers n.
 unfoldable pub order-refusal : Nodes → List ℕ → Option Refusal
 order-refusal nodes order = first-refusal (tree-checks nodes (short (nodes .bins) order))
 
 unfoldable pub order-call : Nodes → List ℕ → Filled
-order-call nodes order = filled (order-refusal nodes order) (nodes .bins) (of-tree (held-tree nodes) standard) order
+order-call nodes order = filled (order-refusal nodes order) (nodes .bins) (of-tree (held-tree nodes) (standard-on (nodes .layout) (nodes .bins))) order
 
--- The tree text, written: checks 1, 2 (2,048 bytes), 3. Answers the length.
+-- The tree text, written: checks 1, 15, 2 (2,048 bytes), 3. Of a rack it is that of its ring of n + 1 bins. Answers the length.
 unfoldable pub write-refusal : Nodes → List ℕ → Option Refusal
 write-refusal nodes bytes = first-refusal (tree-checks nodes (short 2048 bytes))
 
@@ -123,16 +124,16 @@ unfoldable pub write-call : Nodes → List ℕ → Filled
 write-call nodes bytes =
     filled (write-refusal nodes bytes) (length (of-tree (held-tree nodes) tree-text)) (padded 2048 (of-tree (held-tree nodes) tree-text)) bytes
 
--- The tree text, read: checks 1, 2 and 12; the tree, an empty book. Answers the count of the book's groups, 0.
-unfoldable pub read-outcome : Found → Nodes → Book → Ring
+-- The tree text, read: checks 1, 15, 2 and 12; the tree, an empty book. Answers the count of the book's groups, 0.
+unfoldable pub read-outcome : Found → Nodes → Book → Changed
 read-outcome (refused p) nodes book = unchanged (TreeText p) nodes book
-read-outcome (tree t) nodes book = ring (reply 0 0) (over (table-of t) (nodes .rows)) (without-groups book)
+read-outcome (tree t) nodes book = changed-as (reply 0 0) (over (table-of t) (nodes .rows)) (without-groups book)
 
-pub data ReadCall (nodes : Nodes) (book : Book) (text : List ℕ) : Ring → Type 0 where
+pub data ReadCall (nodes : Nodes) (book : Book) (text : List ℕ) : Changed → Type 0 where
   unread : {r : Refusal} → open-refusal nodes book ≡ some r → ReadCall nodes book text (unchanged r nodes book)
   read : {f : Found} → open-refusal nodes book ≡ none → Reads (leaves nodes) text f → ReadCall nodes book text (read-outcome f nodes book)
 
--- The aim of the book's group with the number k: checks 1, 2, 3, 9, 14, 10. Answers the bin. Document 02, No. 2: "14 when the aim of an empty group
+-- The aim of the book's group with the number k: checks 1, 15, 2, 3, 9, 14, 10. Answers the bin. Document 02, No. 2: "14 when the aim of an empty group
 -- is wanted, checked after 9".
 abbrev pub group-numbered : List ℕ → ℕ → Restriction
 group-numbered words k = marked (group-words words (k - 1))
@@ -143,7 +144,7 @@ aim-refusal nodes book k =
     (ring-checks nodes book
     ++ (refuse (eqb k 0 || ltb (book .count) k) NoSuchGroup
     ∷ refuse (no-mark? (group-words (book .words) (k - 1))) NoAim
-    ∷ refuse (not (consecutive? (group-numbered (book .words) k) (of-tree (held-tree nodes) standard))) NotConsecutive
+    ∷ refuse (not (consecutive-on? (nodes .layout) (group-numbered (book .words) k) (of-tree (held-tree nodes) (standard-on (nodes .layout) (nodes .bins))))) NotConsecutive
     ∷ []))
 
 abbrev pub answered : Option Refusal → ℕ → Reply
@@ -152,36 +153,37 @@ answered none value = reply 0 value
 
 unfoldable pub aim-call : Nodes → Book → ℕ → Reply
 aim-call nodes book k =
-    answered (aim-refusal nodes book k) (aim-of (group-numbered (book .words) k) (of-tree (held-tree nodes) standard))
+    answered (aim-refusal nodes book k)
+    (aim-of (nodes .layout) (group-numbered (book .words) k) (of-tree (held-tree nodes) (standard-on (nodes .layout) (nodes .bins))))
 
--- "A conflict call reads n, the book and a group, and makes checks 1 to 6", but for 4. The list's 96 places are filled; answers the count of numbers.
-unfoldable pub conflict-refusal : ℕ → Book → List ℕ → List ℕ → Option Refusal
-conflict-refusal n book list conflicts =
+-- "A conflict call reads n, the book and a group, and makes checks 1 to 6", with 15 after 1 and but for 4. The list's 96 places are filled; answers the
+-- count of numbers.
+unfoldable pub conflict-refusal : Layout → ℕ → Book → List ℕ → List ℕ → Option Refusal
+conflict-refusal layout n book list conflicts =
     first-refusal
-    (refuse (bad-size n) RingSize
-    ∷ refuse (short 384 (book .words) || short 96 conflicts) ShortTable
-    ∷ refuse (not (book-in-form? n book)) NotInForm
-    ∷ bad-list n list
-    ∷ [])
+    (size-checks layout n
+    ++ (refuse (short 384 (book .words) || short 96 conflicts) ShortTable ∷ refuse (not (book-in-form? n book)) NotInForm ∷ bad-list n list ∷ []))
 
-unfoldable pub conflicts-of : ℕ → Book → Restriction → List ℕ
-conflicts-of n book new = ring-conflicts n (group-numbered (book .words)) (book .count) new
+unfoldable pub conflicts-of : Layout → ℕ → Book → Restriction → List ℕ
+conflicts-of layout n book new = book-conflicts layout n (group-numbered (book .words)) (book .count) new
 
-unfoldable pub conflict-call : ℕ → Book → List ℕ → List ℕ → Filled
-conflict-call n book list conflicts =
-    filled (conflict-refusal n book list conflicts) (length (conflicts-of n book (group-of n list))) (padded 96 (conflicts-of n book (group-of n list))) conflicts
+unfoldable pub conflict-call : Layout → ℕ → Book → List ℕ → List ℕ → Filled
+conflict-call layout n book list conflicts =
+    filled (conflict-refusal layout n book list conflicts) (length (conflicts-of layout n book (group-of n list)))
+    (padded 96 (conflicts-of layout n book (group-of n list))) conflicts
 
 -- Document 02, No. 1: the tree that allows the orders allowed by both lent trees.
 unfoldable pub common-tree : Nodes → Nodes → Option Forest
 common-tree nodes other = then (held-tree nodes) (λ t. then (held-tree other) (intersection t))
 
--- Checks 1 (both bin counts), 2 (all three tables) and 13 ("when the two bin counts differ, checked right after 2"); then 3 (both trees) and 8.
+-- Checks 1 and 15 (both bin counts), 2 (all three tables) and 13 ("checked right after 2"); then 3 (both trees) and 8.
+abbrev pub pair-sizes : Layout → ℕ → Layout → ℕ → List (Option Refusal)
+pair-sizes l n l′ m = refuse (bad-size n || bad-size m) RingSize ∷ refuse (full-rack l n || full-rack l′ m) RackSize ∷ []
+
 abbrev pub pair-checks : Nodes → Nodes → Nodes → List (Option Refusal)
 pair-checks nodes other third =
-    refuse (bad-size (nodes .bins) || bad-size (other .bins)) RingSize
-    ∷ refuse ((short-nodes nodes || short-nodes other) || short-nodes third) ShortTable
-    ∷ refuse (not (eqb (nodes .bins) (other .bins))) BinCounts
-    ∷ []
+    pair-sizes (nodes .layout) (nodes .bins) (other .layout) (other .bins)
+    ++ (refuse ((short-nodes nodes || short-nodes other) || short-nodes third) ShortTable ∷ refuse (other-bins nodes other) BinCounts ∷ [])
 
 abbrev pub common-checks : Nodes → Nodes → List (Option Refusal)
 common-checks nodes other =

@@ -1,6 +1,8 @@
 // What the calls answer. specs/ says, for each call, what it answers and what every lent table holds afterwards.
 ghost use mathlib.Core.Path.{_≡_};
+ghost use Rattle.spec_calls.specs.Tables.{layout-numbered};
 ghost use Rattle.spec_calls.specs.Refusals.{reply, reported, report};
+use spec_orders::Layout;
 
 // Why a call is refused, by the numbers of the table "What a call refuses". A place counts from 0 in the group's list, a byte from 0 in the
 // text or file.
@@ -18,6 +20,7 @@ pub enum Refusal {
     TreeText(usize),
     BinCounts,
     NoAim,
+    RackSize,
 }
 
 // A call's answer: done, with the number that the call returns, or refused.
@@ -26,7 +29,7 @@ pub enum Answer {
     Refused(Refusal),
 }
 
-// The refusal's number in the table: 1 to 14, without 4.
+// The refusal's number in the table: 1 to 15, without 4.
 pub fn number(refusal: Refusal) -> u8
     ensures { λ r. ⌜ r ≡ reported refusal .number ⌝ }
 {
@@ -44,6 +47,7 @@ pub fn number(refusal: Refusal) -> u8
         Refusal::TreeText(_) => 12,
         Refusal::BinCounts => 13,
         Refusal::NoAim => 14,
+        Refusal::RackSize => 15,
     }
 }
 
@@ -65,6 +69,7 @@ pub fn place(refusal: Refusal) -> usize
         Refusal::NotConsecutive => 0,
         Refusal::BinCounts => 0,
         Refusal::NoAim => 0,
+        Refusal::RackSize => 0,
     }
 }
 
@@ -82,4 +87,14 @@ pub fn code(answer: Answer, value: &mut usize) -> u8
             number(refusal)
         }
     }
+}
+
+// The layout that a number names, for C: 0 is a ring, any other number a rack.
+pub fn layout_numbered(number: u8) -> Layout
+    ensures { λ r. ⌜ r ≡ layout-numbered number ⌝ }
+{
+    if number == 0 {
+        return Layout::Ring;
+    }
+    Layout::Rack
 }

@@ -3,4 +3,5 @@ pub mod RoundTrip
 pub mod ThreeNeighbours
 pub mod EmptyGroups
 pub mod Places
+pub mod Racks
 pub mod Main

@@ -10,9 +10,9 @@ use Rattle.spec_orders.specs.Tree.{Forest}
 use Rattle.spec_orders.specs.TreeText.{Found, tree, refused, Reads}
 use Rattle.text_scanner.proofs.Outcomes.{reads-some}
 use Rattle.spec_calls.specs.declared.Refusal.{Refusal}
-use Rattle.spec_calls.specs.Tables.{Nodes, Book}
+use Rattle.spec_calls.specs.Tables.{Nodes, leaves, Book}
 use Rattle.spec_calls.specs.Refusals.{Reply}
-use Rattle.spec_calls.specs.Calls.{Ring, Filled, filled-as, filled, answered, opened, open-refusal, joined, read-outcome, ReadCall, unread, read}
+use Rattle.spec_calls.specs.Calls.{Changed, Filled, filled-as, filled, answered, opened, open-refusal, joined, read-outcome, ReadCall, unread, read}
 use Rattle.spec_calls.proofs.Refused.{Keeps, filled-keeps}
 use Rattle.spec_calls.proofs.Reports.{refused-number}
 use Rattle.spec_calls.proofs.ReadOnce.{read-call-once}
@@ -31,10 +31,10 @@ by-the-table none v said e k = record {
   done = (λ z. refl, λ p. ap (λ (s : Reply). s .number) e);
 }
 
-pub ring-by-the-table : (nodes : Nodes) (book : Book) (must : Option Refusal) (v : ℕ) (x y : Ring) → x ≡ y → y .answer ≡ answered must v → Keeps y nodes book
+pub ring-by-the-table : (nodes : Nodes) (book : Book) (must : Option Refusal) (v : ℕ) (x y : Changed) → x ≡ y → y .answer ≡ answered must v → Keeps y nodes book
     → ByTheTable must (x .answer) ((x .rows ≡ nodes .rows) × (x .book ≡ book))
 ring-by-the-table nodes book must v x y e a k =
-    by-the-table must v (x .answer) (ap (λ (z : Ring). z .answer) e ∙ a) (subst (λ (z : Ring). Keeps z nodes book) (sym e) k)
+    by-the-table must v (x .answer) (ap (λ (z : Changed). z .answer) e ∙ a) (subst (λ (z : Changed). Keeps z nodes book) (sym e) k)
 
 pub filled-by-the-table : (must : Option Refusal) (v : ℕ) (xs table new : List ℕ) (said : Reply) → filled-as said new ≡ filled must v xs table → ByTheTable must said (new ≡ table)
 filled-by-the-table must v xs table new said e =
@@ -55,16 +55,16 @@ unfolding joined
 join-answer (some r) t nodes book list = refl
 join-answer none t nodes book list = refl
 
-pub read-answer : (nodes : Nodes) (book : Book) (text : List ℕ) (must : Option Refusal) → ReadRefusal nodes book text must → (x : Ring) → ReadCall nodes book text x → x .answer ≡ answered must 0
+pub read-answer : (nodes : Nodes) (book : Book) (text : List ℕ) (must : Option Refusal) → ReadRefusal nodes book text must → (x : Changed) → ReadCall nodes book text x → x .answer ≡ answered must 0
 unfolding read-outcome
-read-answer nodes book text must (by-tables p) x c = ap (λ (y : Ring). y .answer) (read-call-once c (unread p))
-read-answer nodes book text must (by-text {p = b} p r) x c = ap (λ (y : Ring). y .answer) (read-call-once c (read {f = refused b} p r))
-read-answer nodes book text must (by-none {t = t} p r) x c = ap (λ (y : Ring). y .answer) (read-call-once c (read {f = tree t} p r))
+read-answer nodes book text must (by-tables p) x c = ap (λ (y : Changed). y .answer) (read-call-once c (unread p))
+read-answer nodes book text must (by-text {p = b} p r) x c = ap (λ (y : Changed). y .answer) (read-call-once c (read {f = refused b} p r))
+read-answer nodes book text must (by-none {t = t} p r) x c = ap (λ (y : Changed). y .answer) (read-call-once c (read {f = tree t} p r))
 
 pub some-refusal : (nodes : Nodes) (book : Book) (text : List ℕ) → (must : Option Refusal) × ReadRefusal nodes book text must
-some-refusal nodes book text = go (open-refusal nodes book) refl (reads-some (nodes .bins) text)
+some-refusal nodes book text = go (open-refusal nodes book) refl (reads-some (leaves nodes) text)
   where
-    go : (o : Option Refusal) → open-refusal nodes book ≡ o → (f : Found) × Reads (nodes .bins) text f → (must : Option Refusal) × ReadRefusal nodes book text must
+    go : (o : Option Refusal) → open-refusal nodes book ≡ o → (f : Found) × Reads (leaves nodes) text f → (must : Option Refusal) × ReadRefusal nodes book text must
     go (some r) e f = (some r, by-tables e)
     go none e (tree t, h) = (none, by-none e h)
     go none e (refused p, h) = (_, by-text e h)

@@ -1,25 +1,27 @@
 -- A node table with a C-node of two items in any of its records holds no tree, so every call that looks at it answers 3.
 use mathlib.Core.Path.{_≡_, refl, sym, _∙_, ap, subst}
-use mathlib.Core.Bool.{Bool, true, false, _||_}
+use mathlib.Core.Bool.{Bool, true, false}
 use mathlib.Core.Option.{none, some}
 use mathlib.Core.List.{List, _∷_, _++_}
 use Prim.Native.Nat.{ℕ, suc, _+_, _-_, _*_, _≤_, _<_}
 use native.Mathlib.Omega.{arith}
-use borrow.Author.Tests.{le-ltb, eq-eqb, eqb-true, eqb-false, ltb-true, ltb-false}
+use borrow.Author.Tests.{le-ltb, eqb-true, eqb-false, ltb-true, ltb-false}
 use lib.Dec.{eqb, ltb}
 use lib.ListN.{length, getD, drop, replicate, length-replicate, getD-replicate, List·getD-append, take-append-drop}
 use lib.Seq.{getD-drop}
 use Rattle.spec_orders.specs.Tree.{Kind, P, C, Forest, nil, leaf, node}
 use Rattle.spec_orders.specs.Form.{Every, nodes, Enough}
+use Rattle.spec_orders.proofs.Tests.{or-right}
 use Rattle.spec_orders.proofs.Relabel.{form-enough}
 use Rattle.spec_calls.specs.declared.Refusal.the-variants.{NotInForm}
 use Rattle.spec_calls.specs.Tables.{Nodes, leaves, Book, padded}
 use Rattle.spec_calls.specs.NodeTable.{kind-number, entries, rows, Holds, held-tree}
-use Rattle.spec_calls.specs.Refusals.{bad-size, short-nodes}
-use Rattle.spec_calls.specs.Calls.{is-none, join-refusal, order-refusal, aim-refusal, write-refusal, intersect-refusal}
-use Rattle.spec_calls.specs.Demands.{LentWhole}
+use Rattle.spec_calls.specs.Refusals.{first-refusal}
+use Rattle.spec_calls.specs.Calls.{is-none, join-refusal, order-refusal, aim-refusal, write-refusal, common-checks, intersect-refusal}
+use Rattle.spec_calls.specs.Demands.{LentWhole, SameBins}
 use Rattle.spec_calls.proofs.NodeTables.{Narrow, entries-length, row-length, rows-length, first-row, rows-after, at-kind, at-count, at-next, form-narrow, form-few, table-rows, tree-in-none}
-use Rattle.spec_calls.proofs.Demands.{size-fine, nodes-fine}
+use Rattle.spec_calls.proofs.Demands.{nodes-fine, whole-size, whole-rack, whole-nodes}
+use Rattle.spec_calls.proofs.Intersect.{bins-fine}
 use Rattle.spec_demands.specs.Demands.{LentThreeNeighbours}
 
 -- A node of kind 2 that has enough items has three or more.
@@ -89,46 +91,31 @@ module _ (nodes : Nodes) (h : LentThreeNeighbours nodes) where
   no-tree : held-tree nodes ≡ none
   no-tree = tree-in-none (leaves nodes) (nodes .rows) (h .whole .few-leaves) .1 (λ t g. not-held (leaves nodes) (nodes .rows) t (h .place) (h .whole .few-leaves) (h .inside) (h .c-node) (h .two-items) g)
 
-  size : bad-size (nodes .bins) ≡ false
-  size = size-fine (nodes .bins) (h .whole .some-leaf) (h .whole .few-leaves)
-
-  tables : short-nodes nodes ≡ false
-  tables = nodes-fine nodes (h .whole .all-records) (h .whole .all-rows)
-
   pub join-meets-3 : (book : Book) (list : List ℕ) → 384 ≤ length (book .words) → join-refusal nodes book list ≡ some NotInForm
   unfolding join-refusal
-  join-meets-3 book list b = rw (size, tables, le-ltb (length (book .words)) 384 b, no-tree)
+  join-meets-3 book list b = rw (whole-size (h .whole), whole-rack (h .whole), whole-nodes (h .whole), le-ltb (length (book .words)) 384 b, no-tree)
 
   pub order-meets-3 : (order : List ℕ) → nodes .bins ≤ length order → order-refusal nodes order ≡ some NotInForm
   unfolding order-refusal
-  order-meets-3 order b = rw (size, tables, le-ltb (length order) (nodes .bins) b, no-tree)
+  order-meets-3 order b = rw (whole-size (h .whole), whole-rack (h .whole), whole-nodes (h .whole), le-ltb (length order) (nodes .bins) b, no-tree)
 
   pub aim-meets-3 : (book : Book) (k : ℕ) → 384 ≤ length (book .words) → aim-refusal nodes book k ≡ some NotInForm
   unfolding aim-refusal
-  aim-meets-3 book k b = rw (size, tables, le-ltb (length (book .words)) 384 b, no-tree)
+  aim-meets-3 book k b = rw (whole-size (h .whole), whole-rack (h .whole), whole-nodes (h .whole), le-ltb (length (book .words)) 384 b, no-tree)
 
   pub write-meets-3 : (bytes : List ℕ) → 2048 ≤ length bytes → write-refusal nodes bytes ≡ some NotInForm
   unfolding write-refusal
-  write-meets-3 bytes b = rw (size, tables, le-ltb (length bytes) 2048 b, no-tree)
+  write-meets-3 bytes b = rw (whole-size (h .whole), whole-rack (h .whole), whole-nodes (h .whole), le-ltb (length bytes) 2048 b, no-tree)
 
   module _ (other third : Nodes) (o : LentWhole other) (all-records : 256 ≤ third .records) (all-rows : 65792 ≤ length (third .rows)) where
-    other-size : bad-size (other .bins) ≡ false
-    other-size = size-fine (other .bins) (o .some-leaf) (o .few-leaves)
-
-    other-tables : short-nodes other ≡ false
-    other-tables = nodes-fine other (o .all-records) (o .all-rows)
-
-    third-tables : short-nodes third ≡ false
-    third-tables = nodes-fine third all-records all-rows
-
-    pub first-meets-3 : nodes .bins ≡ other .bins → intersect-refusal nodes other third ≡ some NotInForm
+    pair-passes : (one two : Nodes) → LentWhole one → LentWhole two → SameBins one two
+        → intersect-refusal one two third ≡ first-refusal (common-checks one two)
     unfolding intersect-refusal
-    first-meets-3 e = rw (size, other-size, tables, other-tables, third-tables, eq-eqb (nodes .bins) (other .bins) e, no-tree)
+    pair-passes one two v w e =
+        rw (whole-size v, whole-size w, whole-rack v, whole-rack w, whole-nodes v, whole-nodes w, nodes-fine third all-records all-rows, bins-fine one two e)
 
-    pub second-meets-3 : other .bins ≡ nodes .bins → intersect-refusal other nodes third ≡ some NotInForm
-    unfolding intersect-refusal
-    second-meets-3 e = rw (size, other-size, tables, other-tables, third-tables, eq-eqb (other .bins) (nodes .bins) e, no-tree, or-true (is-none (held-tree other)))
-      where
-        or-true : (b : Bool) → (b || true) ≡ true
-        or-true true = refl
-        or-true false = refl
+    pub first-meets-3 : SameBins nodes other → intersect-refusal nodes other third ≡ some NotInForm
+    first-meets-3 e = pair-passes nodes other (h .whole) o e ∙ rw no-tree
+
+    pub second-meets-3 : SameBins other nodes → intersect-refusal other nodes third ≡ some NotInForm
+    second-meets-3 e = pair-passes other nodes o (h .whole) e ∙ rw (no-tree, or-right (is-none (held-tree other)) true refl)

@@ -6,8 +6,9 @@ use mathlib.Core.List.{List, [], _++_, _∷_, map}
 use Prim.Native.Nat.{_+_, _-_, _≤_, ℕ}
 use native.Mathlib.Omega.{arith}
 use lib.ListN.{length, length-append}
+use Rattle.spec_orders.specs.declared.Layout.the-variants.{Ring}
 use Rattle.spec_orders.specs.Lists.{All, Distinct, In, elem, Rearranged}
-use Rattle.spec_orders.specs.CircularOrder.{CircularOrder, Consecutive, AllConsecutive}
+use Rattle.spec_orders.specs.CircularOrder.{CircularOrder, Consecutive}
 use Rattle.spec_orders.specs.Tree.{P, C, Forest, nil, leaf, node, items, frontier, Allowed}
 use Rattle.spec_orders.specs.Form.{InForm}
 use Rattle.spec_orders.specs.Reduce.{complement}
@@ -15,7 +16,7 @@ use Rattle.spec_orders.specs.Join.{side}
 use Rattle.spec_orders.proofs.Tests.{false-if}
 use Rattle.spec_orders.proofs.Rearranged.{perm-trans, perm-sym, perm-distinct}
 use Rattle.spec_orders.proofs.Members.{in-left, in-append, all-in, in-all, perm-in, distinct-left, distinct-right, apart, elem-in, in-elem}
-use Rattle.spec_orders.proofs.Contiguous.{Contiguous}
+use Rattle.spec_orders.specs.Layout.{AllOn, Contiguous}
 use Rattle.spec_orders.proofs.CircleAndLine.{consecutive-side}
 use Rattle.spec_orders.specs.TreeText.{Forked}
 use Rattle.spec_orders.proofs.Forms.{not-one, form-distinct, form-forked}
@@ -78,28 +79,28 @@ module _ (n : ℕ) (t : Forest) (f : InForm n t) where
           (λ r. consecutive-side (elem L) 1 xs .1 (subst (λ S. Contiguous S xs) (sym same) (run-contiguous L xs dx r))),
         )
 
-    all-runs : (l : List (List ℕ)) → All Distinct l → All (Within (frontier t)) l → AllConsecutive (map elem l) (1 ∷ xs) ↔ Runs l xs
+    all-runs : (l : List (List ℕ)) → All Distinct l → All (Within (frontier t)) l → AllOn Ring (map elem l) (1 ∷ xs) ↔ Runs l xs
     all-runs [] d w = ((λ h. h), (λ h. h))
     all-runs (L ∷ l) d w =
         let a = consecutive-run L (d .0) (w .0) in
         let b = all-runs l (d .1) (w .1) in
         ((λ h. (a .0 (h .0), b .0 (h .1))), (λ h. (a .1 (h .0), b .1 (h .1))))
 
-  pub characteristic-orders : (ord : List ℕ) → Allowed t ord ↔ (CircularOrder n ord × AllConsecutive (map elem (characteristic t)) ord)
+  pub characteristic-orders : (ord : List ℕ) → Allowed t ord ↔ (CircularOrder n ord × AllOn Ring (map elem (characteristic t)) ord)
   characteristic-orders ord = (to, from)
     where
-      runs : (xs : List ℕ) → Rearranged (frontier t) xs → AllConsecutive (map elem (characteristic t)) (1 ∷ xs) ↔ Runs (characteristic t) xs
+      runs : (xs : List ℕ) → Rearranged (frontier t) xs → AllOn Ring (map elem (characteristic t)) (1 ∷ xs) ↔ Runs (characteristic t) xs
       runs xs p = all-runs xs p (characteristic t) (groups-distinct t (form-distinct n t f)) (groups-within t)
 
-      to : Allowed t ord → CircularOrder n ord × AllConsecutive (map elem (characteristic t)) ord
+      to : Allowed t ord → CircularOrder n ord × AllOn Ring (map elem (characteristic t)) ord
       to a =
           let r = orders-by-groups t (f .single) (form-enough f) (form-distinct n t f) (a .after) .0 (a .order) in
-          (record { after = a .after; one-first = a .one-first; all-leaves = perm-trans (f .all-leaves) (r .0) }, subst (AllConsecutive (map elem (characteristic t))) (sym (a .one-first)) (runs (a .after) (r .0) .1 (r .1)))
+          (record { after = a .after; one-first = a .one-first; all-leaves = perm-trans (f .all-leaves) (r .0) }, subst (AllOn Ring (map elem (characteristic t))) (sym (a .one-first)) (runs (a .after) (r .0) .1 (r .1)))
 
-      from : CircularOrder n ord × AllConsecutive (map elem (characteristic t)) ord → Allowed t ord
+      from : CircularOrder n ord × AllOn Ring (map elem (characteristic t)) ord → Allowed t ord
       from (c, h) =
           let p = perm-trans (perm-sym (f .all-leaves)) (c .all-leaves) in
-          let r = runs (c .after) p .0 (subst (AllConsecutive (map elem (characteristic t))) (c .one-first) h) in
+          let r = runs (c .after) p .0 (subst (AllOn Ring (map elem (characteristic t))) (c .one-first) h) in
           record { after = c .after; one-first = c .one-first; order = orders-by-groups t (f .single) (form-enough f) (form-distinct n t f) (c .after) .1 (p, r) }
 
 -- The groups, the items that are P-nodes and the items are together no more than the leaves.

@@ -12,10 +12,10 @@ use Rattle.spec_orders.proofs.Rearranged.{perm-sym, perm-append, perm-swap, per
 use Rattle.spec_orders.proofs.Members.{NonEmpty, nonempty-left, in-left, in-right, in-append, perm-in, perm-nonempty, distinct-left, distinct-right, apart, perm-reverse}
 use Rattle.spec_orders.proofs.Laws.{items-append, rev-perm, turn-refl, leaves-of, consistent-perm, consistent-append, consistent-split, frontier-append}
 use Rattle.spec_orders.proofs.First.{frontier-allowed}
-use Rattle.spec_orders.proofs.Parts.{frontier-put, consistent-put, node-in, node-out, item-perm}
+use Rattle.spec_orders.proofs.Parts.{place-in, frontier-put, consistent-put, node-in, node-out, item-perm}
 use Rattle.spec_orders.proofs.Mirror.{consistent-mirror, consistent-unmirror}
 use Rattle.spec_intersection.proofs.Lists.{nonempty-right, same-cut, longer-in, overlap}
-use Rattle.spec_intersection.proofs.Pieces.{place-in, node-block}
+use Rattle.spec_intersection.proofs.Pieces.{node-block}
 
 -- J stands between A and B: an element of A or B is not one of J.
 not-mid : (A J B : List ℕ) (x : ℕ) → Distinct (A ++ (J ++ B)) → In x (A ++ B) → In x J → ⊥

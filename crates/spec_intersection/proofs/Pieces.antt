@@ -5,14 +5,14 @@ use mathlib.Core.List.{List, [], _++_, _∷_, tail-eq-of-cons-eq}
 use Prim.Native.Nat.{ℕ}
 use native.Mathlib.Omega.{arith}
 use Rattle.spec_orders.specs.Lists.{All, Distinct, In}
-use Rattle.spec_orders.specs.Tree.{Kind, Forest, nil, leaf, node, Item, leaf-item, node-item, items, append, frontier, Consistent, Allowed}
-use Rattle.spec_orders.specs.Form.{Every, Canonical}
+use Rattle.spec_orders.specs.Tree.{Kind, Forest, nil, leaf, node, Item, leaf-item, node-item, items, frontier, Consistent, Allowed}
+use Rattle.spec_orders.specs.Form.{Canonical}
 use Rattle.spec_orders.specs.TreeText.{TwoItems, Forked}
 use Rattle.spec_orders.specs.Reduce.{put, one}
 use Rattle.spec_orders.proofs.Members.{NonEmpty, in-left, in-right, in-all, perm-in, distinct-right, apart}
-use Rattle.spec_orders.proofs.Laws.{forest-assoc, turn-perm, leaves-of, flat, Every-of, Canonical-of, enough-two, canonical-forked, consistent-split}
+use Rattle.spec_orders.proofs.Laws.{turn-perm, leaves-of, flat, Canonical-of, enough-two, canonical-forked, consistent-split}
 use Rattle.spec_orders.proofs.First.{two-nonempty}
-use Rattle.spec_orders.proofs.Parts.{put-one, items-put, consistent-unput, node-out, forked-nonempty}
+use Rattle.spec_orders.proofs.Parts.{in-place, items-put, consistent-unput, node-out, forked-nonempty}
 use Rattle.spec_intersection.proofs.Lists.{overlap}
 
 -- The same orders on the line.
@@ -23,9 +23,6 @@ pub consistent-allowed : (t : Forest) (xs : List ℕ) → Consistent t xs ↔ Al
 consistent-allowed t xs = ((λ s. record { after = xs; one-first = refl; order = s }), (λ a. subst (Consistent t) (sym (tail-eq-of-cons-eq (a .one-first))) (a .order)))
 
 -- The first item.
-pub append-put : (p : Forest) (t : Item) (f : Forest) → append (append p (one t)) f ≡ append p (put t f)
-append-put p t f = forest-assoc p (one t) f ∙ ap (append p) (put-one t f)
-
 pub record Cons (f : Forest) : Type 0 where
   pub head : Item
   pub tail : Forest
@@ -42,15 +39,6 @@ put-two t g h = go (items g) (subst TwoItems (items-put t g) h)
     go : (ts : List Item) → TwoItems (t ∷ ts) → NonEmpty ts
     go [] h = omega arith
     go (u ∷ ts) h = tt
-
-module _ (Q : Kind → Forest → Type 0) where
-  pub every-put : (t : Item) (f : Forest) → Every Q (put t f) → Every-of Q t × Every Q f
-  every-put (leaf-item b) f c = (tt, c)
-  every-put (node-item k i) f c = c
-
-  pub every-one : (t : Item) → Every-of Q t → Every Q (one t)
-  every-one (leaf-item b) c = tt
-  every-one (node-item k i) c = (c, tt)
 
 -- Each item has leaves.
 abbrev pub Fair : Item → Type 0
@@ -81,24 +69,7 @@ items-distinct (t ∷ ts) f d = (
   items-distinct ts (f .1) (distinct-right (leaves-of t) (flat ts) d),
 )
 
--- Where an item stands, and its order in an order of the whole.
-record Place (t : Item) (j : Forest) : Type 0 where
-  before : Forest
-  after : Forest
-  there : j ≡ append before (put t after)
-
-in-place : (t : Item) (j : Forest) → In t (items j) → Place t j
-in-place t nil h = absurd h
-in-place t (leaf b f) (inl e) = record { before = nil; after = f; there = ap (λ u. put u f) (sym e) }
-in-place t (leaf b f) (inr h) = let r = in-place t f h in record { before = leaf b (r .before); after = r .after; there = ap (leaf b) (r .there) }
-in-place t (node k i f) (inl e) = record { before = nil; after = f; there = ap (λ u. put u f) (sym e) }
-in-place t (node k i f) (inr h) = let r = in-place t f h in record { before = node k i (r .before); after = r .after; there = ap (node k i) (r .there) }
-
-pub place-in : (p : Forest) (t : Item) (f : Forest) → In t (items (append p (put t f)))
-place-in nil t f = subst (In t) (sym (items-put t f)) (inl refl)
-place-in (leaf b p) t f = inr (place-in p t f)
-place-in (node k i p) t f = inr (place-in p t f)
-
+-- Its order in an order of the whole.
 pub record Block (t : Item) (xs : List ℕ) : Type 0 where
   pub left : List ℕ
   pub block : List ℕ

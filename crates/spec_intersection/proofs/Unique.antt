@@ -15,10 +15,10 @@ use Rattle.spec_orders.proofs.Members.{NonEmpty, nonempty-left, in-left, in-rig
 use Rattle.spec_orders.proofs.NotAfter.{not-after-antisym}
 use Rattle.spec_orders.proofs.Laws.{turn-refl, leaves-of, every-append, Node-canonical, Canonical-of, enough-two, consistent-append, frontier-append}
 use Rattle.spec_orders.proofs.First.{frontier-allowed, two-nonempty, frontier-first}
-use Rattle.spec_orders.proofs.Parts.{put-one, items-put, frontier-put, frontier-one, consistent-put, consistent-unput, node-in, node-out, item-perm}
+use Rattle.spec_orders.proofs.Parts.{append-put, place-in, every-put, every-one, put-one, items-put, frontier-put, frontier-one, consistent-put, consistent-unput, node-in, node-out, item-perm}
 use Rattle.spec_orders.proofs.Mirror.{consistent-unmirror}
 use Rattle.spec_intersection.proofs.Lists.{nonempty-right, same-run, overlap}
-use Rattle.spec_intersection.proofs.Pieces.{Alike, append-put, uncons, put-two, every-put, every-one, frontier-nonempty, item-nonempty, place-in, node-block}
+use Rattle.spec_intersection.proofs.Pieces.{Alike, uncons, put-two, frontier-nonempty, item-nonempty, node-block}
 use Rattle.spec_intersection.proofs.Coarse.{frontier-whole, order-distinct, coarse}
 
 -- The first two items change places at a P-node, not at a C-node with a third item: so the kinds are one.

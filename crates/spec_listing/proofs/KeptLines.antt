@@ -8,6 +8,7 @@ use Prim.Native.Nat.{ℕ, zero, suc, _≤_, _<_}
 use native.Mathlib.Omega.{arith}
 use lib.Dec.{eqb}
 use lib.ListN.{length, getD, take}
+use Rattle.spec_orders.specs.declared.Layout.the-variants.{Ring}
 use Rattle.spec_orders.specs.Lists.{elem}
 use Rattle.spec_orders.specs.CircularOrder.{Consecutive}
 use Rattle.spec_orders.specs.Tree.{Forest, Allowed}
@@ -71,7 +72,7 @@ module _ (n : ℕ) where
   -- The aim of a kept line that has a leaf stands in the middle of its group's run in the order after all lines.
   pub kept-aimed : (lists : List (List ℕ)) (l : ℕ) → l < length lists → (t : Forest) → outcome n (state-at n lists l) (getD lists l []) ≡ kept t
       → (b : ℕ) (list : List ℕ) → getD lists l [] ≡ b ∷ list → 1 ≤ b → b ≤ n
-      → Aimed (elem (b ∷ list)) (standard (run n (opened n) 1 lists .tree)) (aim-of (elem (b ∷ list)) (standard (run n (opened n) 1 lists .tree)))
+      → Aimed (elem (b ∷ list)) (standard (run n (opened n) 1 lists .tree)) (aim-of Ring (elem (b ∷ list)) (standard (run n (opened n) 1 lists .tree)))
   unfolding state-at
   kept-aimed lists l h t e b list q some-leaf few =
       let u = run n (opened n) 1 lists .tree in

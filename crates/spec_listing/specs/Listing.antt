@@ -6,13 +6,14 @@ use mathlib.Core.List.{List, [], _∷_, _++_, map}
 use Prim.Native.Nat.{ℕ, suc, _+_, _-_, _≤_, _<_}
 use lib.Dec.{eqb, ltb}
 use lib.ListN.{length, getD, take, drop}
+use Rattle.spec_orders.specs.declared.Layout.the-variants.{Ring}
 use Rattle.spec_orders.specs.Lists.{elem}
 use Rattle.spec_orders.specs.CircularOrder.{Restriction}
 use Rattle.spec_orders.specs.Tree.{Forest}
 use Rattle.spec_orders.specs.Form.{standard}
 use Rattle.spec_orders.specs.TreeText.{digits, tree-text}
 use Rattle.spec_orders.specs.Join.{fresh, join}
-use Rattle.spec_orders.specs.Conflict.{ring-conflicts, numbered}
+use Rattle.spec_orders.specs.Conflict.{book-conflicts, numbered}
 use Rattle.spec_orders.specs.Aim.{aim-of}
 use Rattle.spec_orders.specs.Circles.{bytes}
 use Rattle.file_syntax.specs.RingFile.{Value, file-bytes, Rules, leaves-on, FileRefused}
@@ -35,7 +36,7 @@ pub data Outcome : Type 0 where
 
 abbrev pub joined : ℕ → RingState → Restriction → Option Forest → Outcome
 joined n s G (some t) = kept t
-joined n s G none = refused (ring-conflicts n (numbered (s .groups)) (length (s .groups)) G)
+joined n s G none = refused (book-conflicts Ring n (numbered (s .groups)) (length (s .groups)) G)
 
 unfoldable pub outcome : ℕ → RingState → List ℕ → Outcome
 outcome n s list = cond (eqb (length (s .groups)) 96) full (joined n s (elem list) (join (elem list) (s .tree)))
@@ -69,7 +70,7 @@ commas lines numbers = between 44 (map (λ j. digits (getD lines (j - 1) 0)) num
 -- "The aim's name in the final order." Document 02, No. 2: "aim `-`" where the group has no leaf.
 abbrev pub aim-field : List (List ℕ) → List ℕ → List ℕ → List ℕ
 aim-field names ord [] = bytes "-"
-aim-field names ord (b ∷ l) = name names (aim-of (elem (b ∷ l)) ord)
+aim-field names ord (b ∷ l) = name names (aim-of Ring (elem (b ∷ l)) ord)
 
 -- "Fields: group line from 1; `kept`, `refused` [...] or `full`; the aim's name in the final order; the input lines in conflict. `-` marks a field
 -- that does not apply. One space stands between fields." What follows the line's number.

@@ -11,6 +11,7 @@ use borrow.Author.Tests.{eq-eqb, ne-eqb}
 use lib.Dec.{eqb}
 use lib.ListN.{length, getD, take, drop, length-append, length-drop}
 use lib.Seq.{getD-append-add, split-at, length-take-le}
+use Rattle.spec_orders.specs.declared.Layout.the-variants.{Ring}
 use Rattle.spec_orders.specs.Lists.{count}
 use Rattle.spec_orders.specs.CircularOrder.{Restriction, Inside, Consecutive}
 use Rattle.spec_orders.specs.Aim.{lower-middle, upper-middle, rounded, aim-place, aim-of, Middle, exact, lower, upper, GroupRun, Aimed}
@@ -44,10 +45,10 @@ rounded-either Q a b p q = go (ℕ-discrete b 0) (ℕ-discrete (a % 2) 0)
 pub rounded-in : (n a b : ℕ) → a < n → b < n → rounded a b < n
 rounded-in n a b = rounded-either (λ p. p < n) a b
 
-pub aim-place-in : (n s m : ℕ) → 0 < n → aim-place n s m < n
+pub aim-place-in : (n s m : ℕ) → 0 < n → aim-place Ring n s m < n
 aim-place-in n s m l = rounded-in n (lower-middle s m % n) (upper-middle s m % n) (mod-lt (lower-middle s m) l) (mod-lt (upper-middle s m) l)
 
-rounded-one : (a : ℕ) → rounded a a ≡ a
+pub rounded-one : (a : ℕ) → rounded a a ≡ a
 rounded-one a = rounded-either (λ p. p ≡ a) a a refl refl
 
 -- Round n places: the next one is one more, or 0.
@@ -102,7 +103,7 @@ module _ {G : Restriction} {ord : L} (r : GroupRun G ord) where
   next : (j k : ℕ) → s + j + 1 ≡ k → k % n ≡ ((s + j) % n + 1) % n
   next j k e = ap (λ i. i % n) (sym e) ∙ sym (mod-add-mod (s + j) n 1)
 
-  aim-at : 1 ≤ m → aim-of G ord ≡ getD ord (aim-place n s m) 0
+  aim-at : 1 ≤ m → aim-of Ring G ord ≡ getD ord (aim-place Ring n s m) 0
   unfolding aim-of
   aim-at l = rw (group-start r l, group-size r)
 
@@ -121,13 +122,13 @@ module _ {G : Restriction} {ord : L} (r : GroupRun G ord) where
         middle = rw (before, after) h;
       }
 
-  aimed-run : 1 ≤ m → Aimed G ord (aim-of G ord)
+  aimed-run : 1 ≤ m → Aimed G ord (aim-of Ring G ord)
   aimed-run l = by-size (ℕ-discrete (m % 2) 0)
     where
-      at-place : (j : ℕ) → j < m → aim-place n s m ≡ (s + j) % n → Middle ((s + j) % n) (((s + j) % n + 1) % n) j (m - suc j) → Aimed G ord (aim-of G ord)
+      at-place : (j : ℕ) → j < m → aim-place Ring n s m ≡ (s + j) % n → Middle ((s + j) % n) (((s + j) % n + 1) % n) j (m - suc j) → Aimed G ord (aim-of Ring G ord)
       at-place j k e h = subst (Aimed G ord) (sym (aim-at l ∙ ap (λ p. getD ord p 0) e)) (stands j k h)
 
-      by-size : Dec (m % 2 ≡ 0) → Aimed G ord (aim-of G ord)
+      by-size : Dec (m % 2 ≡ 0) → Aimed G ord (aim-of Ring G ord)
       by-size (yes e) = go (ℕ-discrete (((s + j) % n + 1) % n % 2) 0)
         where
           j : ℕ
@@ -142,7 +143,7 @@ module _ {G : Restriction} {ord : L} (r : GroupRun G ord) where
           high : upper-middle s m % n ≡ ((s + j) % n + 1) % n
           high = next j (upper-middle s m) (omega arith)
 
-          go : Dec (((s + j) % n + 1) % n % 2 ≡ 0) → Aimed G ord (aim-of G ord)
+          go : Dec (((s + j) % n + 1) % n % 2 ≡ 0) → Aimed G ord (aim-of Ring G ord)
           go (yes even) = at-place (m / 2) (omega arith) (rw (low, high) (rounded-upper n ((s + j) % n) in-n even) ∙ sym high) (upper (omega arith) (rw high even))
           go (no odd) =
               let even = odd-next n ((s + j) % n) in-n odd in
@@ -154,12 +155,12 @@ module _ {G : Restriction} {ord : L} (r : GroupRun G ord) where
           at-place j (omega arith) (ap (λ k. rounded (k % n) ((s + j) % n)) low ∙ rounded-one ((s + j) % n)) (exact (omega arith))
 
 -- The aim is in the middle of the run, and no other leaf is.
-pub aimed : (G : Restriction) (ord : L) → Consecutive G ord → 1 ≤ count G ord → Aimed G ord (aim-of G ord)
+pub aimed : (G : Restriction) (ord : L) → Consecutive G ord → 1 ≤ count G ord → Aimed G ord (aim-of Ring G ord)
 aimed G ord h l =
     let r = group-run G ord h (omega (arith, count-most G ord)) in
     aimed-run r (omega (arith, group-size r))
 
-pub aimed-only : (G : Restriction) (ord : L) (b : ℕ) → Aimed G ord b → aim-of G ord ≡ b
+pub aimed-only : (G : Restriction) (ord : L) (b : ℕ) → Aimed G ord b → aim-of Ring G ord ≡ b
 aimed-only G ord b a =
     let first : _≡_ {A = ℕ} j (j + 0) = omega arith in
     aim-at r (omega (arith, many))
@@ -178,7 +179,7 @@ aimed-only G ord b a =
     many : m r ≡ j + suc (length (a .right))
     many = ap length (a .leaves) ∙ length-append (a .left) (b ∷ a .right)
 
-    place : Middle (a .place) ((a .place + 1) % n r) j (length (a .right)) → aim-place (n r) (s r) (m r) ≡ (s r + j) % n r
+    place : Middle (a .place) ((a .place + 1) % n r) j (length (a .right)) → aim-place Ring (n r) (s r) (m r) ≡ (s r + j) % n r
     place (exact e) =
         let low : lower-middle (s r) (m r) ≡ s r + j = omega (arith, many) in
         let high : upper-middle (s r) (m r) ≡ s r + j = omega (arith, many) in

@@ -10,7 +10,8 @@ use Rattle.spec_orders.specs.Reduce.{complement}
 use Rattle.spec_orders.specs.Join.{side}
 use Rattle.spec_orders.proofs.ListLaws.{all-append, all-map}
 use Rattle.spec_orders.proofs.Members.{Later, cut}
-use Rattle.spec_orders.proofs.Contiguous.{L, front-all, back-all, Contiguous, con, con-cut, con-back}
+use Rattle.spec_orders.specs.Layout.{Contiguous}
+use Rattle.spec_orders.proofs.Contiguous.{L, front-all, back-all, con, con-cut, con-back}
 
 pub complement-in : (G : Restriction) (l : L) → Inside G l → Outside (complement G) l
 complement-in G = all-map (λ x. G x ≡ true) (λ x. complement G x ≡ false) (λ x. ap not)

@@ -1,5 +1,5 @@
 -- Document 01, "Conflict list", demand 3: the conflict list meets it, for all groups and numbers, wherever a test decides what "possible" says and
--- fewer groups are possible where more are. And so for every ring, book and new group.
+-- fewer groups are possible where more are. And so for every ring and rack, book and new group.
 use mathlib.Core.Path.{_∙_, _≡_, ap, ap₂, refl, subst, sym}
 use mathlib.Core.Logic.{_↔_, inl, inr, ⊎-elim}
 use mathlib.Core.Bool.{Bool, false, true, true≢false}
@@ -7,10 +7,13 @@ use mathlib.Core.List.{List, [], _++_, _∷_, map, append-assoc, head-eq-of-cons
 use Prim.Native.Nat.{ℕ, zero, suc, _+_, _-_, _≤_}
 use native.Mathlib.Omega.{arith}
 use lib.ListN.{length}
+use Rattle.spec_orders.specs.declared.Layout.{Layout}
+use Rattle.spec_orders.specs.declared.Layout.the-variants.{Ring, Rack}
 use Rattle.spec_orders.specs.Lists.{In, All, numbers-from, Rearranged, done}
-use Rattle.spec_orders.specs.CircularOrder.{others, Restriction, Consecutive, Possible}
+use Rattle.spec_orders.specs.CircularOrder.{others, Restriction}
+use Rattle.spec_orders.specs.Layout.{ConsecutiveOn, Possible}
 use Rattle.spec_orders.specs.Join.{side}
-use Rattle.spec_orders.specs.Conflict.{possible?, Sublist, end, kept, left, leave-out, conflict-list, Demand-3, ring-conflicts, numbered, Numbers}
+use Rattle.spec_orders.specs.Conflict.{possible?, Sublist, end, kept, left, leave-out, conflict-list, Demand-3, book-conflicts, numbered, Numbers}
 use Rattle.spec_orders.proofs.Rearranged.{perm-insert, perm-skip, pick-middle}
 use Rattle.spec_orders.proofs.Members.{nil-not, in-left, in-right, in-append, in-all, all-in}
 use Rattle.spec_orders.proofs.Tests.{false-if}
@@ -165,13 +168,13 @@ pub numbered-all : (Gs : List Restriction) → map (numbered Gs) (numbers-from 1
 numbered-all [] = refl
 numbered-all (G ∷ Gs) = ap (λ (l : List Restriction). G ∷ l) (numbered-behind G Gs 0 (length Gs) ∙ numbered-all Gs)
 
--- Rings: fewer restrictions; one by itself, the leaves of its side first and then the others.
-fewer-possible : (n : ℕ) (Gs Hs : List Restriction) → ((G : Restriction) → In G Hs → In G Gs) → Possible n Gs → Possible n Hs
-fewer-possible n Gs Hs h p =
-    record { order = p .order; is-order = p .is-order; hang = in-all (λ G. Consecutive G (p .order)) Hs (λ G i. all-in (λ G. Consecutive G (p .order)) G Gs (p .hang) (h G i)) }
+-- Rings and racks: fewer restrictions; one by itself, the leaves of its side first and then the others.
+fewer-possible : (l : Layout) (n : ℕ) (Gs Hs : List Restriction) → ((G : Restriction) → In G Hs → In G Gs) → Possible l n Gs → Possible l n Hs
+fewer-possible l n Gs Hs h p =
+    record { order = p .order; is-order = p .is-order; hang = in-all (λ G. ConsecutiveOn l G (p .order)) Hs (λ G i. all-in (λ G. ConsecutiveOn l G (p .order)) G Gs (p .hang) (h G i)) }
 
-pub ring-tests : (n : ℕ) → Tests (Possible n) (possible? n)
-ring-tests n = record { decides = possible-decides n; fewer = fewer-possible n }
+pub possible-tests : (l : Layout) (n : ℕ) → Tests (Possible l n) (possible? l n)
+possible-tests l n = record { decides = possible-decides l n; fewer = fewer-possible l n }
 
 side-first : (S : Restriction) (l : List ℕ) → (xs : List ℕ) × Rearranged l xs × Early S xs
 side-first S [] = ([], done, sided-last S true false [] tt)
@@ -181,10 +184,14 @@ side-first S (x ∷ l) = go (S x) refl (side-first S l)
     go true q (xs, p, h) = (x ∷ xs, perm-skip x p, sided-before S true false (x ∷ []) xs refl (q, tt) h)
     go false q (xs, p, h) = (h .0 ++ (x ∷ h .1), perm-insert (pick-middle (h .0) x (h .1)) (subst (Rearranged l) (h .2) p), (h .0, x ∷ h .1, refl, h .3, (q, h .4)))
 
-pub one-possible : (n : ℕ) (G : Restriction) → Possible n (G ∷ [])
-one-possible n G =
+pub one-possible : (l : Layout) (n : ℕ) (G : Restriction) → Possible l n (G ∷ [])
+one-possible Ring n G =
     let (xs, p, h) = side-first (side 1 G) (others n) in
     record { order = 1 ∷ xs; is-order = record { after = xs; one-first = refl; all-leaves = p }; hang = (consecutive-side G 1 xs .1 (early-con (side 1 G) xs h), tt) }
+one-possible Rack n G =
+    let (xs, p, h) = side-first G (numbers-from 1 n) in
+    record { order = xs; is-order = p; hang = (early-con G xs h, tt) }
 
-pub ring-demand-3 : (n : ℕ) (f : ℕ → Restriction) (count : ℕ) (new : Restriction) → Demand-3 (Possible n) f new (numbers-from 1 count) (ring-conflicts n f count new)
-ring-demand-3 n f count new = demand-3 (ring-tests n) f new (one-possible n new) (numbers-from 1 count)
+pub book-demand-3 : (l : Layout) (n : ℕ) (f : ℕ → Restriction) (count : ℕ) (new : Restriction)
+    → Demand-3 (Possible l n) f new (numbers-from 1 count) (book-conflicts l n f count new)
+book-demand-3 l n f count new = demand-3 (possible-tests l n) f new (one-possible l n new) (numbers-from 1 count)

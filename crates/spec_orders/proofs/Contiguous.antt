@@ -6,6 +6,7 @@ use mathlib.Core.List.{List, [], _++_, append-assoc, append-nil, reverse, revers
 use Prim.Native.Nat.{ℕ}
 use Rattle.spec_orders.specs.Lists.{All}
 use Rattle.spec_orders.specs.CircularOrder.{Restriction, Inside, Outside}
+use Rattle.spec_orders.specs.Layout.{Contiguous}
 use Rattle.spec_orders.proofs.ListLaws.{all-append, all-left, all-right}
 use Rattle.spec_orders.proofs.Rearranged.{perm-all}
 use Rattle.spec_orders.proofs.Members.{perm-reverse, Later, cut}
@@ -23,16 +24,6 @@ module _ (Q : ℕ → Type 0) where
 
   all-reverse : (a : L) → All Q a → All Q (reverse a)
   all-reverse a h = perm-all Q (perm-reverse a) h
-
--- The marked leaves stand next to each other in the list.
-pub record Contiguous (S : Restriction) (xs : List ℕ) : Type 0 where
-  pub left : List ℕ
-  pub run : List ℕ
-  pub right : List ℕ
-  pub parts : xs ≡ left ++ (run ++ right)
-  pub out-left : Outside S left
-  pub in-run : Inside S run
-  pub out-right : Outside S right
 
 module _ (S : Restriction) where
   -- All marked (true), or none.

@@ -6,14 +6,17 @@ use mathlib.Core.Bool.{Bool, cond, false, true, true≢false}
 use mathlib.Core.Option.{some}
 use mathlib.Core.List.{List, [], _++_, _∷_, append-assoc, append-nil, map}
 use Prim.Native.Nat.{ℕ}
-use Rattle.spec_orders.specs.Lists.{In, all-of, Pick, here, there, Rearranged, done, next}
-use Rattle.spec_orders.specs.CircularOrder.{others, Restriction, Inside, Outside, Consecutive, AllConsecutive, Possible}
+use Rattle.spec_orders.specs.declared.Layout.{Layout}
+use Rattle.spec_orders.specs.declared.Layout.the-variants.{Ring, Rack}
+use Rattle.spec_orders.specs.Lists.{In, all-of, numbers-from, Pick, here, there, Rearranged, done, next}
+use Rattle.spec_orders.specs.CircularOrder.{others, Restriction, Inside, Outside, Consecutive}
+use Rattle.spec_orders.specs.Layout.{OrderOn, Contiguous, ConsecutiveOn, AllOn, Possible}
 use Rattle.spec_orders.specs.Tree.{Forest}
 use Rattle.spec_orders.specs.Join.{fresh, joins}
-use Rattle.spec_orders.specs.Conflict.{spread, spread-all, perms, turns, none-in, run-first, consecutive?, possible?}
+use Rattle.spec_orders.specs.Conflict.{spread, spread-all, perms, turns, none-in, run-first, consecutive?, contiguous?, consecutive-on?, orders-on, possible?}
 use Rattle.spec_orders.proofs.Rearranged.{perm-insert, perm-sym, nil-perm}
 use Rattle.spec_orders.proofs.Members.{in-left, in-right, in-append, of-some, to-some, all-decides}
-use Rattle.spec_orders.proofs.Contiguous.{L, Early, sided-before, sided-last}
+use Rattle.spec_orders.proofs.Contiguous.{L, Early, sided-before, sided-last, early-con, con-out, con-cut, con-early, con-back}
 use Rattle.spec_orders.proofs.Fresh.{possible-joins}
 
 -- The restriction's leaves first, then no other.
@@ -121,18 +124,42 @@ module _ {A : Type 0} where
       go : Rearranged q (x ∷ l) → ((m : List A) → Rearranged l m → In m (perms l)) → In q (spread-all x (perms l))
       go (next {k = m} k r) h = to-spread-all x (perms l) m q (h m (perm-sym r)) (to-spread k)
 
-pub possible-decides : (n : ℕ) (Gs : List Restriction) → (possible? n Gs ≡ true) ↔ Possible n Gs
+-- In a straight order.
+contiguous-decides : (G : Restriction) (xs : List ℕ) → (contiguous? G xs ≡ true) ↔ Contiguous G xs
+contiguous-decides G [] = (λ e. early-con G [] ([], [], refl, tt, tt), λ c. refl)
+contiguous-decides G (x ∷ xs) = go (G x) refl (contiguous-decides G xs)
+  where
+    go : (b : Bool) → G x ≡ b → (contiguous? G xs ≡ true) ↔ Contiguous G xs → (cond b (run-first G (x ∷ xs)) (contiguous? G xs) ≡ true) ↔ Contiguous G (x ∷ xs)
+    go true q h = (
+      (λ e. early-con G (x ∷ xs) (of-run G (x ∷ xs) e)),
+      (λ c. let r = con-early G (x ∷ []) xs (λ o. true≢false (sym q ∙ o .0)) (con-cut G (x ∷ []) xs refl c) in
+          ap (run-first G) (ap (λ l. x ∷ l) (r .2)) ∙ to-run G (x ∷ r .0) (r .1) (q, r .3) (r .4)),
+    )
+    go false q h = ((λ e. con-out G (x ∷ []) xs refl (q, tt) (h .0 e)), (λ c. h .1 (con-back G (x ∷ []) xs (con-cut G (x ∷ []) xs refl c))))
+
+pub decides-on : (l : Layout) (G : Restriction) (ord : List ℕ) → (consecutive-on? l G ord ≡ true) ↔ ConsecutiveOn l G ord
+decides-on Ring G ord = consecutive-decides G ord
+decides-on Rack G ord = contiguous-decides G ord
+
+-- All orders are listed.
+of-orders : (l : Layout) (n : ℕ) (ord : List ℕ) → In ord (orders-on l n) → OrderOn l n ord
+of-orders Ring n ord i = let r = of-map 1 (perms (others n)) ord i in record { after = r .0; one-first = r .2; all-leaves = of-perms (others n) (r .0) (r .1) }
+of-orders Rack n ord i = of-perms (numbers-from 1 n) ord i
+
+to-orders : (l : Layout) (n : ℕ) (ord : List ℕ) → OrderOn l n ord → In ord (orders-on l n)
+to-orders Ring n ord o = subst (λ m. In m (orders-on Ring n)) (sym (o .one-first)) (to-map 1 (perms (others n)) (o .after) (to-perms (others n) (o .after) (o .all-leaves)))
+to-orders Rack n ord o = to-perms (numbers-from 1 n) ord o
+
+pub possible-decides : (l : Layout) (n : ℕ) (Gs : List Restriction) → (possible? l n Gs ≡ true) ↔ Possible l n Gs
 unfolding possible?
-possible-decides n Gs = (
-  (λ e. let r = of-some (λ xs. all-of (λ G. consecutive? G (1 ∷ xs)) Gs) (perms (others n)) e in
-      record { order = 1 ∷ r .0; is-order = record { after = r .0; one-first = refl; all-leaves = of-perms (others n) (r .0) (r .1) }; hang = each (r .0) .0 (r .2) }),
-  (λ p. let xs = p .is-order .after in
-      to-some (λ xs. all-of (λ G. consecutive? G (1 ∷ xs)) Gs) (perms (others n)) xs (to-perms (others n) xs (p .is-order .all-leaves)) (each xs .1 (subst (AllConsecutive Gs) (p .is-order .one-first) (p .hang)))),
+possible-decides l n Gs = (
+  (λ e. let r = of-some (λ ord. all-of (λ G. consecutive-on? l G ord) Gs) (orders-on l n) e in record { order = r .0; is-order = of-orders l n (r .0) (r .1); hang = each (r .0) .0 (r .2) }),
+  (λ p. to-some (λ ord. all-of (λ G. consecutive-on? l G ord) Gs) (orders-on l n) (p .order) (to-orders l n (p .order) (p .is-order)) (each (p .order) .1 (p .hang))),
 )
   where
-    each : (xs : L) → (all-of (λ G. consecutive? G (1 ∷ xs)) Gs ≡ true) ↔ AllConsecutive Gs (1 ∷ xs)
-    each xs = all-decides (λ G. consecutive? G (1 ∷ xs)) (λ G. Consecutive G (1 ∷ xs)) (λ G. consecutive-decides G (1 ∷ xs)) Gs
+    each : (ord : L) → (all-of (λ G. consecutive-on? l G ord) Gs ≡ true) ↔ AllOn l Gs ord
+    each ord = all-decides (λ G. consecutive-on? l G ord) (λ G. ConsecutiveOn l G ord) (λ G. decides-on l G ord) Gs
 
 -- So the test over all circular orders says what the tree says.
-pub possible-tree : (n : ℕ) (Gs : List Restriction) → (possible? n Gs ≡ true) ↔ ((t : Forest) × (joins Gs (fresh n) ≡ some t))
-possible-tree n Gs = Iff·trans (possible-decides n Gs) (possible-joins n Gs)
+pub possible-tree : (n : ℕ) (Gs : List Restriction) → (possible? Ring n Gs ≡ true) ↔ ((t : Forest) × (joins Gs (fresh n) ≡ some t))
+possible-tree n Gs = Iff·trans (possible-decides Ring n Gs) (possible-joins n Gs)

@@ -6,9 +6,13 @@ use mathlib.Core.Bool.{Bool, false, true}
 use mathlib.Core.List.{List, [], _++_, _∷_, map, append-assoc, append-nil, map-append}
 use Prim.Native.Nat.{ℕ, suc, _+_}
 use native.Mathlib.Omega.{arith}
+use Rattle.spec_orders.specs.declared.Layout.{Layout}
+use Rattle.spec_orders.specs.declared.Layout.the-variants.{Ring, Rack}
 use Rattle.spec_orders.specs.Lists.{numbers-from}
-use Rattle.spec_orders.specs.CircularOrder.{Restriction, EmptyGroup, Consecutive, Possible}
-use Rattle.spec_orders.specs.Conflict.{possible?, leave-out, conflict-list, Demand-3, ring-conflicts}
+use Rattle.spec_orders.specs.CircularOrder.{Restriction, EmptyGroup, Consecutive}
+use Rattle.spec_orders.specs.Layout.{ConsecutiveOn, Possible}
+use Rattle.spec_orders.specs.Conflict.{possible?, leave-out, conflict-list, Demand-3, book-conflicts}
+use Rattle.spec_orders.proofs.Contiguous.{out-con}
 use Rattle.spec_orders.proofs.ListLaws.{all-middle}
 use Rattle.spec_orders.proofs.Members.{nil-not, in-all}
 use Rattle.spec_orders.proofs.Numbers.{numbers-append}
@@ -21,25 +25,29 @@ pub empty-consecutive : (G : Restriction) → EmptyGroup G → (ord : List ℕ) 
 empty-consecutive G e ord =
     record { before = []; after = ord; run = []; rest = ord; cut = refl; turned = append-nil ord; in-run = tt; out-rest = in-all (λ x. G x ≡ false) ord (λ x i. e x) }
 
+pub empty-on : (l : Layout) (G : Restriction) → EmptyGroup G → (ord : List ℕ) → ConsecutiveOn l G ord
+empty-on Ring G e ord = empty-consecutive G e ord
+empty-on Rack G e ord = out-con G ord (in-all (λ x. G x ≡ false) ord (λ x i. e x))
+
 -- Groups are possible with it iff they are without it.
-pub possible-without : (n : ℕ) (G : Restriction) (before after : List Restriction) → EmptyGroup G → Possible n (before ++ (G ∷ after)) ↔ Possible n (before ++ after)
-possible-without n G before after e = (
-  (λ p. record { order = p .order; is-order = p .is-order; hang = all-middle (λ H. Consecutive H (p .order)) before G after .0 (p .hang) .0 }),
-  (λ p. record { order = p .order; is-order = p .is-order; hang = all-middle (λ H. Consecutive H (p .order)) before G after .1 (p .hang, empty-consecutive G e (p .order)) }),
+pub possible-without : (l : Layout) (n : ℕ) (G : Restriction) (before after : List Restriction) → EmptyGroup G → Possible l n (before ++ (G ∷ after)) ↔ Possible l n (before ++ after)
+possible-without l n G before after e = (
+  (λ p. record { order = p .order; is-order = p .is-order; hang = all-middle (λ H. ConsecutiveOn l H (p .order)) before G after .0 (p .hang) .0 }),
+  (λ p. record { order = p .order; is-order = p .is-order; hang = all-middle (λ H. ConsecutiveOn l H (p .order)) before G after .1 (p .hang, empty-on l G e (p .order)) }),
 )
 
 -- No list that meets the third demand names one.
-pub never-named : {n : ℕ} {f : ℕ → Restriction} {new : Restriction} {js ns : List ℕ} → Demand-3 (Possible n) f new js ns
+pub never-named : {l : Layout} {n : ℕ} {f : ℕ → Restriction} {new : Restriction} {js ns : List ℕ} → Demand-3 (Possible l n) f new js ns
     → (before : List ℕ) (j : ℕ) (after : List ℕ) → ns ≡ before ++ (j ∷ after) → EmptyGroup (f j) → ⊥
-never-named {n} {f} {new} d before j after named e =
+never-named {l} {n} {f} {new} d before j after named e =
     d .impossible (λ none. nil-not before j after (sym none ∙ named))
-    (subst (λ Gs. Possible n (new ∷ Gs)) (sym (ap (map f) named ∙ map-append f before (j ∷ after)))
-    (possible-without n (f j) (new ∷ map f before) (map f after) e .1
-    (subst (λ Gs. Possible n (new ∷ Gs)) (map-append f before after) (d .smallest before j after named))))
+    (subst (λ Gs. Possible l n (new ∷ Gs)) (sym (ap (map f) named ∙ map-append f before (j ∷ after)))
+    (possible-without l n (f j) (new ∷ map f before) (map f after) e .1
+    (subst (λ Gs. Possible l n (new ∷ Gs)) (map-append f before after) (d .smallest before j after named))))
 
 -- As the new group it has the empty list iff the book is possible by itself.
-pub empty-new : {n : ℕ} {f : ℕ → Restriction} {new : Restriction} {js ns : List ℕ} → Demand-3 (Possible n) f new js ns → EmptyGroup new → (ns ≡ []) ↔ Possible n (map f js)
-empty-new {n} {f} {new} {js} d e = Iff·trans (d .empty-iff) (possible-without n new [] (map f js) e)
+pub empty-new : {l : Layout} {n : ℕ} {f : ℕ → Restriction} {new : Restriction} {js ns : List ℕ} → Demand-3 (Possible l n) f new js ns → EmptyGroup new → (ns ≡ []) ↔ Possible l n (map f js)
+empty-new {l} {n} {f} {new} {js} d e = Iff·trans (d .empty-iff) (possible-without l n new [] (map f js) e)
 
 -- A group that the test does not see changes no conflict list, wherever it stands in the book.
 module _ {A : Type 0} (ok : List A → Bool) (f : ℕ → A) (j : ℕ) (unseen : (before after : List A) → ok (before ++ (f j ∷ after)) ≡ ok (before ++ after)) where
@@ -79,20 +87,20 @@ module _ {A : Type 0} (ok : List A → Bool) (f : ℕ → A) (j : ℕ) (unseen :
       go true q = refl
       go false q = rule-without stay before after q
 
-possible-unseen : (n : ℕ) (G : Restriction) → EmptyGroup G → (before after : List Restriction) → possible? n (before ++ (G ∷ after)) ≡ possible? n (before ++ after)
-possible-unseen n G e before after =
-    let with-it = possible-decides n (before ++ (G ∷ after)) in
-    let without = possible-decides n (before ++ after) in
-    let iff = possible-without n G before after e in
-    same-tests (possible? n (before ++ (G ∷ after))) (possible? n (before ++ after)) (λ p. without .1 (iff .0 (with-it .0 p))) (λ p. with-it .1 (iff .1 (without .0 p)))
+possible-unseen : (l : Layout) (n : ℕ) (G : Restriction) → EmptyGroup G → (before after : List Restriction) → possible? l n (before ++ (G ∷ after)) ≡ possible? l n (before ++ after)
+possible-unseen l n G e before after =
+    let with-it = possible-decides l n (before ++ (G ∷ after)) in
+    let without = possible-decides l n (before ++ after) in
+    let iff = possible-without l n G before after e in
+    same-tests (possible? l n (before ++ (G ∷ after))) (possible? l n (before ++ after)) (λ p. without .1 (iff .0 (with-it .0 p))) (λ p. with-it .1 (iff .1 (without .0 p)))
 
 -- One more in the book's next place changes no conflict list.
-pub conflicts-joined : (n : ℕ) (f : ℕ → Restriction) (count : ℕ) (new : Restriction) → EmptyGroup (f (suc count)) → ring-conflicts n f (suc count) new ≡ ring-conflicts n f count new
-conflicts-joined n f count new e =
+pub conflicts-joined : (l : Layout) (n : ℕ) (f : ℕ → Restriction) (count : ℕ) (new : Restriction) → EmptyGroup (f (suc count)) → book-conflicts l n f (suc count) new ≡ book-conflicts l n f count new
+conflicts-joined l n f count new e =
     let more : suc count ≡ count + 1 = omega arith in
     let last : 1 + count ≡ suc count = omega arith in
     let numbers : numbers-from 1 (suc count) ≡ numbers-from 1 count ++ (suc count ∷ []) =
     ap (numbers-from 1) more ∙ numbers-append 1 count 1 ∙ ap (λ (k : ℕ). numbers-from 1 count ++ (k ∷ [])) last in
-    ap (conflict-list (possible? n) f (new ∷ [])) numbers
-    ∙ list-without (possible? n) f (suc count) (possible-unseen n (f (suc count)) e) (new ∷ []) (numbers-from 1 count) []
-    ∙ ap (conflict-list (possible? n) f (new ∷ [])) (append-nil (numbers-from 1 count))
+    ap (conflict-list (possible? l n) f (new ∷ [])) numbers
+    ∙ list-without (possible? l n) f (suc count) (possible-unseen l n (f (suc count)) e) (new ∷ []) (numbers-from 1 count) []
+    ∙ ap (conflict-list (possible? l n) f (new ∷ [])) (append-nil (numbers-from 1 count))

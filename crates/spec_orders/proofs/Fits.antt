@@ -12,7 +12,8 @@ use Rattle.spec_orders.specs.Reduce.{put, one, Class, empty, full, parti
 use Rattle.spec_orders.proofs.ListLaws.{all-append, all-left, all-right}
 use Rattle.spec_orders.proofs.Rearranged.{perm-sym, perm-all}
 use Rattle.spec_orders.proofs.Members.{NonEmpty, perm-reverse}
-use Rattle.spec_orders.proofs.Contiguous.{L, Contiguous, Pure, Late, Early, sided-cut, sided-before, sided-after, sided-first, sided-tail, sided-both, sided-rev, sided-unrev, con-cut, con-late, con-out, con-end, out-con, con-front, con-back, con-both}
+use Rattle.spec_orders.specs.Layout.{Contiguous}
+use Rattle.spec_orders.proofs.Contiguous.{L, Pure, Late, Early, sided-cut, sided-before, sided-after, sided-first, sided-tail, sided-both, sided-rev, sided-unrev, con-cut, con-late, con-out, con-end, out-con, con-front, con-back, con-both}
 use Rattle.spec_orders.proofs.CircleAndLine.{complement-in, uncomplement-out}
 use Rattle.spec_orders.proofs.Laws.{forest-assoc, leaves-of}
 use Rattle.spec_orders.proofs.Parts.{put-one, item-perm, rev-put}

@@ -10,8 +10,10 @@ use native.Mathlib.Omega.{arith}
 use borrow.Author.Tests.{ltb-true}
 use lib.Dec.{ltb}
 use lib.ListN.{length}
+use Rattle.spec_orders.specs.declared.Layout.the-variants.{Ring}
 use Rattle.spec_orders.specs.Lists.{numbers-from, Rearranged}
-use Rattle.spec_orders.specs.CircularOrder.{others, CircularOrder, Restriction, Consecutive, AllConsecutive, Possible}
+use Rattle.spec_orders.specs.CircularOrder.{others, CircularOrder, Restriction, Consecutive}
+use Rattle.spec_orders.specs.Layout.{AllOn, Possible}
 use Rattle.spec_orders.specs.Tree.{P, Forest, nil, leaf, node, leaf-item, items, frontier, Consistent, no-items, leaf-first, Allowed}
 use Rattle.spec_orders.specs.Form.{Rises, Rising, Canonical, Single, InForm, standard}
 use Rattle.spec_orders.specs.Reduce.{pack}
@@ -100,35 +102,35 @@ fresh-allowed n ord = (
 )
 
 -- Restrictions that join a tree in form, one after another.
-pub joins-orders : (n : ℕ) (Gs : List Restriction) (t : Forest) → InForm n t → (ord : List ℕ) → Allows (joins Gs t) ord ↔ (Allowed t ord × AllConsecutive Gs ord)
+pub joins-orders : (n : ℕ) (Gs : List Restriction) (t : Forest) → InForm n t → (ord : List ℕ) → Allows (joins Gs t) ord ↔ (Allowed t ord × AllOn Ring Gs ord)
 unfolding joins
 joins-orders n [] t f ord = ((λ a. (a, tt)), (λ r. r .0))
 joins-orders n (G ∷ Gs) t f ord = go (join G t) refl (join-orders n G t f ord) (joins-orders n Gs)
   where
     go : (o : Option Forest) → join G t ≡ o → Allows o ord ↔ (Allowed t ord × Consecutive G ord)
-        → ((u : Forest) → InForm n u → (ord : List ℕ) → Allows (joins Gs u) ord ↔ (Allowed u ord × AllConsecutive Gs ord))
-        → Allows (then o (joins Gs)) ord ↔ (Allowed t ord × AllConsecutive (G ∷ Gs) ord)
+        → ((u : Forest) → InForm n u → (ord : List ℕ) → Allows (joins Gs u) ord ↔ (Allowed u ord × AllOn Ring Gs ord))
+        → Allows (then o (joins Gs)) ord ↔ (Allowed t ord × AllOn Ring (G ∷ Gs) ord)
     go none q k rec = ((λ g. absurd g), (λ r. k .1 (r .0, r .1 .0)))
     go (some u) q k rec =
         let r = rec u (join-some n G t u f q .form) ord in
         ((λ g. let a = r .0 g in let b = k .0 (a .0) in (b .0, (b .1, a .1))), (λ g. r .1 (k .1 (g .0, g .1 .0), g .1 .1)))
 
 -- From the fresh ring: the circular orders in which each restriction is consecutive.
-pub fresh-joins : (n : ℕ) (Gs : List Restriction) (ord : List ℕ) → Allows (joins Gs (fresh n)) ord ↔ (CircularOrder n ord × AllConsecutive Gs ord)
+pub fresh-joins : (n : ℕ) (Gs : List Restriction) (ord : List ℕ) → Allows (joins Gs (fresh n)) ord ↔ (CircularOrder n ord × AllOn Ring Gs ord)
 fresh-joins n Gs ord =
     let r = joins-orders n Gs (fresh n) (fresh-form n) ord in
     let f = fresh-allowed n ord in
     ((λ a. let s = r .0 a in (f .0 (s .0), s .1)), (λ s. r .1 (f .1 (s .0), s .1)))
 
 -- Possible together iff, joining one after another, none of them fails.
-pub possible-joins : (n : ℕ) (Gs : List Restriction) → Possible n Gs ↔ ((t : Forest) × (joins Gs (fresh n) ≡ some t))
+pub possible-joins : (n : ℕ) (Gs : List Restriction) → Possible Ring n Gs ↔ ((t : Forest) × (joins Gs (fresh n) ≡ some t))
 possible-joins n Gs = ((λ p. to p (joins Gs (fresh n)) refl), from)
   where
-    to : Possible n Gs → (o : Option Forest) → joins Gs (fresh n) ≡ o → (t : Forest) × (joins Gs (fresh n) ≡ some t)
+    to : Possible Ring n Gs → (o : Option Forest) → joins Gs (fresh n) ≡ o → (t : Forest) × (joins Gs (fresh n) ≡ some t)
     to p none e = absurd (subst (λ o. Allows o (p .order)) e (fresh-joins n Gs (p .order) .1 (p .is-order, p .hang)))
     to p (some t) e = (t, e)
 
-    from : (t : Forest) × (joins Gs (fresh n) ≡ some t) → Possible n Gs
+    from : (t : Forest) × (joins Gs (fresh n) ≡ some t) → Possible Ring n Gs
     from (t, e) =
         let r = fresh-joins n Gs (standard t) .0 (subst (λ o. Allows o (standard t)) (sym e) (standard-allowed t)) in
         record { order = standard t; is-order = r .0; hang = r .1 }

@@ -14,7 +14,8 @@ use Rattle.spec_orders.specs.Reduce.{one, pack, Class, empty, full, part
 use Rattle.spec_orders.proofs.ListLaws.{all-append}
 use Rattle.spec_orders.proofs.Rearranged.{perm-refl, perm-trans, perm-all, perm-append, perm-swap, perm-length, two-picks, nil-perm, short-perm}
 use Rattle.spec_orders.proofs.Members.{NonEmpty, perm-reverse}
-use Rattle.spec_orders.proofs.Contiguous.{L, Contiguous, Early, sided-before, sided-unrev, Contiguous-cut, con-cut, con-late, early-con, in-con, con-unrev}
+use Rattle.spec_orders.specs.Layout.{Contiguous}
+use Rattle.spec_orders.proofs.Contiguous.{L, Early, sided-before, sided-unrev, Contiguous-cut, con-cut, con-late, early-con, in-con, con-unrev}
 use Rattle.spec_orders.proofs.Laws.{leaves-of}
 use Rattle.spec_orders.proofs.Gives.{Gives, _⊗_, gives-⊕, gives-rev, consistent-cons, gives-C}
 use Rattle.spec_orders.proofs.Fits.{nil-order, Mark, Of, Fit, of-order, of-pure, pure-of}

@@ -8,6 +8,7 @@ use mathlib.Core.List.{List, [], _∷_}
 use Prim.Native.Nat.{_+_, _≤_, suc, zero, ℕ}
 use native.Mathlib.Omega.{arith}
 use lib.ListN.{length}
+use Rattle.spec_orders.specs.declared.Layout.the-variants.{Ring}
 use Rattle.spec_orders.specs.Lists.{All, Distinct, In, elem, numbers-from, Rearranged}
 use Rattle.spec_orders.specs.CircularOrder.{others, Restriction, WellFormed, EmptyGroup, Consecutive}
 use Rattle.spec_orders.specs.Tree.{Forest, items, frontier, Consistent, Allowed}
@@ -16,7 +17,8 @@ use Rattle.spec_orders.specs.Reduce.{complement, reduce}
 use Rattle.spec_orders.specs.Join.{side, join}
 use Rattle.spec_orders.proofs.Rearranged.{perm-trans, perm-sym}
 use Rattle.spec_orders.proofs.Members.{in-one, all-in, in-all, perm-in, elem-in, in-elem, all-but-one}
-use Rattle.spec_orders.proofs.Contiguous.{L, Contiguous}
+use Rattle.spec_orders.specs.Layout.{Contiguous}
+use Rattle.spec_orders.proofs.Contiguous.{L}
 use Rattle.spec_orders.proofs.CircleAndLine.{complement-out, consecutive-side}
 use Rattle.spec_orders.proofs.Numbers.{numbers-length, numbers-in}
 use Rattle.spec_orders.proofs.Laws.{canonical-forked}
@@ -80,7 +82,7 @@ pub record Joined (n : ℕ) (G : Restriction) (t t′ : Forest) : Type 0 where
   pub form : InForm n t′
   pub leaves : Rearranged (frontier t) (frontier t′)
   pub orders : (ord : List ℕ) → Allowed t′ ord ↔ (Allowed t ord × Consecutive G ord)
-  pub standard-first : StandardOrder t′ (standard t′)
+  pub standard-first : StandardOrder Ring n t′ (standard t′)
 
 join-form : (n : ℕ) (G : Restriction) (t t′ : Forest) → InForm n t → join G t ≡ some t′ → InForm n t′ × Rearranged (frontier t) (frontier t′)
 join-form n G t t′ f e =

@@ -1,13 +1,14 @@
 -- One item of a sequence: put in front, and its orders by itself.
 use mathlib.Core.Path.{_∙_, _≡_, ap, refl, subst, sym}
+use mathlib.Core.Logic.{inl, inr}
 use mathlib.Core.List.{List, [], _++_, _∷_, append-nil}
 use Prim.Native.Nat.{ℕ}
-use Rattle.spec_orders.specs.Lists.{Rearranged}
+use Rattle.spec_orders.specs.Lists.{In, Rearranged}
 use Rattle.spec_orders.specs.Tree.{Kind, Forest, nil, leaf, node, Item, leaf-item, node-item, items, append, rev, frontier, Turn, Consistent, no-items, node-first}
-use Rattle.spec_orders.specs.Form.{Single}
+use Rattle.spec_orders.specs.Form.{Every, Single}
 use Rattle.spec_orders.specs.Reduce.{put, one}
 use Rattle.spec_orders.proofs.Members.{NonEmpty, nonempty-left}
-use Rattle.spec_orders.proofs.Laws.{leaves-of, consistent-perm, consistent-append, Split, consistent-split}
+use Rattle.spec_orders.proofs.Laws.{forest-assoc, Every-of, leaves-of, consistent-perm, consistent-append, Split, consistent-split}
 use Rattle.spec_orders.specs.TreeText.{Forked}
 use Rattle.spec_orders.proofs.First.{two-nonempty}
 
@@ -55,6 +56,36 @@ pub forked-nonempty : (f : Forest) → Forked f → NonEmpty (items f) → NonEm
 forked-nonempty nil c h = h
 forked-nonempty (leaf b f) c h = tt
 forked-nonempty (node k i f) c h = nonempty-left (frontier i) (frontier f) (forked-nonempty i (c .0 .1) (two-nonempty (items i) (c .0 .0)))
+
+-- An item among others.
+pub append-put : (p : Forest) (t : Item) (f : Forest) → append (append p (one t)) f ≡ append p (put t f)
+append-put p t f = forest-assoc p (one t) f ∙ ap (append p) (put-one t f)
+
+pub record Place (t : Item) (j : Forest) : Type 0 where
+  pub before : Forest
+  pub after : Forest
+  pub there : j ≡ append before (put t after)
+
+pub in-place : (t : Item) (j : Forest) → In t (items j) → Place t j
+in-place t nil h = absurd h
+in-place t (leaf b f) (inl e) = record { before = nil; after = f; there = ap (λ u. put u f) (sym e) }
+in-place t (leaf b f) (inr h) = let r = in-place t f h in record { before = leaf b (r .before); after = r .after; there = ap (leaf b) (r .there) }
+in-place t (node k i f) (inl e) = record { before = nil; after = f; there = ap (λ u. put u f) (sym e) }
+in-place t (node k i f) (inr h) = let r = in-place t f h in record { before = node k i (r .before); after = r .after; there = ap (node k i) (r .there) }
+
+pub place-in : (p : Forest) (t : Item) (f : Forest) → In t (items (append p (put t f)))
+place-in nil t f = subst (In t) (sym (items-put t f)) (inl refl)
+place-in (leaf b p) t f = inr (place-in p t f)
+place-in (node k i p) t f = inr (place-in p t f)
+
+module _ (Q : Kind → Forest → Type 0) where
+  pub every-put : (t : Item) (f : Forest) → Every Q (put t f) → Every-of Q t × Every Q f
+  every-put (leaf-item b) f c = (tt, c)
+  every-put (node-item k i) f c = c
+
+  pub every-one : (t : Item) → Every-of Q t → Every Q (one t)
+  every-one (leaf-item b) c = tt
+  every-one (node-item k i) c = (c, tt)
 
 pub rev-put : (t : Item) (f : Forest) → rev (put t f) ≡ append (rev f) (one t)
 rev-put (leaf-item b) f = refl

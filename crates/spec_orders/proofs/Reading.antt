@@ -12,7 +12,8 @@ use Rattle.spec_orders.specs.Tree.{nil, Item, leaf-item, node-item, Cons
 use Rattle.spec_orders.specs.Reduce.{one, Class, empty, full, partial, is, Part, whole, only, linear-partial}
 use Rattle.spec_orders.proofs.Rearranged.{short-perm}
 use Rattle.spec_orders.proofs.Members.{perm-reverse}
-use Rattle.spec_orders.proofs.Contiguous.{L, Contiguous, Pure, Sided, Late, Early, Sided-cut, sided-cut, sided-first, sided-last, sided-rev, Contiguous-cut, con-cut, out-con, con-front, con-back, con-early}
+use Rattle.spec_orders.specs.Layout.{Contiguous}
+use Rattle.spec_orders.proofs.Contiguous.{L, Pure, Sided, Late, Early, Sided-cut, sided-cut, sided-first, sided-last, sided-rev, Contiguous-cut, con-cut, out-con, con-front, con-back, con-early}
 use Rattle.spec_orders.proofs.Laws.{leaves-of, consistent-split}
 use Rattle.spec_orders.proofs.Mirror.{consistent-mirror}
 use Rattle.spec_orders.proofs.Gives.{Gives, _⊗_, consistent-cons, same-iff}

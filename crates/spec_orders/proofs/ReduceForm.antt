@@ -27,17 +27,17 @@ use Rattle.spec_orders.proofs.Reduced.{single-gather, some-other}
 use Rattle.spec_orders.proofs.ReduceOrders.{whole-parts, parts-length, parts-fit, reduce-frontier}
 
 -- A node's items do not fall; a C-node's first leaf is not above that of its last item.
-abbrev Sloped : Kind → Forest → Type 0
+abbrev pub Sloped : Kind → Forest → Type 0
 Sloped P i = Climbing (items i)
 Sloped C i = first i ≤ first (rev i)
 
-abbrev Node-formed : Kind → Forest → Type 0
+abbrev pub Node-formed : Kind → Forest → Type 0
 Node-formed k i = Enough k i × Sloped k i
 
-abbrev Formed : Forest → Type 0
+abbrev pub Formed : Forest → Type 0
 Formed f = Every Node-formed f
 
-abbrev Formed-of : Item → Type 0
+abbrev pub Formed-of : Item → Type 0
 Formed-of = Every-of Node-formed
 
 formed-put : (t : Item) (f : Forest) → Formed-of t → Formed f → Formed (put t f)
@@ -283,10 +283,10 @@ slope P i h = go (items i) h
     go (t ∷ ts) h = climb (first-of t) ts h
 slope C i h = omega arith
 
-canonical-formed : (f : Forest) → Canonical f → Formed f
+pub canonical-formed : (f : Forest) → Canonical f → Formed f
 canonical-formed = every-map Node-canonical Node-formed (λ k i q. (q .0, slope k i (q .1)))
 
-formed-canonical : (f : Forest) → Formed f → Distinct (frontier f) → Canonical f
+pub formed-canonical : (f : Forest) → Formed f → Distinct (frontier f) → Canonical f
 formed-canonical nil h d = tt
 formed-canonical (leaf b f) h d = formed-canonical f h (d .1)
 formed-canonical (node k i f) h d =

@@ -12,7 +12,8 @@ use Rattle.spec_orders.specs.CircularOrder.{Restriction, Inside, Outside
 use Rattle.spec_orders.specs.Tree.{Kind, Forest, nil, leaf, node, Item, leaf-item, node-item, items, frontier, Consistent}
 use Rattle.spec_orders.specs.Form.{Single}
 use Rattle.spec_orders.specs.Reduce.{put, one, Class, empty, full, partial, class, Part, whole, settled, node-part, parts, reduce}
-use Rattle.spec_orders.proofs.Contiguous.{L, Contiguous, Late, sided-first, sided-last, in-con, out-con}
+use Rattle.spec_orders.specs.Layout.{Contiguous}
+use Rattle.spec_orders.proofs.Contiguous.{L, Late, sided-first, sided-last, in-con, out-con}
 use Rattle.spec_orders.proofs.Laws.{leaves-of, consistent-perm}
 use Rattle.spec_orders.specs.TreeText.{Forked}
 use Rattle.spec_orders.proofs.First.{frontier-allowed, two-nonempty}

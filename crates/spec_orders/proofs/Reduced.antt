@@ -15,7 +15,8 @@ use Rattle.spec_orders.specs.Tree.{Kind, P, C, Forest, nil, leaf, node, 
 use Rattle.spec_orders.specs.Reduce.{put, one, put-sorted, orient, pack, Class, empty, full, partial, is, Part, whole, only, _⊕_, reversed, c-node, middle, gather, among, reduced-node, settled}
 use Rattle.spec_orders.proofs.ListLaws.{all-left, all-right}
 use Rattle.spec_orders.proofs.Rearranged.{perm-refl, perm-trans, perm-sym, perm-all, perm-left, pick-middle, perm-append, perm-swap, perm-length, pull-out}
-use Rattle.spec_orders.proofs.Contiguous.{L, Contiguous, Pure, con-out, con-end, con-rev, con-unrev}
+use Rattle.spec_orders.specs.Layout.{Contiguous}
+use Rattle.spec_orders.proofs.Contiguous.{L, Pure, con-out, con-end, con-rev, con-unrev}
 use Rattle.spec_orders.proofs.First.{frontier-allowed}
 use Rattle.spec_orders.proofs.Parts.{put-one}
 use Rattle.spec_orders.proofs.PutSorted.{put-sorted-perm, put-sorted-consistent}

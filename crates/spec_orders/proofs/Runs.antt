@@ -9,6 +9,7 @@ use native.Mathlib.Decide.{decLe}
 use native.Mathlib.Omega.{arith}
 use lib.ListN.{length, getD, length-append, List·getD-append}
 use lib.Seq.{getD-append-add}
+use Rattle.spec_orders.specs.declared.Layout.the-variants.{Ring}
 use Rattle.spec_orders.specs.Lists.{All, count}
 use Rattle.spec_orders.specs.CircularOrder.{Restriction, Inside, Outside, Consecutive}
 use Rattle.spec_orders.specs.Aim.{last-of, start-after, run-start, GroupRun}
@@ -23,7 +24,7 @@ last-append b [] ys = refl
 last-append b (x ∷ xs) ys = last-append x xs ys
 
 module _ (G : Restriction) where
-  last-all : (c : Bool) (b : ℕ) (xs : L) → 1 ≤ length xs → All (λ x. G x ≡ c) xs → G (last-of b xs) ≡ c
+  pub last-all : (c : Bool) (b : ℕ) (xs : L) → 1 ≤ length xs → All (λ x. G x ≡ c) xs → G (last-of b xs) ≡ c
   last-all c b [] l h = absurd (omega arith)
   last-all c b (x ∷ []) l h = h .0
   last-all c b (x ∷ (y ∷ ys)) l h = last-all c x (y ∷ ys) (omega arith) (h .1)
@@ -46,7 +47,7 @@ module _ (G : Restriction) where
   start-here b p (y ∷ run) ys g l i = rw (i .0, g)
 
   -- A run after leaves outside the group; after others of it, past the seam, and leaves outside; and the whole circle.
-  start-after-out : (b : ℕ) (out run ys : L) → G (last-of b out) ≡ false → Outside G out → 1 ≤ length run → Inside G run
+  pub start-after-out : (b : ℕ) (out run ys : L) → G (last-of b out) ≡ false → Outside G out → 1 ≤ length run → Inside G run
       → start-after G b 0 (out ++ (run ++ ys)) ≡ length out
   start-after-out b out run ys g o l i = skip-out b 0 out (run ++ ys) o ∙ start-here (last-of b out) (0 + length out) run ys g l i ∙ omega arith
 
@@ -118,7 +119,7 @@ module _ {G : Restriction} {ord : L} (r : GroupRun G ord) where
       ∙ List·getD-append (t .run) (t .rest) 0 j l
 
   -- The run starts where the definition says.
-  pub group-start : 1 ≤ length (t .run) → run-start G ord ≡ length (t .before)
+  pub group-start : 1 ≤ length (t .run) → run-start Ring G ord ≡ length (t .before)
   unfolding run-start
   group-start l = by-rest (t .rest) refl
     where

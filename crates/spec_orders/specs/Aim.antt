@@ -6,8 +6,11 @@ use mathlib.Core.List.{List, [], _∷_, _++_}
 use Prim.Native.Nat.{ℕ, suc, _+_, _-_, _/_, _%_, _<_}
 use lib.Dec.{eqb}
 use lib.ListN.{length, getD}
+use Rattle.spec_orders.specs.declared.Layout.{Layout}
+use Rattle.spec_orders.specs.declared.Layout.the-variants.{Ring, Rack}
 use Rattle.spec_orders.specs.Lists.{count}
 use Rattle.spec_orders.specs.CircularOrder.{Restriction, Consecutive}
+use Rattle.spec_orders.specs.Layout.{Contiguous}
 
 abbrev pub last-of : ℕ → List ℕ → ℕ
 last-of b [] = b
@@ -18,9 +21,14 @@ abbrev pub start-after : Restriction → ℕ → ℕ → List ℕ → ℕ
 start-after G b p [] = 0
 start-after G b p (x ∷ xs) = cond (G x && not (G b)) p (start-after G x (suc p) xs)
 
--- Where the run of a group that hangs together starts; the last leaf stands before the first. "The whole ring starts at 0."
-unfoldable pub run-start : Restriction → List ℕ → ℕ
-run-start G ord = start-after G (last-of 0 ord) 0 ord
+-- What stands before the first place: on a ring the last leaf; on a rack, which has no seam, the hidden end bin.
+abbrev pub before-first : Layout → List ℕ → ℕ
+before-first Ring ord = last-of 0 ord
+before-first Rack ord = suc (length ord)
+
+-- Where the run of a group that hangs together starts. "The whole ring starts at 0."
+unfoldable pub run-start : Layout → Restriction → List ℕ → ℕ
+run-start l G ord = start-after G (before-first l ord) 0 ord
 
 -- The two places in the middle of "a run that starts at place s and has m bins", counted on past the last place. (`/` here rounds down.) They are side
 -- by side where m is even, and "s + (m − 1) / 2" lies half way between them; where m is odd they are one, the exact middle.
@@ -35,13 +43,15 @@ upper-middle s m = s + m / 2
 unfoldable pub rounded : ℕ → ℕ → ℕ
 rounded a b = cond (eqb b 0) 0 (cond (eqb (a % 2) 0) a b)
 
--- The place of the aim, round n places, of a run that starts at place s and has m leaves.
-abbrev pub aim-place : ℕ → ℕ → ℕ → ℕ
-aim-place n s m = rounded (lower-middle s m % n) (upper-middle s m % n)
+-- The place of the aim, of a run that starts at place s and has m leaves: round the n places of a ring; document 02, No. 6: on a rack "the aim takes the
+-- rule of No. 3 without a seam".
+abbrev pub aim-place : Layout → ℕ → ℕ → ℕ → ℕ
+aim-place Ring n s m = rounded (lower-middle s m % n) (upper-middle s m % n)
+aim-place Rack n s m = rounded (lower-middle s m) (upper-middle s m)
 
 -- The aim of a group that hangs together in the order: the leaf at that place.
-unfoldable pub aim-of : Restriction → List ℕ → ℕ
-aim-of G ord = getD ord (aim-place (length ord) (run-start G ord) (count G ord)) 0
+unfoldable pub aim-of : Layout → Restriction → List ℕ → ℕ
+aim-of l G ord = getD ord (aim-place l (length ord) (run-start l G ord) (count G ord)) 0
 
 -- The middle without a formula, for a leaf at this place; `next` is the place after it. `before` and `after` count the run's leaves on either side of
 -- it. They are equal; or one is one more, and then the place is even, and not the last one where the other middle is place 0.
@@ -65,3 +75,17 @@ pub record Aimed (G : Restriction) (ord : List ℕ) (b : ℕ) : Type 0 where
   pub place : ℕ
   pub at : place ≡ (length (run .turn .before) + length left) % length ord
   pub middle : Middle place ((place + 1) % length ord) (length left) (length right)
+
+-- The same on a rack, where no place follows the last one.
+pub record AimedStraight (G : Restriction) (ord : List ℕ) (b : ℕ) : Type 0 where
+  pub run : Contiguous G ord
+  pub left : List ℕ
+  pub right : List ℕ
+  pub leaves : run .run ≡ left ++ (b ∷ right)
+  pub place : ℕ
+  pub at : place ≡ length (run .left) + length left
+  pub middle : Middle place (place + 1) (length left) (length right)
+
+abbrev pub AimedOn : Layout → Restriction → List ℕ → ℕ → Type 0
+AimedOn Ring G ord b = Aimed G ord b
+AimedOn Rack G ord b = AimedStraight G ord b

@@ -6,12 +6,13 @@ use Prim.Native.Nat.{ℕ}
 use Prim.Native.Char.{code}
 use Prim.Native.String.{String}
 use lib.ListN.{length}
+use Rattle.spec_orders.specs.declared.Layout.the-variants.{Ring}
 use Rattle.spec_orders.specs.Lists.{elem, same}
 use Rattle.spec_orders.specs.CircularOrder.{Restriction}
 use Rattle.spec_orders.specs.Tree.{Forest}
 use Rattle.spec_orders.specs.TreeText.{tree-text}
 use Rattle.spec_orders.specs.Join.{fresh, join}
-use Rattle.spec_orders.specs.Conflict.{ring-conflicts, numbered}
+use Rattle.spec_orders.specs.Conflict.{book-conflicts, numbered}
 
 -- A group that is tried: kept, with an empty conflict list; or refused (8), with its conflict list.
 pub data Try : Type 0 where
@@ -40,9 +41,9 @@ impossible (some t) = false
 unfoldable pub right-from : ℕ → String → List Try → Forest → List Restriction → Bool
 right-from n s [] t book = same (tree-text t) (bytes s)
 right-from n s (kept l ∷ ts) t book =
-    same (ring-conflicts n (numbered book) (length book) (elem l)) [] && with-tree (join (elem l) t) (λ u. right-from n s ts u (book ++ (elem l ∷ [])))
+    same (book-conflicts Ring n (numbered book) (length book) (elem l)) [] && with-tree (join (elem l) t) (λ u. right-from n s ts u (book ++ (elem l ∷ [])))
 right-from n s (refused l ns ∷ ts) t book =
-    same (ring-conflicts n (numbered book) (length book) (elem l)) ns && (impossible (join (elem l) t) && right-from n s ts t book)
+    same (book-conflicts Ring n (numbered book) (length book) (elem l)) ns && (impossible (join (elem l) t) && right-from n s ts t book)
 
 unfoldable pub right : Circle → Bool
 right c = right-from (c .leaves) (c .text) (c .tries) (fresh (c .leaves)) []

@@ -27,7 +27,7 @@ pub record WellFormed (n : ℕ) (list : List ℕ) : Type 0 where
   pub in-range : All (λ b. (1 ≤ b) × (b ≤ n)) list
   pub different : Distinct list
 
--- The group that a list names in a ring of n leaves.
+-- The group that a list names in a ring or a rack of n bins.
 abbrev pub group-of : ℕ → List ℕ → Restriction
 group-of n list = elem list
 
@@ -53,14 +53,3 @@ pub record Consecutive (G : Restriction) (ord : List ℕ) : Type 0 where
   pub turned : after ++ before ≡ run ++ rest
   pub in-run : Inside G run
   pub out-rest : Outside G rest
-
--- Each of the groups, by itself, hangs together in the order.
-abbrev pub AllConsecutive : List Restriction → List ℕ → Type 0
-AllConsecutive Gs ord = All (λ G. Consecutive G ord) Gs
-
--- "Groups can hang together when there is one ring order in which each of them, by itself, hangs together.
--- Otherwise they are impossible together."
-pub record Possible (n : ℕ) (Gs : List Restriction) : Type 0 where
-  pub order : List ℕ
-  pub is-order : CircularOrder n order
-  pub hang : AllConsecutive Gs order

@@ -1,11 +1,13 @@
 -- Document 01, "Conflict list". The rule and its demand are over any groups, any numbers of them, and any meaning of "can hang together". For rings
--- that is over circular orders, without a tree, and it computes: "impossible together" is tried on every circular order.
+-- and racks that is over their orders, without a tree, and it computes: "impossible together" is tried on every order.
 use mathlib.Core.Path.{_≡_}
 use mathlib.Core.Logic.{_↔_, _≢_}
 use mathlib.Core.Bool.{Bool, true, false, cond}
 use mathlib.Core.List.{List, [], _∷_, _++_, map}
 use Prim.Native.Nat.{ℕ, suc, _-_, _≤_}
 use lib.ListN.{getD}
+use Rattle.spec_orders.specs.declared.Layout.{Layout}
+use Rattle.spec_orders.specs.declared.Layout.the-variants.{Ring, Rack}
 use Rattle.spec_orders.specs.Lists.{some-of, all-of, numbers-from}
 use Rattle.spec_orders.specs.CircularOrder.{Restriction, others}
 
@@ -41,9 +43,23 @@ run-first G (x ∷ xs) = cond (G x) (run-first G xs) (none-in G xs)
 unfoldable pub consecutive? : Restriction → List ℕ → Bool
 consecutive? G ord = some-of (run-first G) (turns [] ord)
 
+-- The same in a straight order: leaves outside the group, then leaves of it, and then no other (it decides `Contiguous`).
+abbrev pub contiguous? : Restriction → List ℕ → Bool
+contiguous? G [] = true
+contiguous? G (x ∷ xs) = cond (G x) (run-first G (x ∷ xs)) (contiguous? G xs)
+
+abbrev pub consecutive-on? : Layout → Restriction → List ℕ → Bool
+consecutive-on? Ring G ord = consecutive? G ord
+consecutive-on? Rack G ord = contiguous? G ord
+
+-- All orders (those of `OrderOn`).
+abbrev pub orders-on : Layout → ℕ → List (List ℕ)
+orders-on Ring n = map (λ xs. 1 ∷ xs) (perms (others n))
+orders-on Rack n = perms (numbers-from 1 n)
+
 -- The test whether the groups can hang together (it decides `Possible`).
-unfoldable pub possible? : ℕ → List Restriction → Bool
-possible? n Gs = some-of (λ xs. all-of (λ G. consecutive? G (1 ∷ xs)) Gs) (perms (others n))
+unfoldable pub possible? : Layout → ℕ → List Restriction → Bool
+possible? l n Gs = some-of (λ ord. all-of (λ G. consecutive-on? l G ord) Gs) (orders-on l n)
 
 -- Some elements of a list, in their sequence: `Sublist l m`, m is l with elements left out.
 pub data Sublist {A : Type 0} : List A → List A → Type 0 where
@@ -76,9 +92,9 @@ module _ {A : Type 0} where
     pub smallest : (a : List ℕ) (j : ℕ) (b : List ℕ) → ns ≡ a ++ (j ∷ b) → Ok (new ∷ map f (a ++ b))
     pub numbers : Sublist js ns
 
--- The conflict list of a ring's whole book: its groups have the numbers 1 to count.
-abbrev pub ring-conflicts : ℕ → (ℕ → Restriction) → ℕ → Restriction → List ℕ
-ring-conflicts n f count new = conflict-list (possible? n) f (new ∷ []) (numbers-from 1 count)
+-- The conflict list of a whole book, of a ring or a rack: its groups have the numbers 1 to count.
+abbrev pub book-conflicts : Layout → ℕ → (ℕ → Restriction) → ℕ → Restriction → List ℕ
+book-conflicts l n f count new = conflict-list (possible? l n) f (new ∷ []) (numbers-from 1 count)
 
 -- The group with the number j in a list of groups.
 abbrev pub numbered : List Restriction → ℕ → Restriction

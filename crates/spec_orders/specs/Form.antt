@@ -4,9 +4,10 @@ use mathlib.Core.List.{List, [], _∷_}
 use Prim.Native.Nat.{ℕ, suc, _+_, _≤_, _<_}
 use lib.Dec.{leb, ltb}
 use lib.ListN.{length}
+use Rattle.spec_orders.specs.declared.Layout.{Layout}
 use Rattle.spec_orders.specs.Lists.{Rearranged, NotAfter, rearranged?}
 use Rattle.spec_orders.specs.CircularOrder.{others}
-use Rattle.spec_orders.specs.Tree.{Kind, P, C, Forest, nil, leaf, node, Item, leaf-item, node-item, items, rev, frontier, Allowed}
+use Rattle.spec_orders.specs.Tree.{Kind, P, C, Forest, nil, leaf, node, Item, leaf-item, node-item, items, rev, frontier, AllowedOn}
 
 -- The first leaf printed (of a sequence with no empty node).
 abbrev pub first : Forest → ℕ
@@ -69,9 +70,10 @@ pub record FirstOf (Ok : List ℕ → Type 0) (ord : List ℕ) : Type 0 where
   pub allowed : Ok ord
   pub least : (other : List ℕ) → Ok other → NotAfter ord other
 
--- "The standard order is the first, in dictionary order of bin numbers, of all allowed orders."
-abbrev pub StandardOrder : Forest → List ℕ → Type 0
-StandardOrder t ord = FirstOf (Allowed t) ord
+-- "The standard order is the first, in dictionary order of bin numbers, of all allowed orders." On a rack it "is the first allowed list in dictionary
+-- order".
+abbrev pub StandardOrder : Layout → ℕ → Forest → List ℕ → Type 0
+StandardOrder l n t ord = FirstOf (AllowedOn l n t) ord
 
 -- How many inner nodes.
 abbrev pub nodes : Forest → ℕ

@@ -4,7 +4,9 @@
 use mathlib.Core.Path.{_≡_}
 use mathlib.Core.Logic.{_⊎_}
 use mathlib.Core.List.{List, [], _∷_, _++_}
-use Prim.Native.Nat.{ℕ}
+use Prim.Native.Nat.{ℕ, suc}
+use Rattle.spec_orders.specs.declared.Layout.{Layout}
+use Rattle.spec_orders.specs.declared.Layout.the-variants.{Ring, Rack}
 use Rattle.spec_orders.specs.Lists.{Rearranged}
 
 pub data Kind : Type 0 where
@@ -61,3 +63,21 @@ pub record Allowed (t : Forest) (ord : List ℕ) : Type 0 where
   pub after : List ℕ
   pub one-first : ord ≡ 1 ∷ after
   pub order : Consistent t after
+
+-- A circle read from another place.
+pub record Rotation (c d : List ℕ) : Type 0 where
+  pub left : List ℕ
+  pub right : List ℕ
+  pub whole : c ≡ left ++ right
+  pub turned : d ≡ right ++ left
+
+-- Document 02, No. 6: the straight orders that the tree of a rack allows. A circular order that it allows, read from the hidden end bin, which is left
+-- out.
+pub record Straight (n : ℕ) (t : Forest) (ord : List ℕ) : Type 0 where
+  pub circle : List ℕ
+  pub allowed : Allowed t circle
+  pub read : Rotation circle (suc n ∷ ord)
+
+abbrev pub AllowedOn : Layout → ℕ → Forest → List ℕ → Type 0
+AllowedOn Ring n t ord = Allowed t ord
+AllowedOn Rack n t ord = Straight n t ord

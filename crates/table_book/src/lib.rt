@@ -12,7 +12,7 @@ ghost use Rattle.table_book.specs.Groups.{groups-in-form?};
 ghost use Rattle.table_book.specs.Lists.{LeavesChecked, ListChecked};
 use spec_calls::Refusal;
 
-// What the check of a group's list says: it is a list of different leaves of the ring, or why it is refused.
+// What the check of a group's list says: it is a list of different bins from 1 to n, or why it is refused.
 pub enum Checked {
     Fine,
     Bad(Refusal),
@@ -100,7 +100,7 @@ fn bad_leaf(list: &[u16], n: usize, k: usize, seen: &mut [u64]) -> Checked
     bad_leaf(&list[1..], n, k + 1, seen)
 }
 
-// Checks 5 and 6: whether the list is a group of a ring with n leaves. Where it is, the four words get the group's marks.
+// Checks 5 and 6: whether the list is a group of n bins. Where it is, the four words get the group's marks.
 pub fn check_list(list: &[u16], n: usize, marks: &mut [u64]) -> Checked
     requires { ⌜ (n ≤ 256) × (length (now marks) ≡ 4) ⌝ }
     ensures { λ r. ⌜ ListChecked n (now (list .entry)) (now (marks .exit)) r ⌝ }

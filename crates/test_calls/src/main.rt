@@ -1,7 +1,7 @@
 // Obeys the commands of script.txt, one a line, and prints a line for each call: its letter, what it answered, and a checksum of each table
 // lent to it. A command is a letter and numbers, one space before each: one of those of crate test_commands, or
 //
-//   C n b count c list         the conflict list of a group, into the first c places of the conflicts
+//   C rack n b count c list         the conflict list of a group, into the first c places of the conflicts
 use spec_calls::Answer;
 use test_fields::at;
 use test_fields::least;
@@ -69,8 +69,8 @@ fn on_book(letter: u8, numbers: &[usize], book: &[u64], conflicts: &mut [u16]) {
     if letter != b'C' {
         return;
     }
-    let b = least(at(numbers, 1), book.len());
-    let c = least(at(numbers, 3), conflicts.len());
+    let b = least(at(numbers, 2), book.len());
+    let c = least(at(numbers, 4), conflicts.len());
     let got = conflict_list(numbers, &book[0..b], &mut conflicts[0..c]);
     test_commands::answer(letter, got);
     test_sums::book_and_conflicts(book, conflicts);
@@ -79,6 +79,14 @@ fn on_book(letter: u8, numbers: &[usize], book: &[u64], conflicts: &mut [u16]) {
 // The answer of the call.
 fn conflict_list(numbers: &[usize], book: &[u64], conflicts: &mut [u16]) -> Answer {
     let mut list = [0u16; 512];
-    let k = test_fields::leaves(numbers, 4, &mut list);
-    call_conflict::conflict(at(numbers, 0), book, at(numbers, 2), &list[0..k], conflicts)
+    let k = test_fields::leaves(numbers, 5, &mut list);
+    let layout = test_fields::layout(at(numbers, 0));
+    call_conflict::conflict(
+        layout,
+        at(numbers, 1),
+        book,
+        at(numbers, 3),
+        &list[0..k],
+        conflicts,
+    )
 }

@@ -1,6 +1,7 @@
 // The fields of a line of document 02's vectors, with single spaces between them. A field that is missing is read as the largest usize.
 ghost use Prim.Native.Nat.{_≤_};
 ghost use lib.ListN.{length};
+use spec_orders::Layout;
 use test_fields::least;
 
 // What a field holds, and where the next one begins.
@@ -53,20 +54,20 @@ fn changes(line: &[u8], at: usize, table: &mut [u16]) -> usize {
 }
 
 // Reads a tree text, if it has bytes, into a table.
-fn read_text(n: usize, text: &[u8], table: &mut [u16]) {
+fn read_text(layout: Layout, n: usize, text: &[u8], table: &mut [u16]) {
     if text.len() == 0 {
         return;
     }
     let mut book = [0u64; 384];
-    let _ = call_text::read(n, table, 256, &mut book, text);
+    let _ = call_text::read(layout, n, table, 256, &mut book, text);
 }
 
 // Reads the tree text at a place into a table of zeros, and then changes it. Answers where the next field begins.
-pub fn tree(line: &[u8], at: usize, n: usize, table: &mut [u16]) -> usize {
+pub fn tree(line: &[u8], at: usize, layout: Layout, n: usize, table: &mut [u16]) -> usize {
     let mut text = [0u8; 2304];
     let read = bytes(line, at, &mut text);
     let k = read.value;
-    read_text(n, &text[0..k], table);
+    read_text(layout, n, &text[0..k], table);
     changes(line, read.next, table)
 }
 

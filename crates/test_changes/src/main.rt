@@ -1,10 +1,10 @@
 // Runs the vectors of document 02 through the calls, compares each answer with the file's, and counts the cases by n.
 mod aims;
 mod answers;
-mod conflicts;
 mod fields;
+mod fills;
 mod intersections;
-mod orders;
+mod lists;
 mod rings;
 mod texts;
 mod updates;
@@ -16,6 +16,8 @@ fn main() {
     file(b"03_aim.txt");
     file(b"04_trial.txt");
     file(b"05_threes.txt");
+    file(b"06_racks.txt");
+    file(b"06_racks_refusals.txt");
 }
 
 // Reads a file, counts the outcome of each line, and prints its name and the counts.
@@ -46,13 +48,14 @@ fn outcome(line: &[u8]) -> usize {
     match test_fields::letter(line) {
         b'#' => 0,
         b'A' => 4 * n + aims::outcome(line),
-        b'C' => 4 * n + conflicts::outcome(line),
+        b'C' => 4 * n + lists::conflicted(line),
         b'I' => 4 * n + intersections::outcome(line),
         b'J' => 4 * n + updates::joined(line),
-        b'R' => 4 * n + texts::read(line),
-        b'S' => 4 * n + orders::outcome(line),
+        b'O' => 4 * n + fills::opened(line),
+        b'R' => 4 * n + fills::read(line),
+        b'S' => 4 * n + lists::ordered(line),
         b'T' => 4 * n + updates::tried(line),
-        b'W' => 4 * n + texts::written(line),
+        b'W' => 4 * n + texts::outcome(line),
         _ => 4 * n + 3,
     }
 }

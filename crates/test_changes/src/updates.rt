@@ -1,11 +1,13 @@
-// A line of a call that joins a group, `J RING LIST = ANSWER`, or tries one, `T RING LIST = ANSWER`.
+// A line of a call that joins a group, `J n rack rec words days TREE BOOK DAYS LIST = ANSWER`, or tries one, `T` and the same, where days and DAYS
+// are 0.
 ghost use Prim.Native.Nat.{_≤_};
 use crate::answers;
 use crate::answers::Compared;
 use crate::fields;
 use crate::rings;
-use crate::rings::Ring;
+use crate::rings::Lent;
 use spec_calls::Answer;
+use test_fields::layout;
 use test_fields::least;
 
 // 1 where joining is done as in the file, 2 where it is refused as in the file, 3 where the answer or a table is another.
@@ -14,24 +16,25 @@ pub fn joined(line: &[u8]) -> usize
 {
     let mut nodes = [0u16; 66049];
     let mut book = [0u64; 388];
-    let ring = rings::read(line, &mut nodes, &mut book);
+    let lent = rings::ring(line, &mut nodes, &mut book);
     let mut list = [0u16; 512];
-    let group = fields::list(line, ring.next, &mut list);
+    let group = fields::list(line, lent.next, &mut list);
     let k = group.value;
-    let got = join(ring, &mut nodes, &mut book, &list[0..k]);
+    let got = join(lent, &mut nodes, &mut book, &list[0..k]);
     after(line, group.next, got, &nodes, &book)
 }
 
 // Joins the group of the list to the lent part of the tables.
-fn join(ring: Ring, nodes: &mut [u16], book: &mut [u64], list: &[u16]) -> Answer {
-    let a = least(ring.numbers, nodes.len());
-    let b = least(ring.words, book.len());
+fn join(lent: Lent, nodes: &mut [u16], book: &mut [u64], list: &[u16]) -> Answer {
+    let a = least(lent.numbers, nodes.len());
+    let b = least(lent.size, book.len());
     call_update::join(
-        ring.n,
+        layout(lent.rack),
+        lent.n,
         &mut nodes[0..a],
-        ring.have,
+        lent.have,
         &mut book[0..b],
-        ring.count,
+        lent.count,
         list,
     )
 }
@@ -65,15 +68,15 @@ fn is_joined(line: &[u8], at: usize, nodes: &[u16], book: &[u64]) -> bool {
     let k = want.value;
     let mut old = [0u16; 66049];
     let mut groups = [0u64; 388];
-    let ring = rings::read(line, &mut old, &mut groups);
-    if !test_tables::is_text(ring.n, nodes, &text[0..k]) {
+    let lent = rings::ring(line, &mut old, &mut groups);
+    if !test_tables::is_text(layout(lent.rack), lent.n, nodes, &text[0..k]) {
         return false;
     }
     let past = least(65792, nodes.len());
     if !tree_tokens::equal(&nodes[past..], &old[65792..]) {
         return false;
     }
-    add_group(line, want.next, ring.count, &mut groups);
+    add_group(line, want.next, lent.count, &mut groups);
     test_tables::same_words(book, &groups)
 }
 
@@ -87,7 +90,7 @@ fn add_group(line: &[u8], at: usize, count: usize, book: &mut [u64]) {
 fn is_kept(line: &[u8], nodes: &[u16], book: &[u64]) -> bool {
     let mut old = [0u16; 66049];
     let mut groups = [0u64; 388];
-    let _ = rings::read(line, &mut old, &mut groups);
+    let _ = rings::ring(line, &mut old, &mut groups);
     if !tree_tokens::equal(nodes, &old) {
         return false;
     }
@@ -100,18 +103,19 @@ pub fn tried(line: &[u8]) -> usize
 {
     let mut nodes = [0u16; 66049];
     let mut book = [0u64; 388];
-    let ring = rings::read(line, &mut nodes, &mut book);
+    let lent = rings::ring(line, &mut nodes, &mut book);
     let mut list = [0u16; 512];
-    let group = fields::list(line, ring.next, &mut list);
-    let a = least(ring.numbers, 66049);
-    let b = least(ring.words, 388);
+    let group = fields::list(line, lent.next, &mut list);
+    let a = least(lent.numbers, 66049);
+    let b = least(lent.size, 388);
     let k = group.value;
     let got = call_update::trial(
-        ring.n,
+        layout(lent.rack),
+        lent.n,
         &nodes[0..a],
-        ring.have,
+        lent.have,
         &book[0..b],
-        ring.count,
+        lent.count,
         &list[0..k],
     );
     answers::outcome(line, group.next, got)

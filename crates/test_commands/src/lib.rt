@@ -1,16 +1,18 @@
-// The commands of a script of calls that lend a ring's tables. A number that is missing counts as 0, and a part that is longer than its table as
-// the whole table.
+// The commands of a script of calls that lend the tables of a ring (rack is 0) or of a rack (1). A number that is missing counts as 0, and a part
+// that is longer than its table as the whole table.
 //
-//   O n have a b               open, on the first a numbers of the node table and the first b words of the book
-//   J n have a b count list    join the group of the list;  T: try it
-//   A n have a b count k       the aim of the book's group k
-//   R n have a b bytes         read the tree text of these bytes
-//   N i v, B i v               the node table's number i, or the book's word i, is v
-//   S n have a c               the standard order, into the first c places of the order
-//   W n have a c               the tree text, into the first c bytes
+//   O rack n have a b               open, on the first a numbers of the node table and the first b words of the book
+//   J rack n have a b count list    join the group of the list;  T: try it
+//   A rack n have a b count k       the aim of the book's group k
+//   R rack n have a b bytes         read the tree text of these bytes
+//   N i v, B i v                    the node table's number i, or the book's word i, is v
+//   S rack n have a c               the standard order, into the first c places of the order
+//   W rack n have a c               the tree text, into the first c bytes
 use spec_calls::Answer;
 use spec_calls::Refusal;
+use spec_orders::Layout;
 use test_fields::at;
+use test_fields::layout;
 use test_fields::least;
 
 // Obeys the commands O, J, T, A, R, N and B; another letter changes nothing.
@@ -88,11 +90,20 @@ fn lend_ring(letter: u8, numbers: &[usize], nodes: &mut [u16], book: &mut [u64])
     if !on_both(letter) {
         return;
     }
-    let n = at(numbers, 0);
-    let have = at(numbers, 1);
-    let a = least(at(numbers, 2), nodes.len());
-    let b = least(at(numbers, 3), book.len());
-    let got = call(letter, numbers, n, &mut nodes[0..a], have, &mut book[0..b]);
+    let layout = layout(at(numbers, 0));
+    let n = at(numbers, 1);
+    let have = at(numbers, 2);
+    let a = least(at(numbers, 3), nodes.len());
+    let b = least(at(numbers, 4), book.len());
+    let got = call(
+        letter,
+        numbers,
+        layout,
+        n,
+        &mut nodes[0..a],
+        have,
+        &mut book[0..b],
+    );
     answer(letter, got);
     test_sums::ring(nodes, book);
 }
@@ -101,54 +112,78 @@ fn lend_ring(letter: u8, numbers: &[usize], nodes: &mut [u16], book: &mut [u64])
 fn call(
     letter: u8,
     numbers: &[usize],
+    layout: Layout,
     n: usize,
     nodes: &mut [u16],
     have: usize,
     book: &mut [u64],
 ) -> Answer {
     match letter {
-        b'O' => call_update::open(n, nodes, have, book),
-        b'J' => join(numbers, n, nodes, have, book),
-        b'T' => trial(numbers, n, nodes, have, book),
-        b'A' => call_order::aim(n, nodes, have, book, at(numbers, 4), at(numbers, 5)),
-        _ => read(numbers, n, nodes, have, book),
+        b'O' => call_update::open(layout, n, nodes, have, book),
+        b'J' => join(numbers, layout, n, nodes, have, book),
+        b'T' => trial(numbers, layout, n, nodes, have, book),
+        b'A' => call_order::aim(layout, n, nodes, have, book, at(numbers, 5), at(numbers, 6)),
+        _ => read(numbers, layout, n, nodes, have, book),
     }
 }
 
-fn join(numbers: &[usize], n: usize, nodes: &mut [u16], have: usize, book: &mut [u64]) -> Answer {
+fn join(
+    numbers: &[usize],
+    layout: Layout,
+    n: usize,
+    nodes: &mut [u16],
+    have: usize,
+    book: &mut [u64],
+) -> Answer {
     let mut list = [0u16; 512];
-    let k = test_fields::leaves(numbers, 5, &mut list);
-    call_update::join(n, nodes, have, book, at(numbers, 4), &list[0..k])
+    let k = test_fields::leaves(numbers, 6, &mut list);
+    call_update::join(layout, n, nodes, have, book, at(numbers, 5), &list[0..k])
 }
 
-fn trial(numbers: &[usize], n: usize, nodes: &[u16], have: usize, book: &[u64]) -> Answer {
+fn trial(
+    numbers: &[usize],
+    layout: Layout,
+    n: usize,
+    nodes: &[u16],
+    have: usize,
+    book: &[u64],
+) -> Answer {
     let mut list = [0u16; 512];
-    let k = test_fields::leaves(numbers, 5, &mut list);
-    call_update::trial(n, nodes, have, book, at(numbers, 4), &list[0..k])
+    let k = test_fields::leaves(numbers, 6, &mut list);
+    call_update::trial(layout, n, nodes, have, book, at(numbers, 5), &list[0..k])
 }
 
-fn read(numbers: &[usize], n: usize, nodes: &mut [u16], have: usize, book: &mut [u64]) -> Answer {
+fn read(
+    numbers: &[usize],
+    layout: Layout,
+    n: usize,
+    nodes: &mut [u16],
+    have: usize,
+    book: &mut [u64],
+) -> Answer {
     let mut bytes = [0u8; 2304];
-    let k = test_fields::bytes(numbers, 4, &mut bytes);
-    call_text::read(n, nodes, have, book, &bytes[0..k])
+    let k = test_fields::bytes(numbers, 5, &mut bytes);
+    call_text::read(layout, n, nodes, have, book, &bytes[0..k])
 }
 
 fn standard(numbers: &[usize], nodes: &[u16], order: &mut [u16]) {
-    let n = at(numbers, 0);
-    let have = at(numbers, 1);
-    let a = least(at(numbers, 2), nodes.len());
-    let c = least(at(numbers, 3), order.len());
-    let got = call_order::order(n, &nodes[0..a], have, &mut order[0..c]);
+    let layout = layout(at(numbers, 0));
+    let n = at(numbers, 1);
+    let have = at(numbers, 2);
+    let a = least(at(numbers, 3), nodes.len());
+    let c = least(at(numbers, 4), order.len());
+    let got = call_order::order(layout, n, &nodes[0..a], have, &mut order[0..c]);
     answer(b'S', got);
     test_sums::nodes_and_order(nodes, order);
 }
 
 fn tree_text(numbers: &[usize], nodes: &[u16], bytes: &mut [u8]) {
-    let n = at(numbers, 0);
-    let have = at(numbers, 1);
-    let a = least(at(numbers, 2), nodes.len());
-    let c = least(at(numbers, 3), bytes.len());
-    let got = call_text::write(n, &nodes[0..a], have, &mut bytes[0..c]);
+    let layout = layout(at(numbers, 0));
+    let n = at(numbers, 1);
+    let have = at(numbers, 2);
+    let a = least(at(numbers, 3), nodes.len());
+    let c = least(at(numbers, 4), bytes.len());
+    let got = call_text::write(layout, n, &nodes[0..a], have, &mut bytes[0..c]);
     answer(b'W', got);
     test_sums::nodes_and_text(nodes, bytes);
 }

@@ -1,8 +1,9 @@
-// What the programs of the outside vectors read: a file, and its numbers, leaves and bytes.
+// What the programs of the outside vectors read: a file, and its numbers, layouts, leaves and bytes.
 ghost use Prim.Native.Nat.{_≤_};
 ghost use mathlib.Core.Path.{_≡_};
 ghost use lib.ListN.{length};
 ghost use Rattle.io.specs.Counts.{Counts};
+use spec_orders::Layout;
 
 // 1,048,576 zeros: more than any of the files has.
 pub fn buffer() -> [u8; 1048576]
@@ -147,6 +148,11 @@ pub fn least(x: usize, most: usize) -> usize
         return most;
     }
     x
+}
+
+// The layout that a number names: 0 is a ring, any other number a rack.
+pub fn layout(number: usize) -> Layout {
+    spec_calls::layout_numbered(least(number, 1) as u8)
 }
 
 // The number of the table at i is the low 16 bits of x, where there is room.

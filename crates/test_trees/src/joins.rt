@@ -1,6 +1,7 @@
 // One line of joins.txt: n, a tree text, a group and the tree text after joining, or 8, with tabs between them.
 ghost use Prim.Native.Nat.{_≤_};
 use spec_calls::Answer;
+use spec_orders::Layout;
 
 // 1 where the answer is the tree of the file, 2 where it is impossible and the file has 8, 3 where it is another or there is no tab behind the
 // group.
@@ -18,7 +19,7 @@ pub fn outcome(n: usize, tree: &[u8], rest: &[u8]) -> usize
 fn join(n: usize, nodes: &mut [u16], book: &mut [u64], group: &[u8]) -> Answer {
     let mut list = [0u16; 256];
     let k = test_fields::group(group, &mut list);
-    call_update::join(n, nodes, 256, book, 0, &list[0..k])
+    call_update::join(Layout::Ring, n, nodes, 256, book, 0, &list[0..k])
 }
 
 // Reads the tree, joins the group, and compares the new tree's text with the file's.
@@ -27,7 +28,7 @@ fn run(n: usize, tree: &[u8], group: &[u8], want: &[u8]) -> usize
 {
     let mut nodes = [0u16; 65792];
     let mut book = [0u64; 384];
-    let Answer::Done(_) = call_text::read(n, &mut nodes, 256, &mut book, tree) else {
+    let Answer::Done(_) = call_text::read(Layout::Ring, n, &mut nodes, 256, &mut book, tree) else {
         return 3;
     };
     let joined = join(n, &mut nodes, &mut book, group);
@@ -40,7 +41,7 @@ fn compared(n: usize, joined: Answer, nodes: &[u16], want: &[u8]) -> usize
 {
     match joined {
         Answer::Done(_) => {
-            if test_tables::is_text(n, nodes, want) {
+            if test_tables::is_text(Layout::Ring, n, nodes, want) {
                 return 1;
             }
             3

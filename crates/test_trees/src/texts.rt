@@ -2,6 +2,7 @@
 // where it is another; or 12 and the byte.
 ghost use Prim.Native.Nat.{_≤_};
 use spec_calls::Answer;
+use spec_orders::Layout;
 
 // 1 where the text is accepted, as in the file, and written again as there; 2 where it is refused at the file's byte; 3 where the answer is
 // another.
@@ -28,7 +29,7 @@ fn run(n: usize, hex: &[u8], answer: &[u8]) -> usize
     let k = test_fields::hex_bytes(hex, &mut bytes);
     let mut nodes = [0u16; 65792];
     let mut book = [0u64; 384];
-    let got = call_text::read(n, &mut nodes, 256, &mut book, &bytes[0..k]);
+    let got = call_text::read(Layout::Ring, n, &mut nodes, 256, &mut book, &bytes[0..k]);
     compared(n, got, &nodes, &bytes[0..k], answer)
 }
 
@@ -58,9 +59,9 @@ fn compared(n: usize, got: Answer, nodes: &[u16], text: &[u8], answer: &[u8]) ->
 // Whether the table holds the tree of the answer's text: of the text that was read where it is `ok`. The answer `12 byte` is no tree's text.
 fn is_again(n: usize, nodes: &[u16], text: &[u8], answer: &[u8]) -> bool {
     if answer.len() == 2 {
-        return test_tables::is_text(n, nodes, text);
+        return test_tables::is_text(Layout::Ring, n, nodes, text);
     }
     let mut bytes = [0u8; 4096];
     let k = test_fields::hex_bytes(answer, &mut bytes);
-    test_tables::is_text(n, nodes, &bytes[0..k])
+    test_tables::is_text(Layout::Ring, n, nodes, &bytes[0..k])
 }

@@ -1,8 +1,8 @@
 //! Obeys a script of calls with this planner: the commands of crates/test_calls from standard input, one a line. Prints for each call what that
 //! program must print: the call's letter, what it answered, and a checksum of each table lent to it. Three commands more are for
-//! tools/calls_script.py: `?` prints the numbers of the node table, `!` the words of the book, `= n` the bytes of the tree text.
+//! tools/calls_script.py: `?` prints the numbers of the node table, `!` the words of the book, `= rack n` the bytes of the tree text.
 
-use plain::{aim, conflict, join, open, order, read, trial, write, Answer, Node};
+use plain::{aim, conflict, join, open, order, read, trial, write, Answer, Layout, Node};
 use std::io::{self, BufRead, Write};
 
 const ROW: usize = 257;
@@ -64,10 +64,18 @@ fn list(numbers: &[usize]) -> Vec<u16> {
     numbers.iter().map(|&x| x as u16).collect()
 }
 
+/// The layout that a command tells.
+fn layout(rack: usize) -> Layout {
+    match rack {
+        0 => Layout::Ring,
+        _ => Layout::Rack,
+    }
+}
+
 /// The bytes of the tree text.
-fn text(n: usize, nodes: &[Node]) -> Vec<u8> {
+fn text(layout: Layout, n: usize, nodes: &[Node]) -> Vec<u8> {
     let mut bytes = vec![0; 2048];
-    let length = write(n, nodes, &mut bytes).expect("the tables hold a ring");
+    let length = write(layout, n, nodes, &mut bytes).expect("the tables are in form");
     bytes.truncate(length);
     bytes
 }
@@ -80,7 +88,7 @@ impl Tables {
             "B" => self.book[x[0]] = x[1] as u64,
             "?" => return Some(words(self.nodes.iter())),
             "!" => return Some(words(self.book.iter())),
-            "=" => return Some(words(text(x[0], &lent(&self.nodes, RECORDS, RECORDS * ROW)).iter())),
+            "=" => return Some(words(text(layout(x[0]), x[1], &lent(&self.nodes, RECORDS, RECORDS * ROW)).iter())),
             _ => {
                 let (answer, first, second) = self.call(letter, x);
                 return Some(format!("{letter} {} : {first} {second}", told(answer)));
@@ -91,41 +99,41 @@ impl Tables {
 
     /// The answer to a call, and the checksums of the two tables lent to it.
     fn call(&mut self, letter: &str, x: &[usize]) -> (Answer, u32, u32) {
+        let (layout, n, x) = (layout(x[0]), x[1], &x[2..]);
         match letter {
             "C" => {
-                let (b, c) = (x[1].min(self.book.len()), x[3].min(self.conflicts.len()));
-                let answer = conflict(x[0], &self.book[..b], x[2], &list(&x[4..]), &mut self.conflicts[..c]);
+                let (b, c) = (x[0].min(self.book.len()), x[2].min(self.conflicts.len()));
+                let answer = conflict(layout, n, &self.book[..b], x[1], &list(&x[3..]), &mut self.conflicts[..c]);
                 (answer, sum64(&self.book), sum16(&self.conflicts))
             }
             "S" => {
-                let c = x[3].min(self.order.len());
-                let answer = order(x[0], &lent(&self.nodes, x[1], x[2]), &mut self.order[..c]);
+                let c = x[2].min(self.order.len());
+                let answer = order(layout, n, &lent(&self.nodes, x[0], x[1]), &mut self.order[..c]);
                 (answer, sum16(&self.nodes), sum16(&self.order))
             }
             "W" => {
-                let c = x[3].min(self.bytes.len());
-                let answer = write(x[0], &lent(&self.nodes, x[1], x[2]), &mut self.bytes[..c]);
+                let c = x[2].min(self.bytes.len());
+                let answer = write(layout, n, &lent(&self.nodes, x[0], x[1]), &mut self.bytes[..c]);
                 (answer, sum16(&self.nodes), sum(self.bytes.iter().map(|&x| x.into())))
             }
             _ => {
-                let answer = self.on_ring(letter, x);
+                let answer = self.on_both(letter, layout, n, x);
                 (answer, sum16(&self.nodes), sum64(&self.book))
             }
         }
     }
 
     /// The answer to a call that is lent the node table and the book.
-    fn on_ring(&mut self, letter: &str, x: &[usize]) -> Answer {
-        let n = x[0];
-        let mut nodes = lent(&self.nodes, x[1], x[2]);
-        let b = x[3].min(self.book.len());
+    fn on_both(&mut self, letter: &str, layout: Layout, n: usize, x: &[usize]) -> Answer {
+        let mut nodes = lent(&self.nodes, x[0], x[1]);
+        let b = x[2].min(self.book.len());
         let book = &mut self.book[..b];
         let answer = match letter {
-            "O" => open(n, &mut nodes, book),
-            "J" => join(n, &mut nodes, book, x[4], &list(&x[5..])),
-            "T" => trial(n, &nodes, book, x[4], &list(&x[5..])),
-            "A" => aim(n, &nodes, book, x[4], x[5]),
-            "R" => read(n, &mut nodes, book, &x[4..].iter().map(|&x| x as u8).collect::<Vec<_>>()),
+            "O" => open(layout, n, &mut nodes, book),
+            "J" => join(layout, n, &mut nodes, book, x[3], &list(&x[4..])),
+            "T" => trial(layout, n, &nodes, book, x[3], &list(&x[4..])),
+            "A" => aim(layout, n, &nodes, book, x[3], x[4]),
+            "R" => read(layout, n, &mut nodes, book, &x[3..].iter().map(|&x| x as u8).collect::<Vec<_>>()),
             _ => panic!("no command {letter}"),
         };
         if answer.is_ok() {

@@ -1,7 +1,7 @@
 //! Runs a file of test vectors from standard input: one case a line, a call and its answer with `=` between, as the vectors' README has them. Makes
 //! the calls whose letter it knows, prints each line that this planner answers otherwise, and how many it ran.
 
-use plain::{aim, conflict, intersect, join, order, read, trial, write, Answer, Node};
+use plain::{aim, conflict, intersect, join, open, order, read, trial, write, Answer, Layout, Node};
 use std::fmt::Display;
 use std::io;
 use std::process::ExitCode;
@@ -22,16 +22,17 @@ const OLD_WORD: u64 = 77;
 const OLD_PLACE: u16 = 777;
 const OLD_BYTE: u8 = 77;
 
-/// The tables of a ring as they are lent.
+/// A ring or a rack as it is lent.
 #[derive(Clone, PartialEq)]
-struct Ring {
+struct Lent {
+    layout: Layout,
     n: usize,
     nodes: Vec<Node>,
     book: Vec<u64>,
     count: usize,
 }
 
-/// The fields of a call. Those for racks and days are 0 and not looked at.
+/// The fields of a call. Those for days are 0 and not looked at.
 struct Fields<'a>(Split<'a, char>);
 
 impl Fields<'_> {
@@ -41,6 +42,12 @@ impl Fields<'_> {
 
     fn number(&mut self) -> usize {
         self.word().parse().expect("a number")
+    }
+
+    /// n, and whether it is of a rack.
+    fn size(&mut self) -> (Layout, usize) {
+        let (n, rack) = (self.number(), self.number());
+        (if rack == 0 { Layout::Ring } else { Layout::Rack }, n)
     }
 
     /// LIST: a count and that many numbers.
@@ -58,11 +65,11 @@ impl Fields<'_> {
     }
 
     /// TREE: the node table of a tree text for n bins with some numbers changed, lent with so many records.
-    fn tree(&mut self, n: usize, records: usize) -> Vec<Node> {
+    fn tree(&mut self, (layout, n): (Layout, usize), records: usize) -> Vec<Node> {
         let mut nodes = vec![Node::UNUSED; RECORDS];
         let text = self.bytes();
         if !text.is_empty() {
-            read(n, &mut nodes, &mut [0; WORDS], &text).expect("a tree text");
+            read(layout, n, &mut nodes, &mut [0; WORDS], &text).expect("a tree text");
         }
         for _ in 0..self.number() {
             let (place, value) = (self.number(), self.number() as u16);
@@ -88,17 +95,18 @@ impl Fields<'_> {
     }
 
     /// n and the node table beside it.
-    fn lent_tree(&mut self) -> (usize, Vec<Node>) {
-        let [n, _rack, records] = std::array::from_fn(|_| self.number());
-        (n, self.tree(n, records))
+    fn lent_tree(&mut self) -> ((Layout, usize), Vec<Node>) {
+        let (size, records) = (self.size(), self.number());
+        (size, self.tree(size, records))
     }
 
     /// n, the node table and the book.
-    fn ring(&mut self) -> Ring {
-        let [n, _rack, records, words, _days] = std::array::from_fn(|_| self.number());
-        let nodes = self.tree(n, records);
+    fn lent(&mut self) -> Lent {
+        let (layout, n) = self.size();
+        let [records, words, _days] = std::array::from_fn(|_| self.number());
+        let nodes = self.tree((layout, n), records);
         let (count, book) = self.book(words);
-        Ring { n, nodes, book, count }
+        Lent { layout, n, nodes, book, count }
     }
 }
 
@@ -128,29 +136,29 @@ fn hexadecimal(bytes: &[u8]) -> String {
 }
 
 /// The fields of the table's tree text.
-fn text(n: usize, nodes: &[Node]) -> String {
+fn text(layout: Layout, n: usize, nodes: &[Node]) -> String {
     let mut bytes = [0; BYTES];
-    let length = write(n, nodes, &mut bytes).expect("the table is in form");
+    let length = write(layout, n, nodes, &mut bytes).expect("the table is in form");
     hexadecimal(&bytes[..length])
 }
 
 /// What this planner answers to an intersection.
 fn intersection(fields: &mut Fields) -> String {
-    let ((n, nodes), (m, other)) = (fields.lent_tree(), fields.lent_tree());
+    let (((layout, n), nodes), ((layout2, m), other)) = (fields.lent_tree(), fields.lent_tree());
     let mut third = vec![OLD; fields.number()];
-    let answer = intersect(n, &nodes, m, &other, &mut third);
+    let answer = intersect(layout, n, &nodes, layout2, m, &other, &mut third);
     check_kept(answer, &third, RECORDS, OLD);
     match answer {
-        Ok(_) => format!("{} {}", told(answer), text(n, &third)),
+        Ok(_) => format!("{} {}", told(answer), text(layout, n, &third)),
         Err(_) => told(answer),
     }
 }
 
 /// What this planner answers to joining a group.
 fn joining(fields: &mut Fields) -> String {
-    let (lent, list) = (fields.ring(), fields.list());
+    let (lent, list) = (fields.lent(), fields.list());
     let mut left = lent.clone();
-    let answer = join(lent.n, &mut left.nodes, &mut left.book, lent.count, &list);
+    let answer = join(lent.layout, lent.n, &mut left.nodes, &mut left.book, lent.count, &list);
     if answer.is_err() {
         assert!(left == lent, "a refusal changed a table");
         return told(answer);
@@ -159,53 +167,59 @@ fn joining(fields: &mut Fields) -> String {
     let group = left.book.splice(place..place + 4, [0; 4]).collect::<Vec<_>>();
     assert!(left.book == lent.book, "words changed that are to stay");
     assert!(left.nodes[RECORDS..] == lent.nodes[RECORDS..], "records changed that are to stay");
-    format!("{} {}{}", told(answer), text(lent.n, &left.nodes), spaced(&group))
+    format!("{} {}{}", told(answer), text(lent.layout, lent.n, &left.nodes), spaced(&group))
 }
 
 /// What this planner answers to the trial of a group.
 fn trying(fields: &mut Fields) -> String {
-    let (lent, list) = (fields.ring(), fields.list());
-    told(trial(lent.n, &lent.nodes, &lent.book, lent.count, &list))
+    let (lent, list) = (fields.lent(), fields.list());
+    told(trial(lent.layout, lent.n, &lent.nodes, &lent.book, lent.count, &list))
 }
 
 /// What this planner answers to the aim of a group.
 fn aiming(fields: &mut Fields) -> String {
-    let (lent, group) = (fields.ring(), fields.number());
-    told(aim(lent.n, &lent.nodes, &lent.book, lent.count, group))
+    let (lent, group) = (fields.lent(), fields.number());
+    told(aim(lent.layout, lent.n, &lent.nodes, &lent.book, lent.count, group))
 }
 
 /// What this planner answers to the conflicts of a group.
 fn conflicting(fields: &mut Fields) -> String {
-    let [n, _rack, words, _days, places] = std::array::from_fn(|_| fields.number());
+    let (layout, n) = fields.size();
+    let [words, _days, places] = std::array::from_fn(|_| fields.number());
     let ((count, book), list) = (fields.book(words), fields.list());
     let mut conflicts = vec![OLD_PLACE; places];
-    let answer = conflict(n, &book, count, &list, &mut conflicts);
+    let answer = conflict(layout, n, &book, count, &list, &mut conflicts);
     check_kept(answer, &conflicts, GROUPS, OLD_PLACE);
     let Ok(size) = answer else { return told(answer) };
     assert!(conflicts[size..GROUPS].iter().all(|place| *place == 0), "a place past the list is not zero");
     format!("{} {size}{}", told(answer), spaced(&conflicts[..size]))
 }
 
-/// What this planner answers to a text that is read.
-fn reading(fields: &mut Fields) -> String {
-    let [n, _rack, records, words, _days] = std::array::from_fn(|_| fields.number());
+/// What this planner answers to opening or, with a text, to reading it.
+fn filling(fields: &mut Fields, with_text: bool) -> String {
+    let (layout, n) = fields.size();
+    let [records, words, _days] = std::array::from_fn(|_| fields.number());
     let (mut nodes, mut book) = (vec![OLD; records], vec![OLD_WORD; words]);
-    let answer = read(n, &mut nodes, &mut book, &fields.bytes());
+    let answer = match with_text {
+        true => read(layout, n, &mut nodes, &mut book, &fields.bytes()),
+        false => open(layout, n, &mut nodes, &mut book),
+    };
     check_kept(answer, &nodes, RECORDS, OLD);
     check_kept(answer, &book, WORDS, OLD_WORD);
     if answer.is_err() {
         return told(answer);
     }
     assert!(book[..WORDS].iter().all(|word| *word == 0), "the book is not empty");
-    format!("{} {}", told(answer), text(n, &nodes))
+    format!("{} {}", told(answer), text(layout, n, &nodes))
 }
 
 /// What this planner answers to the writing of a text.
 fn writing(fields: &mut Fields) -> String {
-    let [n, _rack, records, size] = std::array::from_fn(|_| fields.number());
-    let nodes = fields.tree(n, records);
+    let (layout, n) = fields.size();
+    let [records, size] = std::array::from_fn(|_| fields.number());
+    let nodes = fields.tree((layout, n), records);
     let mut bytes = vec![OLD_BYTE; size];
-    let answer = write(n, &nodes, &mut bytes);
+    let answer = write(layout, n, &nodes, &mut bytes);
     check_kept(answer, &bytes, BYTES, OLD_BYTE);
     let Ok(length) = answer else { return told(answer) };
     assert!(bytes[length..BYTES].iter().all(|byte| *byte == 0), "a byte past the text is not zero");
@@ -214,10 +228,11 @@ fn writing(fields: &mut Fields) -> String {
 
 /// What this planner answers to the standard order.
 fn ordering(fields: &mut Fields) -> String {
-    let [n, _rack, records, places] = std::array::from_fn(|_| fields.number());
-    let nodes = fields.tree(n, records);
+    let (layout, n) = fields.size();
+    let [records, places] = std::array::from_fn(|_| fields.number());
+    let nodes = fields.tree((layout, n), records);
     let mut places = vec![OLD_PLACE; places];
-    let answer = order(n, &nodes, &mut places);
+    let answer = order(layout, n, &nodes, &mut places);
     check_kept(answer, &places, n, OLD_PLACE);
     if answer.is_err() {
         return told(answer);
@@ -230,11 +245,12 @@ fn answered(call: &str) -> Option<String> {
     let mut fields = Fields(call.split(' '));
     let made = match fields.word() {
         "I" => intersection(&mut fields),
+        "O" => filling(&mut fields, false),
         "J" => joining(&mut fields),
         "T" => trying(&mut fields),
         "A" => aiming(&mut fields),
         "C" => conflicting(&mut fields),
-        "R" => reading(&mut fields),
+        "R" => filling(&mut fields, true),
         "W" => writing(&mut fields),
         "S" => ordering(&mut fields),
         _ => return None,

@@ -36,11 +36,12 @@ impl<'a> Book<'a> {
         std::array::from_fn(|w| self.words[4 * k + w])
     }
 
-    /// Returns the groups that the leaving-out rule keeps for `group`, none if the book and `group` can hang together.
-    pub fn conflict(&self, n: usize, group: &Marks) -> Kept {
+    /// Returns the groups that the leaving-out rule keeps for `group`, none if the book and `group` can hang together
+    /// in an order of so many leaves.
+    pub fn conflict(&self, leaves: usize, group: &Marks) -> Kept {
         let mut kept = Kept { numbers: [0; GROUPS], size: 0 };
         let count = self.words.len() / 4;
-        let mut tree = Tree::fresh(n);
+        let mut tree = Tree::fresh(leaves);
         tree.join(group);
         if !self.join_all(&mut tree.clone(), 0..count) {
             self.keep(&tree, 0, count, &mut kept);

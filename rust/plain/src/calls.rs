@@ -2,6 +2,7 @@
 //! lent table as it was. Entries past a table's stated size are never touched.
 
 use crate::book::{self, Book, GROUPS, WORDS};
+use crate::layout::Layout;
 use crate::marks::{self, Marks};
 use crate::table::{Node, RECORDS};
 use crate::text::TEXT_BYTES;
@@ -31,15 +32,17 @@ pub(crate) fn refuse_unless(fits: bool, number: u8, place: usize) -> Result<(), 
     }
 }
 
-/// Makes checks 1 and 2: n is 1 to 256, and each table, given as its length and its stated size, is long enough.
-fn check_sizes(n: usize, tables: &[(usize, usize)]) -> Result<(), Refused> {
-    check(1, (1..=256).contains(&n))?;
+/// Makes checks 1, 15 and 2: each count of bins is 1 to 256, that of a rack below 256, and each table, given as its
+/// length and its stated size, is long enough.
+fn check_sizes(bins: &[(Layout, usize)], tables: &[(usize, usize)]) -> Result<(), Refused> {
+    check(1, bins.iter().all(|(_, n)| (1..=256).contains(n)))?;
+    check(15, !bins.contains(&(Layout::Rack, 256)))?;
     check(2, tables.iter().all(|&(length, stated)| length >= stated))
 }
 
 /// Makes check 3 of the node table; returns its tree.
-fn check_tree(n: usize, nodes: &[Node]) -> Result<Tree, Refused> {
-    Tree::load(n, &nodes[..RECORDS]).ok_or(Refused { number: 3, place: 0 })
+fn check_tree(layout: Layout, n: usize, nodes: &[Node]) -> Result<Tree, Refused> {
+    Tree::load(layout.leaves(n), &nodes[..RECORDS]).ok_or(Refused { number: 3, place: 0 })
 }
 
 /// Makes check 3 of the book; returns its groups.
@@ -60,9 +63,16 @@ fn check_list(n: usize, list: &[u16]) -> Result<Marks, Refused> {
 }
 
 /// Makes the checks of joining but the last; returns the tree and the group's marks.
-fn check_join(n: usize, nodes: &[Node], book: &[u64], count: usize, list: &[u16]) -> Result<(Tree, Marks), Refused> {
-    check_sizes(n, &[(nodes.len(), RECORDS), (book.len(), WORDS)])?;
-    let tree = check_tree(n, nodes)?;
+fn check_join(
+    layout: Layout,
+    n: usize,
+    nodes: &[Node],
+    book: &[u64],
+    count: usize,
+    list: &[u16],
+) -> Result<(Tree, Marks), Refused> {
+    check_sizes(&[(layout, n)], &[(nodes.len(), RECORDS), (book.len(), WORDS)])?;
+    let tree = check_tree(layout, n, nodes)?;
     check_book(n, book, count)?;
     let group = check_list(n, list)?;
     check(7, count < GROUPS)?;
@@ -70,17 +80,17 @@ fn check_join(n: usize, nodes: &[Node], book: &[u64], count: usize, list: &[u16]
 }
 
 /// Fills the node table with the fresh tree of n bins and empties the book. Returns 0, the count of groups.
-pub fn open(n: usize, nodes: &mut [Node], book: &mut [u64]) -> Answer {
-    check_sizes(n, &[(nodes.len(), RECORDS), (book.len(), WORDS)])?;
+pub fn open(layout: Layout, n: usize, nodes: &mut [Node], book: &mut [u64]) -> Answer {
+    check_sizes(&[(layout, n)], &[(nodes.len(), RECORDS), (book.len(), WORDS)])?;
     nodes[..RECORDS].fill(Node::UNUSED);
-    Tree::fresh(n).store(nodes);
+    Tree::fresh(layout.leaves(n)).store(nodes);
     book[..WORDS].fill(0);
     Ok(0)
 }
 
 /// Joins the group in the list to the tree and the book. Returns the new count of groups.
-pub fn join(n: usize, nodes: &mut [Node], book: &mut [u64], count: usize, list: &[u16]) -> Answer {
-    let (mut tree, group) = check_join(n, nodes, book, count, list)?;
+pub fn join(layout: Layout, n: usize, nodes: &mut [Node], book: &mut [u64], count: usize, list: &[u16]) -> Answer {
+    let (mut tree, group) = check_join(layout, n, nodes, book, count, list)?;
     check(8, tree.join(&group))?;
     tree.store(nodes);
     book::put(book, count, &group);
@@ -88,71 +98,47 @@ pub fn join(n: usize, nodes: &mut [Node], book: &mut [u64], count: usize, list: 
 }
 
 /// Answers as joining would and changes nothing.
-pub fn trial(n: usize, nodes: &[Node], book: &[u64], count: usize, list: &[u16]) -> Answer {
-    let (tree, group) = check_join(n, nodes, book, count, list)?;
+pub fn trial(layout: Layout, n: usize, nodes: &[Node], book: &[u64], count: usize, list: &[u16]) -> Answer {
+    let (tree, group) = check_join(layout, n, nodes, book, count, list)?;
     check(8, tree.fits(&group))?;
     Ok(count + 1)
 }
 
 /// Writes the standard order into the first n places of `order`. Returns n.
-pub fn order(n: usize, nodes: &[Node], order: &mut [u16]) -> Answer {
-    check_sizes(n, &[(nodes.len(), RECORDS), (order.len(), n)])?;
-    check_tree(n, nodes)?.frontier(&mut order[..n]);
+pub fn order(layout: Layout, n: usize, nodes: &[Node], order: &mut [u16]) -> Answer {
+    check_sizes(&[(layout, n)], &[(nodes.len(), RECORDS), (order.len(), n)])?;
+    layout.order(&check_tree(layout, n, nodes)?, &mut order[..n]);
     Ok(n)
 }
 
 /// Returns the bin at which the book's group with this number, from 1, has its aim in the standard order.
-pub fn aim(n: usize, nodes: &[Node], book: &[u64], count: usize, group: usize) -> Answer {
-    check_sizes(n, &[(nodes.len(), RECORDS), (book.len(), WORDS)])?;
-    let tree = check_tree(n, nodes)?;
+pub fn aim(layout: Layout, n: usize, nodes: &[Node], book: &[u64], count: usize, group: usize) -> Answer {
+    check_sizes(&[(layout, n)], &[(nodes.len(), RECORDS), (book.len(), WORDS)])?;
+    let tree = check_tree(layout, n, nodes)?;
     let book = check_book(n, book, count)?;
     check(9, (1..=count).contains(&group))?;
     let group = book.group(group - 1);
     check(14, marks::size(&group) > 0)?;
     let mut order = [0; 256];
-    tree.frontier(&mut order[..n]);
-    aim_in(&order[..n], &group).ok_or(Refused { number: 10, place: 0 })
-}
-
-/// Returns the bin at which a group has its aim in an order, none if it is empty or not consecutive.
-pub(crate) fn aim_in(order: &[u16], group: &Marks) -> Option<usize> {
-    let n = order.len();
-    let size = marks::size(group);
-    let member = |place: usize| marks::has(group, usize::from(order[place % n]) - 1);
-    let start = if size == n { 0 } else { (0..n).find(|&place| member(place) && !member(place + n - 1))? };
-    let run = (start..start + size).all(member);
-    run.then(|| usize::from(order[middle(n, start, size)]))
-}
-
-/// Returns the place, round n places, of the middle of a run: half way between two places it is the even one, and
-/// place 0 between the last place and that.
-fn middle(n: usize, start: usize, size: usize) -> usize {
-    let halves = 2 * start + size - 1;
-    let place = halves / 2 % n;
-    let next = (place + 1) % n;
-    let to_next = halves % 2 == 1 && (next == 0 || place % 2 == 1);
-    if to_next {
-        next
-    } else {
-        place
-    }
+    layout.order(&tree, &mut order[..n]);
+    layout.aim(&order[..n], &group).ok_or(Refused { number: 10, place: 0 })
 }
 
 /// Writes the numbers, rising, of the book's groups that are in conflict with the group in the list, then zeros to
 /// 96 places. Returns how many they are, 0 if the whole book and the group can hang together.
-pub fn conflict(n: usize, book: &[u64], count: usize, list: &[u16], conflicts: &mut [u16]) -> Answer {
-    check_sizes(n, &[(book.len(), WORDS), (conflicts.len(), GROUPS)])?;
+pub fn conflict(layout: Layout, n: usize, book: &[u64], count: usize, list: &[u16], conflicts: &mut [u16]) -> Answer {
+    check_sizes(&[(layout, n)], &[(book.len(), WORDS), (conflicts.len(), GROUPS)])?;
     let book = check_book(n, book, count)?;
     let group = check_list(n, list)?;
-    let kept = book.conflict(n, &group);
+    let kept = book.conflict(layout.leaves(n), &group);
     conflicts[..GROUPS].copy_from_slice(&kept.numbers);
     Ok(kept.size)
 }
 
 /// Writes the tree text, then zeros to 2,048 bytes. Returns the text's length.
-pub fn write(n: usize, nodes: &[Node], bytes: &mut [u8]) -> Answer {
-    check_sizes(n, &[(nodes.len(), RECORDS), (bytes.len(), TEXT_BYTES)])?;
-    let tree = check_tree(n, nodes)?;
+pub fn write(layout: Layout, n: usize, nodes: &[Node], bytes: &mut [u8]) -> Answer {
+    check_sizes(&[(layout, n)], &[(nodes.len(), RECORDS), (bytes.len(), TEXT_BYTES)])?;
+    let tree = check_tree(layout, n, nodes)?;
     let length = tree.write_text(&mut bytes[..TEXT_BYTES]);
     bytes[length..TEXT_BYTES].fill(0);
     Ok(length)
@@ -160,9 +146,9 @@ pub fn write(n: usize, nodes: &[Node], bytes: &mut [u8]) -> Answer {
 
 /// Fills the node table with the tree of the text, a P-node where the text has a C-node with two items, and empties the
 /// book. Returns 0, the count of groups.
-pub fn read(n: usize, nodes: &mut [Node], book: &mut [u64], text: &[u8]) -> Answer {
-    check_sizes(n, &[(nodes.len(), RECORDS), (book.len(), WORDS)])?;
-    let tree = Tree::read_text(n, text).map_err(|place| Refused { number: 12, place })?;
+pub fn read(layout: Layout, n: usize, nodes: &mut [Node], book: &mut [u64], text: &[u8]) -> Answer {
+    check_sizes(&[(layout, n)], &[(nodes.len(), RECORDS), (book.len(), WORDS)])?;
+    let tree = Tree::read_text(layout.leaves(n), text).map_err(|place| Refused { number: 12, place })?;
     nodes[..RECORDS].fill(Node::UNUSED);
     tree.store(nodes);
     book[..WORDS].fill(0);
@@ -171,12 +157,20 @@ pub fn read(n: usize, nodes: &mut [Node], book: &mut [u64], text: &[u8]) -> Answ
 
 /// Fills the third node table with the tree that allows exactly the orders allowed by both of the others, of n and of m
 /// bins. Returns 0.
-pub fn intersect(n: usize, nodes: &[Node], m: usize, other: &[Node], third: &mut [Node]) -> Answer {
-    check(1, (1..=256).contains(&m))?;
-    check_sizes(n, &[nodes.len(), other.len(), third.len()].map(|length| (length, RECORDS)))?;
-    check(13, n == m)?;
-    let mut tree = check_tree(n, nodes)?;
-    let other = check_tree(m, other)?;
+pub fn intersect(
+    layout: Layout,
+    n: usize,
+    nodes: &[Node],
+    layout2: Layout,
+    m: usize,
+    other: &[Node],
+    third: &mut [Node],
+) -> Answer {
+    let (bins, other_bins) = ((layout, n), (layout2, m));
+    check_sizes(&[bins, other_bins], &[nodes.len(), other.len(), third.len()].map(|length| (length, RECORDS)))?;
+    check(13, bins == other_bins)?;
+    let mut tree = check_tree(layout, n, nodes)?;
+    let other = check_tree(layout, n, other)?;
     check(8, tree.intersect(&other))?;
     third[..RECORDS].fill(Node::UNUSED);
     tree.store(third);

@@ -1,7 +1,7 @@
 //! The lister: joins the lines of a ring file to a fresh ring and prints what became of them.
 
 use crate::book::{self, Book, GROUPS, WORDS};
-use crate::calls::aim_in;
+use crate::layout::Layout;
 use crate::marks::{self, Marks};
 use crate::ringfile::{group_of, names, scan, File};
 use crate::text::TEXT_BYTES;
@@ -79,7 +79,7 @@ fn print_line(out: &mut Vec<u8>, line: &Line, order: &[u16], names: &[&[u8]]) {
     match line {
         Line::Kept(group) => {
             out.extend(b"kept ");
-            let aim = aim_in(order, group);
+            let aim = Layout::Ring.aim(order, group);
             out.extend(aim.map_or(&b"-"[..], |bin| names[bin - 1]));
             out.extend(b" -\n");
         }

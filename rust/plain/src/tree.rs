@@ -2,6 +2,7 @@
 
 mod intersect;
 mod join;
+mod straight;
 
 use crate::marks::{self, Marks};
 

@@ -2,18 +2,19 @@
 
 mod common;
 
-use common::{refused, Ring};
+use common::{refused, Bins};
+use plain::Layout::Ring;
 
 #[test]
 fn fresh_rings() {
-    assert_eq!(Ring::new(1).text(), "1");
-    assert_eq!(Ring::new(2).text(), "1 2");
-    assert_eq!(Ring::new(3).text(), "1 P(2 3)");
+    assert_eq!(Bins::new(Ring, 1).text(), "1");
+    assert_eq!(Bins::new(Ring, 2).text(), "1 2");
+    assert_eq!(Bins::new(Ring, 3).text(), "1 P(2 3)");
 }
 
 #[test]
 fn circles_d_to_g() {
-    let mut ring = Ring::with(5, &[&[1, 3]]);
+    let mut ring = Bins::with(Ring, 5, &[&[1, 3]]);
     assert_eq!(ring.text(), "1 P(P(2 4 5) 3)");
     assert_eq!(ring.join(&[3, 5]), Ok(2));
     assert_eq!(ring.text(), "1 C(P(2 4) 5 3)");
@@ -29,26 +30,26 @@ fn circles_d_to_g() {
 
 #[test]
 fn circles_h_and_i() {
-    let ring = Ring::with(4, &[&[1, 2], &[3, 4], &[2, 3], &[1, 4]]);
+    let ring = Bins::with(Ring, 4, &[&[1, 2], &[3, 4], &[2, 3], &[1, 4]]);
     assert_eq!(ring.text(), "1 C(2 3 4)");
-    let mut ring = Ring::with(5, &[&[1, 2], &[3, 4], &[2, 3]]);
+    let mut ring = Bins::with(Ring, 5, &[&[1, 2], &[3, 4], &[2, 3]]);
     assert_eq!(ring.join(&[1, 4]), refused(8, 0));
     assert_eq!(ring.conflict(&[1, 4]), [1, 2, 3]);
 }
 
 #[test]
 fn circles_j_to_l() {
-    assert_eq!(Ring::with(6, &[&[1, 2], &[3, 4], &[2, 3]]).text(), "1 C(2 3 4 P(5 6))");
-    let ring = Ring::with(6, &[&[2, 4], &[2, 5]]);
+    assert_eq!(Bins::with(Ring, 6, &[&[1, 2], &[3, 4], &[2, 3]]).text(), "1 C(2 3 4 P(5 6))");
+    let ring = Bins::with(Ring, 6, &[&[2, 4], &[2, 5]]);
     assert_eq!(ring.text(), "1 P(3 C(4 2 5) 6)");
     assert_eq!(ring.order(), [1, 3, 4, 2, 5, 6]);
-    assert_eq!(Ring::with(5, &[&[2, 3, 4, 5]]).text(), "1 P(2 3 4 5)");
+    assert_eq!(Bins::with(Ring, 5, &[&[2, 3, 4, 5]]).text(), "1 P(2 3 4 5)");
 }
 
 #[test]
 fn largest_ring_and_full_book() {
     let whole: Vec<u16> = (1..=256).collect();
-    let mut ring = Ring::new(256);
+    let mut ring = Bins::new(Ring, 256);
     for count in 1..=96 {
         assert_eq!(ring.join(&whole), Ok(count));
     }
@@ -59,7 +60,7 @@ fn largest_ring_and_full_book() {
 
 #[test]
 fn node_table_of_circle_e() {
-    let ring = Ring::with(5, &[&[1, 3], &[3, 5]]);
+    let ring = Bins::with(Ring, 5, &[&[1, 3], &[3, 5]]);
     let [first, second] = [&ring.nodes[0], &ring.nodes[1]];
     assert_eq!((first.kind, first.count, &first.items[..4]), (2, 3, &[257, 5, 3, 0][..]));
     assert_eq!((second.kind, second.count, &second.items[..3]), (1, 2, &[2, 4, 0][..]));

@@ -1,86 +1,59 @@
-//! The intersection of two trees, against all orders for small rings and against joining for large ones.
+//! The intersection of two trees, against all orders of few bins and against joining for many.
 
 mod common;
 
-use common::shapes::{sequences, shapes, threes_named};
-use common::{refused, Random, Ring, PAST, UNUSED};
+use common::orders::allowed;
+use common::shapes::{shapes, threes_named};
+use common::{refused, Bins, Random, PAST, UNUSED};
+use plain::Layout::{self, Rack, Ring};
 use plain::Node;
 
-/// Returns the sequences of leaves that an item of a node table allows; 256 is its record 0.
-fn frontiers(nodes: &[Node], item: u16) -> Vec<Vec<u16>> {
-    if item < 256 {
-        return vec![vec![item]];
-    }
-    let node = &nodes[usize::from(item) - 256];
-    let items = node.items[..usize::from(node.count)].to_vec();
-    let reversed = items.iter().rev().copied().collect();
-    let arranged = if node.kind == 1 { sequences(&items) } else { vec![items, reversed] };
-    let mut all = Vec::new();
-    for items in arranged {
-        let mut begun = vec![Vec::new()];
-        for item in items {
-            let ends = frontiers(nodes, item);
-            let longer = |begin: &Vec<u16>| ends.iter().map(|end| [&begin[..], end].concat()).collect::<Vec<_>>();
-            begun = begun.iter().flat_map(longer).collect();
-        }
-        all.extend(begun);
-    }
-    all
-}
+/// A ring or a rack and the orders that it allows.
+struct Listed(Bins, Vec<Vec<u16>>);
 
-/// Returns the orders that a ring's tree allows, without bin 1 in front, in dictionary order. n is at least 3.
-fn allowed(ring: &Ring) -> Vec<Vec<u16>> {
-    let mut orders = frontiers(&ring.nodes, 256);
-    orders.sort();
-    orders.dedup();
-    orders
-}
-
-/// A ring and the orders that it allows.
-struct Listed(Ring, Vec<Vec<u16>>);
-
-/// Returns a ring for each tree of n bins.
-fn trees(n: u16) -> Vec<Listed> {
-    let texts = shapes(n).into_iter().filter(|text| *text == threes_named(text));
-    let rings = texts.filter_map(|text| Ring::of_text(n.into(), &text));
-    let listed = |ring| {
-        let orders = allowed(&ring);
-        Listed(ring, orders)
+/// Returns a ring for each tree of so many leaves, at least 3, or a rack, which has a bin less.
+fn trees(layout: Layout, leaves: u16) -> Vec<Listed> {
+    let n = usize::from(leaves) - usize::from(layout == Rack);
+    let texts = shapes(leaves).into_iter().filter(|text| *text == threes_named(text));
+    let planned = texts.filter_map(|text| Bins::of_text(layout, n, &text));
+    let listed = |bins| {
+        let orders = allowed(&bins);
+        Listed(bins, orders)
     };
-    rings.map(listed).collect()
+    planned.map(listed).collect()
 }
 
-/// Checks the intersection of two rings against their orders; returns whether there is one.
+/// Checks the intersection of two trees against their orders; returns whether there is one.
 fn check(Listed(one, left): &Listed, Listed(other, right): &Listed) -> bool {
     let common: Vec<_> = left.iter().filter(|order| right.binary_search(order).is_ok()).cloned().collect();
-    let ring = match one.intersect(other) {
+    let both = match one.intersect(other) {
         Err(refused) => {
             assert!(refused.number == 8 && refused.place == 0 && common.is_empty());
             return false;
         }
-        Ok(ring) => ring,
+        Ok(both) => both,
     };
     // Its table is in form: its text is written and read again.
-    ring.text();
-    assert_eq!(allowed(&ring), common, "{} and {}", one.text(), other.text());
+    both.text();
+    assert_eq!(allowed(&both), common, "{} and {}", one.text(), other.text());
     true
 }
 
-/// With 4 bins, 12 of the 49 pairs have no order in common.
+/// With 4 leaves, 12 of the 49 pairs have no order in common.
 #[test]
 fn all_pairs_of_small_trees() {
-    for n in [3, 4] {
-        let trees = trees(n);
+    for (layout, leaves, possible) in [(Ring, 3, 1), (Ring, 4, 37), (Rack, 3, 1), (Rack, 4, 37)] {
+        let trees = trees(layout, leaves);
         let done = trees.iter().flat_map(|one| trees.iter().map(move |other| check(one, other)));
-        assert_eq!(done.filter(|&done| done).count(), [1, 37][usize::from(n) - 3]);
+        assert_eq!(done.filter(|&done| done).count(), possible);
     }
 }
 
 #[test]
 fn random_pairs_of_trees() {
     let mut random = Random(7);
-    for n in [5, 6] {
-        let trees = trees(n);
+    for (layout, leaves) in [(Ring, 5), (Ring, 6), (Rack, 5), (Rack, 6)] {
+        let trees = trees(layout, leaves);
         let mut done = 0;
         for _ in 0..6_000 {
             let (one, other) = (random.below(trees.len()), random.below(trees.len()));
@@ -90,32 +63,25 @@ fn random_pairs_of_trees() {
     }
 }
 
-/// Returns a run of a circular order.
-fn run(random: &mut Random, order: &[u16]) -> Vec<u16> {
-    let n = order.len();
-    let limit = [n, 5, n][random.below(3)].min(n);
-    let (start, size) = (random.below(n), 1 + random.below(limit));
-    (start..start + size).map(|place| order[place % n]).collect()
-}
-
-/// Grows two rings, and a third with the groups of both, and checks that it is their intersection. One group in `odd` is
-/// no run of the hidden order. Returns whether there is an intersection.
+/// Grows two rings or racks, and a third with the groups of both, and checks that it is their intersection. One group in
+/// `odd` is no run of the hidden order. Returns whether there is an intersection.
 fn check_grown(random: &mut Random, n: usize, odd: usize) -> bool {
-    let hidden = random.shuffled(n);
-    let mut rings = [Ring::new(n), Ring::new(n)];
-    let mut both = Ring::new(n);
+    let (layout, hidden) = (random.layout(n), random.shuffled(n));
+    let mut two = [Bins::new(layout, n), Bins::new(layout, n)];
+    let mut both = Bins::new(layout, n);
     let mut possible = true;
     for _ in 0..2 + random.below(40) {
         let order = if random.below(odd) == 0 { random.shuffled(n) } else { hidden.clone() };
-        let list = run(random, &order);
-        if rings[random.below(2)].join(&list).is_ok() {
+        let limit = [n, 5, n][random.below(3)];
+        let list = random.run(layout, &order, limit);
+        if two[random.below(2)].join(&list).is_ok() {
             possible &= both.join(&list).is_ok();
         }
     }
-    let [one, other] = &rings;
+    let [one, other] = &two;
     for answer in [one.intersect(other), other.intersect(one)] {
         match answer {
-            Ok(ring) => assert!(possible && ring.nodes == both.nodes, "{} and {}", one.text(), other.text()),
+            Ok(common) => assert!(possible && common.nodes == both.nodes, "{} and {}", one.text(), other.text()),
             Err(_) => assert!(answer == refused(8, 0) && !possible, "{} and {}", one.text(), other.text()),
         }
     }
@@ -157,7 +123,7 @@ fn deepest_trees() {
         let [ahead, behind] = [true, false].map(|before| [deep(n, before), deep_c_nodes(n, before)]);
         let bins: Vec<String> = (2..=n).map(|bin| bin.to_string()).collect();
         let whole = format!("1 C({})", bins.join(" "));
-        let ring = |text: &str| Ring::of_text(n, text).unwrap();
+        let ring = |text: &str| Bins::of_text(Ring, n, text).unwrap();
         for (one, other) in [(0, 0), (0, 1), (1, 0), (1, 1)] {
             let both = one.max(other);
             assert_eq!(ring(&ahead[one]).intersect(&ring(&ahead[other])).unwrap().text(), ahead[both]);
@@ -169,18 +135,20 @@ fn deepest_trees() {
 }
 
 #[test]
-fn small_rings() {
-    for n in [1, 2] {
-        let ring = Ring::new(n).intersect(&Ring::new(n)).unwrap();
-        assert!(ring.nodes[..256].iter().all(|record| *record == UNUSED));
+fn fewest_leaves() {
+    for (layout, n) in [(Ring, 1), (Ring, 2), (Rack, 1)] {
+        let both = Bins::new(layout, n).intersect(&Bins::new(layout, n)).unwrap();
+        assert!(both.nodes[..256].iter().all(|record| *record == UNUSED));
     }
 }
 
 /// What an intersection is lent.
 #[derive(Clone)]
 struct Lent {
+    layout: Layout,
     n: usize,
     nodes: Vec<Node>,
+    layout2: Layout,
     m: usize,
     other: Vec<Node>,
     third: Vec<Node>,
@@ -188,46 +156,51 @@ struct Lent {
 
 /// Returns a node table for 5 bins that is in form but for a C-node with three neighbours.
 fn table_with_three() -> Vec<Node> {
-    let mut nodes = Ring::of_text(5, "1 C(P(2 3) 4 5)").unwrap().nodes;
+    let mut nodes = Bins::of_text(Ring, 5, "1 C(P(2 3) 4 5)").unwrap().nodes;
     nodes[1].kind = 2;
     nodes
 }
 
 /// Causes of refusals in the sequence of the checks.
-const CAUSES: [(u8, fn(&mut Lent)); 19] = [
+const CAUSES: [(u8, fn(&mut Lent)); 23] = [
     (1, |lent| lent.n = 0),
     (1, |lent| lent.n = 257),
     (1, |lent| lent.m = 0),
     (1, |lent| lent.m = usize::MAX),
+    (15, |lent| (lent.layout, lent.n) = (Rack, 256)),
+    (15, |lent| (lent.layout2, lent.m) = (Rack, 256)),
     (2, |lent| lent.nodes.truncate(255)),
     (2, |lent| lent.other.truncate(255)),
     (2, |lent| lent.third.truncate(255)),
     (2, |lent| lent.third.clear()),
-    (13, |lent| (lent.n, lent.nodes) = (4, Ring::new(4).nodes)),
-    (13, |lent| (lent.m, lent.other) = (6, Ring::new(6).nodes)),
+    (13, |lent| (lent.n, lent.nodes) = (4, Bins::new(Ring, 4).nodes)),
+    (13, |lent| (lent.m, lent.other) = (6, Bins::new(Ring, 6).nodes)),
     (13, |lent| lent.n = 2),
+    (13, |lent| (lent.layout, lent.n, lent.nodes) = (Rack, 4, Bins::new(Rack, 4).nodes)),
+    (13, |lent| lent.layout2 = Rack),
     (3, |lent| lent.nodes[0].kind = 3),
     (3, |lent| lent.nodes[255].items[254] = 1),
     (3, |lent| lent.other[0].items[1] = 6),
-    (3, |lent| lent.other = Ring::new(2).nodes),
+    (3, |lent| lent.other = Bins::new(Ring, 2).nodes),
     (3, |lent| lent.nodes = table_with_three()),
     (3, |lent| lent.other = table_with_three()),
-    (8, |lent| lent.other = Ring::of_text(5, "1 C(2 4 3 5)").unwrap().nodes),
-    (8, |lent| lent.nodes = Ring::of_text(5, "1 C(3 2 4 5)").unwrap().nodes),
+    (8, |lent| lent.other = Bins::of_text(Ring, 5, "1 C(2 4 3 5)").unwrap().nodes),
+    (8, |lent| lent.nodes = Bins::of_text(Ring, 5, "1 C(3 2 4 5)").unwrap().nodes),
 ];
 
 #[test]
 fn refusals_by_twos() {
-    let ring = Ring::of_text(5, "1 C(2 3 4 5)").unwrap();
-    let lent = Lent { n: 5, nodes: ring.nodes.clone(), m: 5, other: ring.nodes.clone(), third: vec![PAST; 256] };
+    let ring = Bins::of_text(Ring, 5, "1 C(2 3 4 5)").unwrap();
+    let (nodes, other, third) = (ring.nodes.clone(), ring.nodes, vec![PAST; 256]);
+    let lent = Lent { layout: Ring, n: 5, nodes, layout2: Ring, m: 5, other, third };
     for (first, (number, change)) in CAUSES.iter().enumerate() {
         for (_, later) in &CAUSES[first..] {
             let mut lent = lent.clone();
             later(&mut lent);
             change(&mut lent);
-            let answer = plain::intersect(lent.n, &lent.nodes, lent.m, &lent.other, &mut lent.third);
-            assert_eq!(answer, refused(*number, 0));
-            assert!(lent.third.iter().all(|record| *record == PAST));
+            let Lent { layout, n, nodes, layout2, m, other, third } = &mut lent;
+            assert_eq!(plain::intersect(*layout, *n, nodes, *layout2, *m, other, third), refused(*number, 0));
+            assert!(third.iter().all(|record| *record == PAST));
         }
     }
 }

@@ -2,48 +2,49 @@
 
 mod common;
 
-use common::{refused, Ring, PAST, UNUSED};
+use common::{refused, Bins, PAST, UNUSED};
+use plain::Layout::Ring;
 use plain::{aim, conflict, join, open, order, read, scan, trial, write, Node};
 
 #[test]
 fn bins_and_lengths() {
-    let ring = Ring::new(5);
+    let ring = Bins::new(Ring, 5);
     let (mut nodes, mut book) = (ring.nodes.clone(), ring.book.clone());
     for n in [0, 257, usize::MAX] {
-        assert_eq!(open(n, &mut [], &mut []), refused(1, 0));
-        assert_eq!(join(n, &mut [], &mut [], 0, &[]), refused(1, 0));
-        assert_eq!(trial(n, &[], &[], 0, &[]), refused(1, 0));
-        assert_eq!(order(n, &[], &mut []), refused(1, 0));
-        assert_eq!(aim(n, &[], &[], 0, 0), refused(1, 0));
-        assert_eq!(conflict(n, &[], 0, &[], &mut []), refused(1, 0));
-        assert_eq!(write(n, &[], &mut []), refused(1, 0));
-        assert_eq!(read(n, &mut [], &mut [], b""), refused(1, 0));
+        assert_eq!(open(Ring, n, &mut [], &mut []), refused(1, 0));
+        assert_eq!(join(Ring, n, &mut [], &mut [], 0, &[]), refused(1, 0));
+        assert_eq!(trial(Ring, n, &[], &[], 0, &[]), refused(1, 0));
+        assert_eq!(order(Ring, n, &[], &mut []), refused(1, 0));
+        assert_eq!(aim(Ring, n, &[], &[], 0, 0), refused(1, 0));
+        assert_eq!(conflict(Ring, n, &[], 0, &[], &mut []), refused(1, 0));
+        assert_eq!(write(Ring, n, &[], &mut []), refused(1, 0));
+        assert_eq!(read(Ring, n, &mut [], &mut [], b""), refused(1, 0));
     }
-    assert_eq!(open(5, &mut nodes[..255], &mut book), refused(2, 0));
-    assert_eq!(open(5, &mut nodes, &mut book[..383]), refused(2, 0));
-    assert_eq!(join(5, &mut nodes, &mut book[..383], 97, &[]), refused(2, 0));
-    assert_eq!(trial(5, &nodes[..255], &book, 97, &[]), refused(2, 0));
-    assert_eq!(order(5, &nodes, &mut [0; 4]), refused(2, 0));
-    assert_eq!(aim(5, &nodes, &book[..383], 97, 0), refused(2, 0));
-    assert_eq!(conflict(5, &book, 97, &[], &mut [0; 95]), refused(2, 0));
-    assert_eq!(write(5, &nodes, &mut [0; 2047]), refused(2, 0));
-    assert_eq!(read(5, &mut nodes, &mut book[..383], b""), refused(2, 0));
+    assert_eq!(open(Ring, 5, &mut nodes[..255], &mut book), refused(2, 0));
+    assert_eq!(open(Ring, 5, &mut nodes, &mut book[..383]), refused(2, 0));
+    assert_eq!(join(Ring, 5, &mut nodes, &mut book[..383], 97, &[]), refused(2, 0));
+    assert_eq!(trial(Ring, 5, &nodes[..255], &book, 97, &[]), refused(2, 0));
+    assert_eq!(order(Ring, 5, &nodes, &mut [0; 4]), refused(2, 0));
+    assert_eq!(aim(Ring, 5, &nodes, &book[..383], 97, 0), refused(2, 0));
+    assert_eq!(conflict(Ring, 5, &book, 97, &[], &mut [0; 95]), refused(2, 0));
+    assert_eq!(write(Ring, 5, &nodes, &mut [0; 2047]), refused(2, 0));
+    assert_eq!(read(Ring, 5, &mut nodes, &mut book[..383], b""), refused(2, 0));
     assert!(nodes == ring.nodes && book == ring.book);
 }
 
 /// Checks that each call with a node table refuses this one with 3.
 fn table_refused(n: usize, nodes: &[Node]) {
     let book = [0; 384];
-    assert_eq!(trial(n, nodes, &book, 0, &[]), refused(3, 0));
-    assert_eq!(join(n, &mut nodes.to_vec(), &mut book.clone(), 0, &[1]), refused(3, 0));
-    assert_eq!(order(n, nodes, &mut [0; 256]), refused(3, 0));
-    assert_eq!(aim(n, nodes, &book, 0, 1), refused(3, 0));
-    assert_eq!(write(n, nodes, &mut [0; 2048]), refused(3, 0));
+    assert_eq!(trial(Ring, n, nodes, &book, 0, &[]), refused(3, 0));
+    assert_eq!(join(Ring, n, &mut nodes.to_vec(), &mut book.clone(), 0, &[1]), refused(3, 0));
+    assert_eq!(order(Ring, n, nodes, &mut [0; 256]), refused(3, 0));
+    assert_eq!(aim(Ring, n, nodes, &book, 0, 1), refused(3, 0));
+    assert_eq!(write(Ring, n, nodes, &mut [0; 2048]), refused(3, 0));
 }
 
 #[test]
 fn node_tables_not_in_form() {
-    let ring = Ring::with(5, &[&[1, 3], &[3, 5]]);
+    let ring = Bins::with(Ring, 5, &[&[1, 3], &[3, 5]]);
     type Change = (usize, fn(&mut Node));
     let changes: [Change; 16] = [
         (0, |record| record.kind = 0),
@@ -72,17 +73,17 @@ fn node_tables_not_in_form() {
     table_refused(6, &ring.nodes);
     table_refused(1, &ring.nodes);
     table_refused(2, &[PAST; 256]);
-    assert_eq!(order(2, &[UNUSED; 256], &mut [0; 2]), Ok(2));
+    assert_eq!(order(Ring, 2, &[UNUSED; 256], &mut [0; 2]), Ok(2));
 }
 
 #[test]
 fn books_not_in_form() {
-    let ring = Ring::with(5, &[&[1, 3], &[3, 5]]);
+    let ring = Bins::with(Ring, 5, &[&[1, 3], &[3, 5]]);
     let refuses = |book: &[u64], count: usize| {
-        assert_eq!(trial(5, &ring.nodes, book, count, &[]), refused(3, 0));
-        assert_eq!(join(5, &mut ring.nodes.clone(), &mut book.to_vec(), count, &[]), refused(3, 0));
-        assert_eq!(aim(5, &ring.nodes, book, count, 0), refused(3, 0));
-        assert_eq!(conflict(5, book, count, &[], &mut [0; 96]), refused(3, 0));
+        assert_eq!(trial(Ring, 5, &ring.nodes, book, count, &[]), refused(3, 0));
+        assert_eq!(join(Ring, 5, &mut ring.nodes.clone(), &mut book.to_vec(), count, &[]), refused(3, 0));
+        assert_eq!(aim(Ring, 5, &ring.nodes, book, count, 0), refused(3, 0));
+        assert_eq!(conflict(Ring, 5, book, count, &[], &mut [0; 96]), refused(3, 0));
     };
     for count in [0, 1, 97, usize::MAX] {
         refuses(&ring.book, count);
@@ -97,22 +98,22 @@ fn books_not_in_form() {
 /// A group without marks is in form wherever it stands.
 #[test]
 fn books_with_empty_groups() {
-    let ring = Ring::with(5, &[&[], &[1, 3], &[], &[3, 5], &[]]);
+    let ring = Bins::with(Ring, 5, &[&[], &[1, 3], &[], &[3, 5], &[]]);
     assert_eq!(ring.count, 5);
-    assert_eq!(ring.text(), Ring::with(5, &[&[1, 3], &[3, 5]]).text());
+    assert_eq!(ring.text(), Bins::with(Ring, 5, &[&[1, 3], &[3, 5]]).text());
     for count in [4, 6, 95] {
-        assert_eq!(trial(5, &ring.nodes, &ring.book, count, &[2, 4]), Ok(count + 1));
-        assert_eq!(conflict(5, &ring.book, count, &[1, 5], &mut [0; 96]), Ok(2));
-        assert_eq!(aim(5, &ring.nodes, &ring.book, count, 4), Ok(3));
+        assert_eq!(trial(Ring, 5, &ring.nodes, &ring.book, count, &[2, 4]), Ok(count + 1));
+        assert_eq!(conflict(Ring, 5, &ring.book, count, &[1, 5], &mut [0; 96]), Ok(2));
+        assert_eq!(aim(Ring, 5, &ring.nodes, &ring.book, count, 4), Ok(3));
     }
-    assert_eq!(trial(5, &ring.nodes, &ring.book, 96, &[2, 4]), refused(7, 0));
+    assert_eq!(trial(Ring, 5, &ring.nodes, &ring.book, 96, &[2, 4]), refused(7, 0));
     assert_eq!(ring.conflict(&[1, 5]), [2, 4]);
 }
 
 /// The list of an empty group is empty where the book is possible, and no list names an empty group.
 #[test]
 fn conflicts_of_an_empty_group() {
-    let mut ring = Ring::with(5, &[&[], &[1, 3], &[], &[3, 5]]);
+    let mut ring = Bins::with(Ring, 5, &[&[], &[1, 3], &[], &[3, 5]]);
     assert_eq!(ring.conflict(&[]), []);
     ring.book[16..20].copy_from_slice(&[0b10001, 0, 0, 0]);
     ring.count = 6;
@@ -121,23 +122,23 @@ fn conflicts_of_an_empty_group() {
 
 #[test]
 fn lists() {
-    let mut ring = Ring::new(5);
+    let mut ring = Bins::new(Ring, 5);
     assert_eq!(ring.join(&[]), Ok(1));
     assert_eq!(ring.join(&[1, 0, 1]), refused(5, 1));
     assert_eq!(ring.join(&[2, 3, 6]), refused(5, 2));
     assert_eq!(ring.join(&[2, 3, 2, 6]), refused(6, 2));
     assert_eq!(ring.join(&[1, 2, 3, 4, 5, 1]), refused(6, 5));
     let mut places = [777; 96];
-    assert_eq!(conflict(5, &ring.book, 0, &[6], &mut places), refused(5, 0));
-    assert_eq!(conflict(5, &ring.book, 0, &[3, 3], &mut places), refused(6, 1));
+    assert_eq!(conflict(Ring, 5, &ring.book, 0, &[6], &mut places), refused(5, 0));
+    assert_eq!(conflict(Ring, 5, &ring.book, 0, &[3, 3], &mut places), refused(6, 1));
     assert_eq!(places, [777; 96]);
-    assert_eq!(conflict(5, &ring.book, 0, &[], &mut places), Ok(0));
+    assert_eq!(conflict(Ring, 5, &ring.book, 0, &[], &mut places), Ok(0));
     assert_eq!(places, [0; 96]);
 }
 
 #[test]
 fn full_book_before_impossible() {
-    let mut ring = Ring::with(5, &[&[1, 3], &[3, 5]]);
+    let mut ring = Bins::with(Ring, 5, &[&[1, 3], &[3, 5]]);
     for _ in 2..96 {
         ring.join(&[1]).unwrap();
     }
@@ -148,18 +149,18 @@ fn full_book_before_impossible() {
 
 #[test]
 fn aims() {
-    let ring = Ring::with(5, &[&[1, 3], &[1, 2, 3, 4, 5]]);
+    let ring = Bins::with(Ring, 5, &[&[1, 3], &[1, 2, 3, 4, 5]]);
     assert_eq!(ring.aim(0), refused(9, 0));
     assert_eq!(ring.aim(3), refused(9, 0));
     assert_eq!(ring.aim(1), Ok(1));
     assert_eq!(ring.aim(2), Ok(4));
-    let fresh = Ring::new(5);
-    assert_eq!(aim(5, &fresh.nodes, &ring.book, 2, 1), refused(10, 0));
-    assert_eq!(aim(5, &fresh.nodes, &ring.book, 2, 2), Ok(3));
-    assert_eq!(aim(5, &fresh.nodes, &ring.book, 3, 3), refused(14, 0));
-    assert_eq!(aim(5, &fresh.nodes, &ring.book, 3, 4), refused(9, 0));
-    assert_eq!(aim(5, &fresh.nodes, &[0; 383], 1, 1), refused(2, 0));
-    assert_eq!(aim(5, &[PAST; 256], &[0; 384], 1, 1), refused(3, 0));
+    let fresh = Bins::new(Ring, 5);
+    assert_eq!(aim(Ring, 5, &fresh.nodes, &ring.book, 2, 1), refused(10, 0));
+    assert_eq!(aim(Ring, 5, &fresh.nodes, &ring.book, 2, 2), Ok(3));
+    assert_eq!(aim(Ring, 5, &fresh.nodes, &ring.book, 3, 3), refused(14, 0));
+    assert_eq!(aim(Ring, 5, &fresh.nodes, &ring.book, 3, 4), refused(9, 0));
+    assert_eq!(aim(Ring, 5, &fresh.nodes, &[0; 383], 1, 1), refused(2, 0));
+    assert_eq!(aim(Ring, 5, &[PAST; 256], &[0; 384], 1, 1), refused(3, 0));
 }
 
 #[test]
@@ -191,9 +192,9 @@ fn texts() {
         (6, "1 P(3 C(2 4) P(6 5))", 6),
     ];
     for (n, text, byte) in cases {
-        let mut ring = Ring::with(5, &[&[1, 3]]);
+        let mut ring = Bins::with(Ring, 5, &[&[1, 3]]);
         let before = ring.clone();
-        assert_eq!(read(n, &mut ring.nodes, &mut ring.book, text.as_bytes()), refused(12, byte), "{text}");
+        assert_eq!(read(Ring, n, &mut ring.nodes, &mut ring.book, text.as_bytes()), refused(12, byte), "{text}");
         assert!(ring == before);
     }
 }

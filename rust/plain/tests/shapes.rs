@@ -3,7 +3,8 @@
 mod common;
 
 use common::shapes::{shapes, threes_named};
-use common::{refused, Random, Ring};
+use common::{refused, Bins, Random};
+use plain::Layout::Ring;
 use std::collections::HashSet;
 
 #[test]
@@ -13,7 +14,7 @@ fn bytes_against_all_shapes() {
         let texts = shapes(n);
         let whole: HashSet<&[u8]> = texts.iter().map(|text| text.as_bytes()).collect();
         let prefixes: HashSet<&[u8]> = whole.iter().flat_map(|text| (0..=text.len()).map(|len| &text[..len])).collect();
-        let mut ring = Ring::new(usize::from(n));
+        let mut ring = Bins::new(Ring, usize::from(n));
         for _ in 0..20_000 {
             let mut text = texts[random.below(texts.len())].clone().into_bytes();
             for _ in 0..1 + random.below(3) {
@@ -29,7 +30,7 @@ fn bytes_against_all_shapes() {
                 continue;
             }
             let byte = (0..text.len()).find(|&place| !prefixes.contains(&text[..=place])).unwrap_or(text.len());
-            let answer = plain::read(usize::from(n), &mut ring.nodes, &mut ring.book, &text);
+            let answer = plain::read(Ring, usize::from(n), &mut ring.nodes, &mut ring.book, &text);
             assert_eq!(answer, refused(12, byte), "{}", String::from_utf8_lossy(&text));
         }
     }
@@ -43,7 +44,7 @@ fn one_text_a_tree() {
         let mut accepted = 0;
         let mut written = HashSet::new();
         for text in shapes(n) {
-            let Some(ring) = Ring::of_text(usize::from(n), &text) else { continue };
+            let Some(ring) = Bins::of_text(Ring, usize::from(n), &text) else { continue };
             accepted += 1;
             assert_eq!(ring.text(), threes_named(&text));
             written.insert(ring.text());
@@ -63,12 +64,12 @@ fn three_neighbours() {
         (6, "1 P(2 C(3 5) P(4 6))", "1 P(2 P(3 5) P(4 6))"),
     ];
     for (n, text, written) in cases {
-        let ring = Ring::of_text(n, text).unwrap();
+        let ring = Bins::of_text(Ring, n, text).unwrap();
         assert_eq!(ring.text(), written);
-        assert!(ring.nodes == Ring::of_text(n, written).unwrap().nodes);
+        assert!(ring.nodes == Bins::of_text(Ring, n, written).unwrap().nodes);
     }
-    let mut ring = Ring::new(3);
+    let mut ring = Bins::new(Ring, 3);
     for (text, byte) in [("1 C(3 2)", 4), ("1 P(3 2)", 6)] {
-        assert_eq!(plain::read(3, &mut ring.nodes, &mut ring.book, text.as_bytes()), refused(12, byte));
+        assert_eq!(plain::read(Ring, 3, &mut ring.nodes, &mut ring.book, text.as_bytes()), refused(12, byte));
     }
 }

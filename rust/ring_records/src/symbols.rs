@@ -2,8 +2,9 @@
 use crate::Node;
 
 extern "C" {
-    pub fn ring_open(n: usize, nodes: *mut Node, records: usize, book: *mut u64, words: usize, value: *mut usize) -> u8;
+    pub fn ring_open(layout: u8, n: usize, nodes: *mut Node, records: usize, book: *mut u64, words: usize, value: *mut usize) -> u8;
     pub fn ring_join(
+        layout: u8,
         n: usize,
         nodes: *mut Node,
         records: usize,
@@ -15,6 +16,7 @@ extern "C" {
         value: *mut usize,
     ) -> u8;
     pub fn ring_trial(
+        layout: u8,
         n: usize,
         nodes: *const Node,
         records: usize,
@@ -25,8 +27,9 @@ extern "C" {
         length: usize,
         value: *mut usize,
     ) -> u8;
-    pub fn ring_order(n: usize, nodes: *const Node, records: usize, order: *mut u16, places: usize, value: *mut usize) -> u8;
+    pub fn ring_order(layout: u8, n: usize, nodes: *const Node, records: usize, order: *mut u16, places: usize, value: *mut usize) -> u8;
     pub fn ring_aim(
+        layout: u8,
         n: usize,
         nodes: *const Node,
         records: usize,
@@ -36,8 +39,9 @@ extern "C" {
         group: usize,
         value: *mut usize,
     ) -> u8;
-    pub fn ring_write(n: usize, nodes: *const Node, records: usize, bytes: *mut u8, places: usize, value: *mut usize) -> u8;
+    pub fn ring_write(layout: u8, n: usize, nodes: *const Node, records: usize, bytes: *mut u8, places: usize, value: *mut usize) -> u8;
     pub fn ring_read(
+        layout: u8,
         n: usize,
         nodes: *mut Node,
         records: usize,
@@ -48,9 +52,11 @@ extern "C" {
         value: *mut usize,
     ) -> u8;
     pub fn ring_intersect(
+        layout: u8,
         n: usize,
         nodes: *const Node,
         nodes_records: usize,
+        layout2: u8,
         m: usize,
         other: *const Node,
         other_records: usize,

@@ -1,21 +1,19 @@
-//! Small rings against all circular orders: what can join, which orders are left, which groups are in conflict, where a group is aimed, and
-//! what two trees both allow.
+//! Small rings against all circular orders, and small racks against all straight ones: what can join, which orders are left, which groups are in
+//! conflict, where a group is aimed, and what two trees both allow.
 use crate::draw::Draw;
+use crate::tables::Size;
 use crate::texts::shaped;
+use tokuwhape::Layout::{self, Rack, Ring};
 use tokuwhape::{Node, Refusal};
 
 /// A group as a set of leaves: leaf b is bit b.
 type Set = u32;
 
-/// Every circular order of n leaves, read from leaf 1, in dictionary order.
-fn orders(n: usize) -> Vec<Vec<u16>> {
-    let mut found = vec![vec![1]];
-    for _ in 1..n {
-        found = found
-            .iter()
-            .flat_map(|begun| (2..=n as u16).filter(|leaf| !begun.contains(leaf)).map(|leaf| [&begun[..], &[leaf]].concat()))
-            .collect();
-    }
+/// Every order of n leaves, a ring's read from leaf 1, in dictionary order.
+fn orders(Size { layout, n }: Size) -> Vec<Vec<u16>> {
+    let leaves: Vec<u16> = (1..=n as u16).collect();
+    let mut found = sequences(&leaves);
+    found.retain(|order| layout == Rack || order[0] == 1);
     found
 }
 
@@ -27,31 +25,32 @@ fn has(group: Set, leaf: u16) -> bool {
     group >> leaf & 1 == 1
 }
 
-/// Where a run of the group starts in the order: the places of the group that follow a place outside it.
-fn starts(group: Set, order: &[u16]) -> Vec<usize> {
+/// Where a run of the group starts in the order: the places of the group that follow a place outside it, or a rack's end.
+fn starts(layout: Layout, group: Set, order: &[u16]) -> Vec<usize> {
     let n = order.len();
-    (0..n).filter(|&i| has(group, order[i]) && !has(group, order[(i + n - 1) % n])).collect()
+    let follows = |i: usize| (layout == Rack && i == 0) || !has(group, order[(i + n - 1) % n]);
+    (0..n).filter(|&i| has(group, order[i]) && follows(i)).collect()
 }
 
-fn consecutive(group: Set, order: &[u16]) -> bool {
-    starts(group, order).len() <= 1
+fn consecutive(layout: Layout, group: Set, order: &[u16]) -> bool {
+    starts(layout, group, order).len() <= 1
 }
 
 /// Whether some order has each of these groups consecutive.
-fn possible(orders: &[Vec<u16>], groups: &[Set]) -> bool {
-    orders.iter().any(|order| groups.iter().all(|&group| consecutive(group, order)))
+fn possible(layout: Layout, orders: &[Vec<u16>], groups: &[Set]) -> bool {
+    orders.iter().any(|order| groups.iter().all(|&group| consecutive(layout, group, order)))
 }
 
 /// The numbers of the groups that the leaving-out rule keeps.
-fn conflict(orders: &[Vec<u16>], book: &[Set], new: Set) -> Vec<u16> {
+fn conflict(layout: Layout, orders: &[Vec<u16>], book: &[Set], new: Set) -> Vec<u16> {
     let mut kept: Vec<u16> = (1..=book.len() as u16).collect();
     let with = |numbers: &[u16]| -> Vec<Set> { numbers.iter().map(|&number| book[number as usize - 1]).chain([new]).collect() };
-    if possible(orders, &with(&kept)) {
+    if possible(layout, orders, &with(&kept)) {
         return Vec::new();
     }
     for number in 1..=book.len() as u16 {
         let rest: Vec<u16> = kept.iter().copied().filter(|&other| other != number).collect();
-        if !possible(orders, &with(&rest)) {
+        if !possible(layout, orders, &with(&rest)) {
             kept = rest;
         }
     }
@@ -59,11 +58,11 @@ fn conflict(orders: &[Vec<u16>], book: &[Set], new: Set) -> Vec<u16> {
 }
 
 /// The leaf at which the group is aimed in this order; an empty group has no aim.
-fn aim(group: Set, order: &[u16]) -> Result<usize, Refusal> {
+fn aim(layout: Layout, group: Set, order: &[u16]) -> Result<usize, Refusal> {
     if group == 0 {
         return Err(Refusal::NoAim);
     }
-    let start = starts(group, order).first().copied().unwrap_or(0);
+    let start = starts(layout, group, order).first().copied().unwrap_or(0);
     let size = group.count_ones() as usize;
     let run: Vec<usize> = (start..start + size).map(|place| place % order.len()).collect();
     let place = match run[(size - 1) / 2..=size / 2] {
@@ -89,7 +88,7 @@ fn sequences(entries: &[u16]) -> Vec<Vec<u16>> {
     found
 }
 
-/// The sequences of leaves that an item of a small ring's node table allows; 256 is its record 0.
+/// The sequences of leaves that an item of a small node table allows; 256 is its record 0.
 fn frontiers(nodes: &[Node], item: u16) -> Vec<Vec<u16>> {
     if item < 256 {
         return vec![vec![item]];
@@ -110,14 +109,21 @@ fn frontiers(nodes: &[Node], item: u16) -> Vec<Vec<u16>> {
     found
 }
 
-/// The orders that the node table's tree allows, in dictionary order.
-fn allowed(nodes: &[Node], n: usize) -> Vec<Vec<u16>> {
-    let top = match n {
-        1 => return vec![vec![1]],
-        2 => 2,
-        _ => 256,
+/// The orders that the node table's tree allows, in dictionary order: a rack's are read from its hidden end on.
+fn allowed(nodes: &[Node], size: Size) -> Vec<Vec<u16>> {
+    let rest = match size.leaves() {
+        1 => vec![vec![]],
+        2 => vec![vec![2]],
+        _ => frontiers(nodes, 256),
     };
-    let mut found: Vec<Vec<u16>> = frontiers(nodes, top).into_iter().map(|rest| [&[1], &rest[..]].concat()).collect();
+    let mut found: Vec<Vec<u16>> = rest.into_iter().map(|rest| [&[1], &rest[..]].concat()).collect();
+    if size.layout == Rack {
+        for circle in &mut found {
+            let end = circle.iter().position(|&leaf| leaf as usize > size.n).expect("each leaf is there");
+            circle.rotate_left(end);
+            circle.remove(0);
+        }
+    }
     found.sort();
     found.dedup();
     found
@@ -128,9 +134,9 @@ fn has_three(nodes: &[Node]) -> bool {
     nodes.iter().any(|node| (node.kind, node.count) == (2, 2))
 }
 
-/// A ring, and what it should be: its groups, and the orders that have each of them consecutive.
+/// A ring or a rack, and what it should be: its groups, and the orders that have each of them consecutive.
 struct Watched {
-    n: usize,
+    size: Size,
     nodes: Vec<Node>,
     book: Vec<u64>,
     groups: Vec<Set>,
@@ -138,25 +144,26 @@ struct Watched {
 }
 
 impl Watched {
-    fn fresh(n: usize) -> Watched {
-        let mut ring = Watched { n, nodes: vec![Node::UNUSED; 256], book: vec![0; 384], groups: Vec::new(), left: orders(n) };
-        assert_eq!(tokuwhape::open(n, &mut ring.nodes, &mut ring.book), Ok(0));
-        ring
+    fn fresh(size: Size) -> Watched {
+        let mut fresh = Watched { size, nodes: vec![Node::UNUSED; 256], book: vec![0; 384], groups: Vec::new(), left: orders(size) };
+        assert_eq!(tokuwhape::open(size.layout, size.n, &mut fresh.nodes, &mut fresh.book), Ok(0));
+        fresh
     }
 
-    /// The ring with the tree of this text; none where it is refused.
-    fn of_text(n: usize, text: &[u8]) -> Option<Watched> {
-        let mut ring = Watched::fresh(n);
-        tokuwhape::read(n, &mut ring.nodes, &mut ring.book, text).ok()?;
-        ring.left = allowed(&ring.nodes, n);
-        assert!(!has_three(&ring.nodes), "{}", String::from_utf8_lossy(text));
-        Some(ring)
+    /// The ring or rack with the tree of this text; none where it is refused.
+    fn of_text(size: Size, text: &[u8]) -> Option<Watched> {
+        let mut read = Watched::fresh(size);
+        tokuwhape::read(size.layout, size.n, &mut read.nodes, &mut read.book, text).ok()?;
+        read.left = allowed(&read.nodes, size);
+        assert!(!has_three(&read.nodes), "{}", String::from_utf8_lossy(text));
+        Some(read)
     }
 
     /// Joins the group, and checks its answer and the orders left.
     fn join(&mut self, list: &[u16]) {
-        let after: Vec<Vec<u16>> = self.left.iter().filter(|order| consecutive(set(list), order)).cloned().collect();
-        let answer = tokuwhape::join(self.n, &mut self.nodes, &mut self.book, self.groups.len(), list);
+        let Size { layout, n } = self.size;
+        let after: Vec<Vec<u16>> = self.left.iter().filter(|order| consecutive(layout, set(list), order)).cloned().collect();
+        let answer = tokuwhape::join(layout, n, &mut self.nodes, &mut self.book, self.groups.len(), list);
         if after.is_empty() {
             assert_eq!(answer, Err(Refusal::Impossible), "{list:?}");
         } else {
@@ -164,40 +171,52 @@ impl Watched {
             self.left = after;
             assert_eq!(answer, Ok(self.groups.len()), "{list:?}");
         }
-        assert_eq!(allowed(&self.nodes, self.n), self.left, "{list:?}");
+        assert_eq!(allowed(&self.nodes, self.size), self.left, "{list:?}");
         assert!(!has_three(&self.nodes), "{list:?}");
     }
 
     /// Checks the standard order, the aims and the conflict list of the group.
     fn read(&self, all: &[Vec<u16>], list: &[u16]) {
-        let (mut order, mut conflicts) = (vec![0; self.n], vec![0; 96]);
-        assert_eq!(tokuwhape::order(self.n, &self.nodes, &mut order), Ok(self.n));
+        let Size { layout, n } = self.size;
+        let (mut order, mut conflicts) = (vec![0; n], vec![0; 96]);
+        assert_eq!(tokuwhape::order(layout, n, &self.nodes, &mut order), Ok(n));
         assert_eq!(order, self.left[0]);
         for (i, &group) in self.groups.iter().enumerate() {
-            assert_eq!(tokuwhape::aim(self.n, &self.nodes, &self.book, self.groups.len(), i + 1), aim(group, &order));
+            let answer = tokuwhape::aim(layout, n, &self.nodes, &self.book, self.groups.len(), i + 1);
+            assert_eq!(answer, aim(layout, group, &order));
         }
-        let wanted = conflict(all, &self.groups, set(list));
-        assert_eq!(tokuwhape::conflict(self.n, &self.book, self.groups.len(), list, &mut conflicts), Ok(wanted.len()));
+        let wanted = conflict(layout, all, &self.groups, set(list));
+        assert_eq!(tokuwhape::conflict(layout, n, &self.book, self.groups.len(), list, &mut conflicts), Ok(wanted.len()));
         assert_eq!(conflicts[..wanted.len()], wanted);
         assert!(conflicts[wanted.len()..].iter().all(|&place| place == 0));
     }
 }
 
-/// Joins random groups to rings of 1 to 6 leaves and compares each answer with all circular orders.
-#[test]
-fn small_rings_allow_what_all_orders_say() {
-    let mut draw = Draw::new(0x0123_4567_89ab_cdef);
+/// Joins random groups to fresh rings or racks of 1 to 6 leaves, `times` for each leaf, and compares each answer with all orders.
+fn check_grown(seed: u64, layout: Layout, times: usize) {
+    let mut draw = Draw::new(seed);
     for n in 1..=6 {
-        let all = orders(n);
-        for _ in 0..40 * n {
-            let mut ring = Watched::fresh(n);
+        let size = Size { layout, n };
+        let all = orders(size);
+        for _ in 0..times * n {
+            let mut grown = Watched::fresh(size);
             for _ in 0..6 {
                 let list = draw.group(n);
-                ring.read(&all, &list);
-                ring.join(&list);
+                grown.read(&all, &list);
+                grown.join(&list);
             }
         }
     }
+}
+
+#[test]
+fn small_rings_allow_what_all_orders_say() {
+    check_grown(0x0123_4567_89ab_cdef, Ring, 40);
+}
+
+#[test]
+fn small_racks_allow_what_all_orders_say() {
+    check_grown(0x89ab_cdef_0123_4567, Rack, 20);
 }
 
 /// Joins random groups to trees of 3 to 6 leaves that were read from texts.
@@ -206,29 +225,32 @@ fn small_trees_allow_what_all_orders_say() {
     let mut draw = Draw::new(0xfedc_ba98_7654_3210);
     let mut accepted = 0;
     for _ in 0..2_000 {
-        let n = 3 + draw.below(4);
-        let text = shaped(&mut draw, n);
-        let Some(mut ring) = Watched::of_text(n, &text) else { continue };
+        let (layout, leaves) = (draw.pick(&[Ring, Rack]), 3 + draw.below(4));
+        let size = Size { layout, n: if layout == Ring { leaves } else { leaves - 1 } };
+        let text = shaped(&mut draw, leaves);
+        let Some(mut read) = Watched::of_text(size, &text) else { continue };
         accepted += 1;
-        let all = orders(n);
+        let all = orders(size);
         for _ in 0..3 {
-            let list = draw.group(n);
-            ring.read(&all, &list);
-            ring.join(&list);
+            let list = draw.group(size.n);
+            read.read(&all, &list);
+            read.join(&list);
         }
     }
     assert!(accepted > 500, "only {accepted} texts");
 }
 
-/// Every set of two groups of a ring of 5 leaves, in both sequences.
+/// Every two groups of a ring of 5 leaves, and of a rack, in both sequences.
 #[test]
 fn every_two_groups_of_five_leaves() {
     let groups: Vec<Vec<u16>> = (0..32u16).map(|marks| (1..=5).filter(|leaf| marks >> (leaf - 1) & 1 == 1).collect()).collect();
-    for first in &groups {
-        for second in &groups {
-            let mut ring = Watched::fresh(5);
-            ring.join(first);
-            ring.join(second);
+    for layout in [Ring, Rack] {
+        for first in &groups {
+            for second in &groups {
+                let mut grown = Watched::fresh(Size { layout, n: 5 });
+                grown.join(first);
+                grown.join(second);
+            }
         }
     }
 }
@@ -240,18 +262,19 @@ fn small_trees_intersect_as_their_orders_do() {
     let (mut done, mut refused) = (0, 0);
     for _ in 0..6_000 {
         let n = 1 + draw.below(6);
-        let texts = [shaped(&mut draw, n), shaped(&mut draw, n)];
-        let [Some(one), Some(other)] = texts.map(|text| Watched::of_text(n, &text)) else { continue };
+        let size = draw.laid(n);
+        let texts = [shaped(&mut draw, size.leaves()), shaped(&mut draw, size.leaves())];
+        let [Some(one), Some(other)] = texts.map(|text| Watched::of_text(size, &text)) else { continue };
         let both: Vec<_> = one.left.iter().filter(|order| other.left.contains(order)).cloned().collect();
         let mut third = vec![Node { kind: 7, count: 7, items: [7; 255] }; 256];
-        let answer = tokuwhape::intersect(n, &one.nodes, n, &other.nodes, &mut third);
+        let answer = tokuwhape::intersect(size.layout, n, &one.nodes, size.layout, n, &other.nodes, &mut third);
         if both.is_empty() {
             assert_eq!(answer, Err(Refusal::Impossible));
             refused += 1;
             continue;
         }
         assert_eq!(answer, Ok(0));
-        assert_eq!(allowed(&third, n), both);
+        assert_eq!(allowed(&third, size), both);
         assert!(!has_three(&third));
         done += 1;
     }

@@ -1,7 +1,7 @@
 //! Damaged node tables lent to each call that reads one: the crate's `planner`, whose refusals are `told` in numbers, answers as the independent one
 //! does and leaves the same tables.
 use crate::damage::{damage_nodes, Choose};
-use crate::planner::{self, Node};
+use crate::planner::{self, Layout, Node};
 use crate::told;
 
 /// Chooses everything, turn by turn. Of more than `most` numbers it takes so many, the first and the last among them.
@@ -61,48 +61,65 @@ struct Tables<N> {
 
 /// The answers of each call that reads a node table, one after another on the same tables; a trial of each list.
 macro_rules! answers {
-    ($planner:ident, $told:expr, $n:expr, $lists:expr, $tables:expr) => {{
-        let (n, lists, t) = ($n, $lists, $tables);
-        let mut answers = lists.map(|list| $planner::trial(n, &t.nodes, &t.book, 1, list)).to_vec();
+    ($planner:ident, $told:expr, $layout:expr, $n:expr, $lists:expr, $tables:expr) => {{
+        let (layout, n, lists, t) = ($layout, $n, $lists, $tables);
+        let mut answers = lists.map(|list| $planner::trial(layout, n, &t.nodes, &t.book, 1, list)).to_vec();
         answers.extend([
-            $planner::order(n, &t.nodes, &mut t.order),
-            $planner::aim(n, &t.nodes, &t.book, 1, 1),
-            $planner::write(n, &t.nodes, &mut t.bytes),
-            $planner::intersect(n, &t.nodes, n, &t.other, &mut t.third),
-            $planner::intersect(n, &t.other, n, &t.nodes, &mut t.third),
-            $planner::join(n, &mut t.nodes, &mut t.book, 1, lists[0]),
+            $planner::order(layout, n, &t.nodes, &mut t.order),
+            $planner::aim(layout, n, &t.nodes, &t.book, 1, 1),
+            $planner::write(layout, n, &t.nodes, &mut t.bytes),
+            $planner::intersect(layout, n, &t.nodes, layout, n, &t.other, &mut t.third),
+            $planner::intersect(layout, n, &t.other, layout, n, &t.nodes, &mut t.third),
+            $planner::join(layout, n, &mut t.nodes, &mut t.book, 1, lists[0]),
         ]);
         answers.into_iter().map(|answer| answer.map_err($told)).collect::<Vec<_>>()
     }};
+}
+
+/// How many bins the calls are told, of a tree of so many leaves.
+fn bins(layout: Layout, leaves: usize) -> usize {
+    match layout {
+        Layout::Ring => leaves,
+        Layout::Rack => leaves - 1,
+    }
+}
+
+pub fn plain_layout(layout: Layout) -> plain::Layout {
+    match layout {
+        Layout::Ring => plain::Layout::Ring,
+        Layout::Rack => plain::Layout::Rack,
+    }
 }
 
 fn plain_node(node: &Node) -> plain::Node {
     plain::Node { kind: node.kind as _, count: node.count, items: node.items }
 }
 
-/// What is lent to both sides, and what each side has of it.
-struct Ring {
-    n: usize,
+/// A tree in a ring or a rack: what is lent to both sides, and what each side has of it.
+struct Tree {
+    layout: Layout,
+    leaves: usize,
     lent: Tables<Node>,
     ours: Tables<Node>,
     theirs: Tables<plain::Node>,
 }
 
-impl Ring {
-    /// The ring of a tree text. Its book has one group, all leaves.
-    fn of_text(n: usize, text: &str) -> Ring {
+impl Tree {
+    /// The tree of a text with so many leaves, of which the last one is a rack's hidden end. Its book has one group, all other leaves.
+    fn of_text(layout: Layout, leaves: usize, text: &str) -> Tree {
         let (mut nodes, mut book) = (vec![Node::UNUSED; 256], vec![0; 384]);
-        assert_eq!(planner::read(n, &mut nodes, &mut book, text.as_bytes()), Ok(0), "{text}");
+        let n = bins(layout, leaves);
+        assert_eq!(planner::read(layout, n, &mut nodes, &mut book, text.as_bytes()), Ok(0), "{text}");
         (0..n).for_each(|mark| book[mark / 64] |= 1 << (mark % 64));
         let third = vec![Node { kind: 7, count: 77, items: [777; 255] }; 256];
         let lent = Tables { other: nodes.clone(), nodes, third, book, order: vec![777; n], bytes: vec![7; 2048] };
-        Ring { n, ours: lent.clone(), theirs: plain_tables(&lent), lent }
+        Tree { layout, leaves, ours: lent.clone(), theirs: plain_tables(&lent), lent }
     }
 
     /// Damages the node table.
     fn damage(&mut self, choose: &mut impl Choose) {
         self.lent.nodes.copy_from_slice(&self.lent.other);
-        damage_nodes(choose, self.n, &mut self.lent.nodes);
+        damage_nodes(choose, self.leaves, &mut self.lent.nodes);
         self.ours.nodes.copy_from_slice(&self.lent.nodes);
         self.theirs.nodes.iter_mut().zip(&self.lent.nodes).for_each(|(theirs, node)| *theirs = plain_node(node));
     }
@@ -117,11 +134,12 @@ impl Ring {
 
     /// Makes the calls on both sides, and compares answers and tables. Returns whether the node table is refused: by all calls, else by none.
     fn refused(&mut self, what: &str) -> bool {
-        let (n, last) = (self.n, self.n as u16);
+        let n = bins(self.layout, self.leaves);
+        let (theirs, last) = (plain_layout(self.layout), n as u16);
         let (half, odd): (Vec<u16>, Vec<u16>) = ((last / 2 + 1..=last).collect(), (1..=last).step_by(2).collect());
         let lists = [&half[..], &odd, &[], &[1, last + 1], &[1, 1]];
-        let answers = answers!(planner, told, n, lists, &mut self.ours);
-        let wanted = answers!(plain, |refused: plain::Refused| (refused.number, refused.place), n, lists, &mut self.theirs);
+        let answers = answers!(planner, told, self.layout, n, lists, &mut self.ours);
+        let wanted = answers!(plain, |refused: plain::Refused| (refused.number, refused.place), theirs, n, lists, &mut self.theirs);
         assert_eq!(answers, wanted, "{what}");
         assert!(self.same(), "tables differ: {what}");
         let refused = answers[0] == Err((3, 0));
@@ -166,21 +184,34 @@ fn trees() -> Vec<(usize, String, usize)> {
     small.into_iter().chain(large.map(|text| (256, text, 9))).collect()
 }
 
-#[test]
-fn damaged_tables_are_refused_alike() {
+/// Lends the tree's table in every way damaged. Returns how many were accepted, and how many refused.
+fn damaged(mut tree: Tree, text: &str, most: usize) -> [usize; 2] {
     let mut tables = [0, 0];
-    for (n, text, most) in trees() {
-        let mut ring = Ring::of_text(n, &text);
-        let mut every = Every { most, choices: Vec::new(), made: 0 };
-        loop {
-            ring.damage(&mut every);
-            tables[ring.refused(&format!("{text}, damaged by {:?}", every.choices)) as usize] += 1;
-            if !every.turn() {
-                break;
-            }
+    let mut every = Every { most, choices: Vec::new(), made: 0 };
+    loop {
+        tree.damage(&mut every);
+        tables[tree.refused(&format!("{:?}, {text}, damaged by {:?}", tree.layout, every.choices)) as usize] += 1;
+        if !every.turn() {
+            return tables;
         }
     }
-    let [accepted, refused] = tables;
-    println!("{accepted} tables accepted, {refused} refused");
+}
+
+/// Checks the damaged tables of these trees.
+fn check_damaged(layout: Layout, trees: &[(usize, String, usize)]) {
+    let tables = trees.iter().map(|(leaves, text, most)| damaged(Tree::of_text(layout, *leaves, text), text, *most));
+    let [accepted, refused] = tables.fold([0, 0], |[accepted, refused], [more, others]| [accepted + more, refused + others]);
+    println!("{layout:?}: {accepted} tables accepted, {refused} refused");
     assert!(accepted > 100 && refused > 5 * accepted, "{accepted} tables accepted, {refused} refused");
+}
+
+#[test]
+fn damaged_rings_are_refused_alike() {
+    check_damaged(Layout::Ring, &trees());
+}
+
+/// A rack has at least two leaves.
+#[test]
+fn damaged_racks_are_refused_alike() {
+    check_damaged(Layout::Rack, &trees()[1..]);
 }

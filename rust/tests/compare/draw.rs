@@ -1,5 +1,7 @@
 //! A seeded xorshift64 generator, and what is drawn from it.
 use crate::damage::Choose;
+use crate::tables::Size;
+use tokuwhape::Layout::{self, Rack, Ring};
 
 pub struct Draw(u64);
 
@@ -46,8 +48,8 @@ impl Draw {
         leaves
     }
 
-    /// A size of a ring, small ones more often.
-    pub fn size(&mut self) -> usize {
+    /// A number of leaves, small ones more often.
+    pub fn many(&mut self) -> usize {
         let most = self.pick(&[6, 10, 10, 20, 70, 256]);
         if self.one_in(40) {
             return self.pick(&[63, 64, 65, 127, 128, 129, 191, 192, 193, 255, 256]);
@@ -55,9 +57,25 @@ impl Draw {
         1 + self.below(most)
     }
 
-    /// A number that is no ring's size, or close to n.
-    pub fn other_size(&mut self, n: usize) -> usize {
-        self.pick(&[0, 257, 258, 65_535, 65_536, usize::MAX, n - 1, n + 1])
+    /// A ring or a rack of n leaves; a ring of 256.
+    pub fn laid(&mut self, n: usize) -> Size {
+        Size { layout: if n < 256 { self.pick(&[Ring, Rack]) } else { Ring }, n }
+    }
+
+    /// A size of a ring or of a rack, small ones more often.
+    pub fn size(&mut self) -> Size {
+        let n = self.many();
+        self.laid(n)
+    }
+
+    /// A size that no ring and no rack has, or one close to this: the other layout with as many leaves, with or without the hidden end.
+    pub fn other_size(&mut self, size: Size) -> Size {
+        let Size { layout, n } = size;
+        match layout {
+            _ if self.one_in(2) => Size { layout, n: self.pick(&[0, 257, 258, 65_535, 65_536, usize::MAX, n - 1, n + 1]) },
+            Ring => Size { layout: Rack, n: self.pick(&[256, n, n - 1]) },
+            Rack => self.pick(&[Size { layout, n: 256 }, Size { layout: Ring, n }, Size { layout: Ring, n: n + 1 }]),
+        }
     }
 
     /// How many leaves a group has: 1 to `most`, now and then none.
@@ -68,11 +86,12 @@ impl Draw {
         1 + self.below(most)
     }
 
-    /// A group that is a run of the circular order `hidden`, now and then an empty one.
-    pub fn run(&mut self, hidden: &[u16]) -> Vec<u16> {
+    /// A group that is a run of the order `hidden`, a ring's past the seam too, now and then an empty one.
+    pub fn run(&mut self, layout: Layout, hidden: &[u16]) -> Vec<u16> {
         let n = hidden.len();
         let most = if self.one_in(2) { n } else { n.min(5) };
-        let (start, length) = (self.below(n), self.group_size(most));
+        let length = self.group_size(most);
+        let start = self.below(if layout == Ring { n } else { n + 1 - length });
         let mut group: Vec<u16> = (start..start + length).map(|i| hidden[i % n]).collect();
         self.shuffle(&mut group);
         group

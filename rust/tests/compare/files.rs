@@ -2,7 +2,7 @@
 use crate::draw::Draw;
 use crate::tables::{Answer, Tally};
 use std::collections::HashSet;
-use tokuwhape::File;
+use tokuwhape::{File, Layout};
 
 const LETTERS: &[u8] = b"ABCDEFGHIJKLMNOPQRSTUVWXYZabcdefghijklmnopqrstuvwxyz0123456789";
 
@@ -64,7 +64,7 @@ fn scan(tally: &mut Tally, bytes: &[u8]) -> Option<File> {
     let theirs = theirs.map(|file| File { names: file.names, head: file.head, lines: file.lines });
     assert_eq!(ours, theirs, "{:?}", String::from_utf8_lossy(bytes));
     let answer: Answer = ours.map(|file| file.names);
-    tally.count("scan", &answer);
+    tally.count("scan", Layout::Ring, &answer);
     ours.ok()
 }
 
@@ -72,7 +72,7 @@ fn scan(tally: &mut Tally, bytes: &[u8]) -> Option<File> {
 fn compare_name(tally: &mut Tally, bytes: &[u8], k: usize) {
     let (ours, theirs) = (tokuwhape::name_of(bytes, k), plain::name_of(bytes, k));
     assert_eq!(ours.as_ptr_range(), theirs.as_ptr_range(), "name {k} of {:?}", String::from_utf8_lossy(bytes));
-    tally.count("name", &Ok(ours.len()));
+    tally.count("name", Layout::Ring, &Ok(ours.len()));
 }
 
 /// Compares a group, with so many places for it.
@@ -84,7 +84,7 @@ fn compare_group(tally: &mut Tally, bytes: &[u8], shape: File, line: usize, plac
     if places < shape.names {
         assert!(many == 0 && ours.iter().all(|&old| old == 7));
     }
-    tally.count("group", &Ok(many));
+    tally.count("group", Layout::Ring, &Ok(many));
 }
 
 /// A number near another, or none that any file has.
@@ -130,7 +130,7 @@ fn compare(tally: &mut Tally, draw: &mut Draw, bytes: &[u8]) {
 
 /// A ring file, accepted or changed.
 pub fn any(tally: &mut Tally, draw: &mut Draw) {
-    let n = draw.size();
+    let n = draw.many();
     let lines = draw.pick(&[0, 1, 2, 5, 20]);
     let mut bytes = file(draw, n, lines);
     if !draw.one_in(4) {

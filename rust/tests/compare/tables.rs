@@ -1,12 +1,30 @@
 //! The proved planner and the plain one side by side on the same tables.
+use crate::damaged::plain_layout;
 use std::collections::BTreeMap;
 use std::fmt::{self, Debug};
-use tokuwhape::Node;
+use tokuwhape::{Layout, Node};
 
 /// A call's answer: its number when done, or the refusal's number and the place or byte it names, 0 where none.
 pub type Answer = Result<usize, (u8, usize)>;
 
-/// A call, and what it is given beside n and the tables.
+/// A ring or a rack of n leaves, as a call is told.
+#[derive(Clone, Copy, PartialEq, Eq, Debug)]
+pub struct Size {
+    pub layout: Layout,
+    pub n: usize,
+}
+
+impl Size {
+    /// How many leaves its tree has.
+    pub fn leaves(self) -> usize {
+        match self.layout {
+            Layout::Ring => self.n,
+            Layout::Rack => self.n + 1,
+        }
+    }
+}
+
+/// A call, and what it is given beside the size and the tables.
 #[derive(Clone, Copy)]
 pub enum Call<'a> {
     Open,
@@ -17,8 +35,8 @@ pub enum Call<'a> {
     Conflict(usize, &'a [u16]),
     Write,
     Read(&'a [u8]),
-    /// With a tree of so many leaves.
-    Intersect(usize),
+    /// With a tree of this size.
+    Intersect(Size),
 }
 
 impl Call<'_> {
@@ -45,30 +63,31 @@ impl Debug for Call<'_> {
             }
             Call::Aim(count, group) => write!(f, "aim of {group}, {count} groups"),
             Call::Read(text) => write!(f, "read of {:?}", String::from_utf8_lossy(text)),
-            Call::Intersect(m) => write!(f, "intersect with m {m}"),
+            Call::Intersect(other) => write!(f, "intersect with {other:?}"),
             _ => write!(f, "{}", self.name()),
         }
     }
 }
 
-/// How often each call, or a call on inputs of some kind, gave each answer: 0 for done, else the refusal's number.
+/// How often each call, or a call on inputs of some kind, gave each answer on rings or on racks: 0 for done, else the refusal's number.
 #[derive(Default)]
-pub struct Tally(pub BTreeMap<(&'static str, u8), usize>);
+pub struct Tally(BTreeMap<(&'static str, u8, u8), usize>);
 
 impl Tally {
-    pub fn count(&mut self, call: &'static str, answer: &Answer) {
+    pub fn count(&mut self, call: &'static str, layout: Layout, answer: &Answer) {
         let number = answer.map_or_else(|(number, _)| number, |_| 0);
-        *self.0.entry((call, number)).or_default() += 1;
+        *self.0.entry((call, layout as u8, number)).or_default() += 1;
     }
 
     /// How many of these calls were made.
     pub fn made(&self, call: &str) -> usize {
-        self.0.iter().filter(|((name, _), _)| *name == call).map(|(_, times)| times).sum()
+        self.0.iter().filter(|((name, ..), _)| *name == call).map(|(_, times)| times).sum()
     }
 
-    /// The answers that this call gave.
-    pub fn given(&self, call: &str) -> Vec<u8> {
-        self.0.keys().filter(|(name, _)| *name == call).map(|(_, number)| *number).collect()
+    /// The answers that this call gave, each with how often.
+    pub fn given(&self, call: &str, layout: Layout) -> BTreeMap<u8, usize> {
+        let given = self.0.iter().filter(|((name, lent, _), _)| (*name, *lent) == (call, layout as u8));
+        given.map(|((.., number), times)| (*number, *times)).collect()
     }
 }
 
@@ -100,32 +119,33 @@ fn same_nodes(ours: &[Node], theirs: &[plain::Node]) -> bool {
     ours.len() == theirs.len() && ours.iter().zip(theirs).all(same)
 }
 
-fn ours(n: usize, call: Call, t: &mut Tables<Node>) -> Answer {
+fn ours(Size { layout, n }: Size, call: Call, t: &mut Tables<Node>) -> Answer {
     let answer = match call {
-        Call::Open => tokuwhape::open(n, &mut t.nodes, &mut t.book),
-        Call::Join(count, list) => tokuwhape::join(n, &mut t.nodes, &mut t.book, count, list),
-        Call::Trial(count, list) => tokuwhape::trial(n, &t.nodes, &t.book, count, list),
-        Call::Order => tokuwhape::order(n, &t.nodes, &mut t.order),
-        Call::Aim(count, group) => tokuwhape::aim(n, &t.nodes, &t.book, count, group),
-        Call::Conflict(count, list) => tokuwhape::conflict(n, &t.book, count, list, &mut t.conflicts),
-        Call::Write => tokuwhape::write(n, &t.nodes, &mut t.bytes),
-        Call::Read(text) => tokuwhape::read(n, &mut t.nodes, &mut t.book, text),
-        Call::Intersect(m) => tokuwhape::intersect(n, &t.nodes, m, &t.other, &mut t.third),
+        Call::Open => tokuwhape::open(layout, n, &mut t.nodes, &mut t.book),
+        Call::Join(count, list) => tokuwhape::join(layout, n, &mut t.nodes, &mut t.book, count, list),
+        Call::Trial(count, list) => tokuwhape::trial(layout, n, &t.nodes, &t.book, count, list),
+        Call::Order => tokuwhape::order(layout, n, &t.nodes, &mut t.order),
+        Call::Aim(count, group) => tokuwhape::aim(layout, n, &t.nodes, &t.book, count, group),
+        Call::Conflict(count, list) => tokuwhape::conflict(layout, n, &t.book, count, list, &mut t.conflicts),
+        Call::Write => tokuwhape::write(layout, n, &t.nodes, &mut t.bytes),
+        Call::Read(text) => tokuwhape::read(layout, n, &mut t.nodes, &mut t.book, text),
+        Call::Intersect(other) => tokuwhape::intersect(layout, n, &t.nodes, other.layout, other.n, &t.other, &mut t.third),
     };
     answer.map_err(crate::told)
 }
 
-fn theirs(n: usize, call: Call, t: &mut Tables<plain::Node>) -> Answer {
+fn theirs(Size { layout, n }: Size, call: Call, t: &mut Tables<plain::Node>) -> Answer {
+    let layout = plain_layout(layout);
     let answer = match call {
-        Call::Open => plain::open(n, &mut t.nodes, &mut t.book),
-        Call::Join(count, list) => plain::join(n, &mut t.nodes, &mut t.book, count, list),
-        Call::Trial(count, list) => plain::trial(n, &t.nodes, &t.book, count, list),
-        Call::Order => plain::order(n, &t.nodes, &mut t.order),
-        Call::Aim(count, group) => plain::aim(n, &t.nodes, &t.book, count, group),
-        Call::Conflict(count, list) => plain::conflict(n, &t.book, count, list, &mut t.conflicts),
-        Call::Write => plain::write(n, &t.nodes, &mut t.bytes),
-        Call::Read(text) => plain::read(n, &mut t.nodes, &mut t.book, text),
-        Call::Intersect(m) => plain::intersect(n, &t.nodes, m, &t.other, &mut t.third),
+        Call::Open => plain::open(layout, n, &mut t.nodes, &mut t.book),
+        Call::Join(count, list) => plain::join(layout, n, &mut t.nodes, &mut t.book, count, list),
+        Call::Trial(count, list) => plain::trial(layout, n, &t.nodes, &t.book, count, list),
+        Call::Order => plain::order(layout, n, &t.nodes, &mut t.order),
+        Call::Aim(count, group) => plain::aim(layout, n, &t.nodes, &t.book, count, group),
+        Call::Conflict(count, list) => plain::conflict(layout, n, &t.book, count, list, &mut t.conflicts),
+        Call::Write => plain::write(layout, n, &t.nodes, &mut t.bytes),
+        Call::Read(text) => plain::read(layout, n, &mut t.nodes, &mut t.book, text),
+        Call::Intersect(other) => plain::intersect(layout, n, &t.nodes, plain_layout(other.layout), other.n, &t.other, &mut t.third),
     };
     answer.map_err(|refused| (refused.number, refused.place))
 }
@@ -181,14 +201,14 @@ impl Sides {
     }
 
     /// Makes one call on both sides, compares answers and tables, and counts it. Returns the answer.
-    pub fn call(&mut self, tally: &mut Tally, n: usize, call: Call) -> Answer {
+    pub fn call(&mut self, tally: &mut Tally, size: Size, call: Call) -> Answer {
         let before = self.ours.clone();
-        let answer = ours(n, call, &mut self.ours);
-        let other = theirs(n, call, &mut self.theirs);
-        assert_eq!(answer, other, "n {n}, {call:?}, lent {}", shown(&before));
-        assert!(self.same(), "tables differ: n {n}, {call:?}, lent {}", shown(&before));
-        assert!(answer.is_ok() || self.ours == before, "refused and changed: n {n}, {call:?}, lent {}", shown(&before));
-        tally.count(call.name(), &answer);
+        let answer = ours(size, call, &mut self.ours);
+        let other = theirs(size, call, &mut self.theirs);
+        assert_eq!(answer, other, "{size:?}, {call:?}, lent {}", shown(&before));
+        assert!(self.same(), "tables differ: {size:?}, {call:?}, lent {}", shown(&before));
+        assert!(answer.is_ok() || self.ours == before, "refused and changed: {size:?}, {call:?}, lent {}", shown(&before));
+        tally.count(call.name(), size.layout, &answer);
         answer
     }
 

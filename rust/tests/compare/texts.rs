@@ -1,6 +1,6 @@
 //! Tree texts: written ones, changed ones, texts of the shape that may break a rule, and random bytes.
 use crate::draw::Draw;
-use crate::tables::{Call, Sides, Tally};
+use crate::tables::{Call, Sides, Size, Tally};
 
 const ALPHABET: &[u8] = b"PC()  0123456789";
 
@@ -98,12 +98,12 @@ pub fn shaped(draw: &mut Draw, n: usize) -> Vec<u8> {
     }
 }
 
-/// The number of leaves that the reader is given.
-fn given(draw: &mut Draw, n: usize) -> usize {
+/// The size that the reader is given.
+fn given(draw: &mut Draw, size: Size) -> Size {
     if draw.one_in(15) {
-        return draw.other_size(n);
+        return draw.other_size(size);
     }
-    n
+    size
 }
 
 /// Whether the node that a tree text has here has just two items.
@@ -128,60 +128,61 @@ fn again(text: &[u8]) -> Vec<u8> {
 }
 
 /// Reads the text on both sides. Where it is accepted, it is written again, and counted if it is changed. Returns whether it is accepted.
-fn read(tally: &mut Tally, sides: &mut Sides, n: usize, text: &[u8]) -> bool {
-    let answer = sides.call(tally, n, Call::Read(text));
+fn read(tally: &mut Tally, sides: &mut Sides, size: Size, text: &[u8]) -> bool {
+    let answer = sides.call(tally, size, Call::Read(text));
     if answer.is_ok() {
         let again = again(text);
         if again != text {
-            tally.count("three neighbours", &answer);
+            tally.count("three neighbours", size.layout, &answer);
         }
-        sides.refill(n, 96, 2048, 0xa5a5);
-        assert_eq!(sides.call(tally, n, Call::Write), Ok(text.len()), "{}", String::from_utf8_lossy(text));
+        sides.refill(size.n, 96, 2048, 0xa5a5);
+        assert_eq!(sides.call(tally, size, Call::Write), Ok(text.len()), "{}", String::from_utf8_lossy(text));
         assert_eq!(sides.text(text.len()), again);
-        assert_eq!(sides.call(tally, n, Call::Order), Ok(n));
+        assert_eq!(sides.call(tally, size, Call::Order), Ok(size.n));
     }
     answer.is_ok()
 }
 
 /// Joins some groups to the tree that was read: runs of its standard order, and any leaves.
-fn joined(tally: &mut Tally, draw: &mut Draw, sides: &mut Sides, n: usize) {
+fn joined(tally: &mut Tally, draw: &mut Draw, sides: &mut Sides, size: Size) {
+    let Size { layout, n } = size;
     let order = sides.ours.order[..n].to_vec();
     let mut count = 0;
     for _ in 0..draw.below(5) {
-        let group = if draw.one_in(3) { draw.group(n) } else { draw.run(&order) };
-        let tried = sides.call(tally, n, Call::Trial(count, &group));
-        assert_eq!(tried, sides.call(tally, n, Call::Join(count, &group)));
+        let group = if draw.one_in(3) { draw.group(n) } else { draw.run(layout, &order) };
+        let tried = sides.call(tally, size, Call::Trial(count, &group));
+        assert_eq!(tried, sides.call(tally, size, Call::Join(count, &group)));
         count = tried.unwrap_or(count);
     }
 }
 
 /// Reads a changed form of a written text.
-pub fn changed(tally: &mut Tally, draw: &mut Draw, sides: &mut Sides, n: usize, written: &[u8]) {
+pub fn changed(tally: &mut Tally, draw: &mut Draw, sides: &mut Sides, size: Size, written: &[u8]) {
     let mut text = written.to_vec();
     for _ in 0..1 + draw.below(3) {
         change(draw, &mut text);
     }
-    let n = given(draw, n);
-    read(tally, sides, n, &text);
+    let size = given(draw, size);
+    read(tally, sides, size, &text);
 }
 
 /// Reads a text of the shape, or one changed, and joins groups to its tree.
-pub fn of_the_shape(tally: &mut Tally, draw: &mut Draw, sides: &mut Sides, n: usize) {
-    let text = shaped(draw, n);
+pub fn of_the_shape(tally: &mut Tally, draw: &mut Draw, sides: &mut Sides, size: Size) {
+    let text = shaped(draw, size.leaves());
     if draw.one_in(3) {
-        return changed(tally, draw, sides, n, &text);
+        return changed(tally, draw, sides, size, &text);
     }
-    if read(tally, sides, n, &text) {
-        joined(tally, draw, sides, n);
+    if read(tally, sides, size, &text) {
+        joined(tally, draw, sides, size);
     }
 }
 
 /// Reads random bytes, mostly of those that stand in texts.
-pub fn random(tally: &mut Tally, draw: &mut Draw, sides: &mut Sides, n: usize) {
+pub fn random(tally: &mut Tally, draw: &mut Draw, sides: &mut Sides, size: Size) {
     let length = draw.pick(&[0, 3, 8, 20, 60, 3000]);
     let mut text: Vec<u8> = draw.pick(&[&b""[..], b"1", b"1 ", b"1 P(", b"1 C(2 "]).to_vec();
     for _ in 0..draw.below(length + 1) {
         text.push(byte(draw));
     }
-    read(tally, sides, n, &text);
+    read(tally, sides, size, &text);
 }

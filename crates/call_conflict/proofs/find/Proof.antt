@@ -4,6 +4,7 @@ use Prim.Native.Nat.{_-_}
 use native.Mathlib.Omega.{arith}
 use denote.Ref.{now}
 use lib.ListN.{length, take, drop}
+use Rattle.spec_orders.specs.declared.Layout.the-variants.{Ring}
 use Rattle.spec_orders.specs.Conflict.{possible?, conflict-list}
 use Rattle.spec_orders.proofs.Numbers.{numbers-length}
 use Rattle.mark_words.specs.Marks.{marked}
@@ -67,7 +68,7 @@ returns-2 : tie.Need-returns-2
 unfolding conflicts-of
 returns-2 c =
     let x = after (c .before .before .before .before .before .before .before .before .before .before .before) in
-    subst (λ js. Wrote (conflict-list (possible? (c .before .before .before .before .before .before .before .before .before .before .before .before .before .before .before .before .before .before .before .before .before .before .before .before .before .before .before .before .before .before .before .before .before .args .n)) (group-numbered (now (c .before .before .before .before .before .before .before .before .before .before .before .before .before .before .before .before .before .before .before .before .before .before .before .before .before .before .before .before .before .before .before .before .before .args .book))) (marked (now (c .before .before .before .before .before .before .before .before .before .before .before .before .before .before .before .before .before .before .before .before .before .before .before .before .before .before .before .before .before .before .before .before .before .args .group)) ∷ []) js) (now (c .before .before .before .before .before .before .before .before .before .before .before .before .before .before .before .before .before .before .before .before .before .before .before .before .before .before .before .before .before .before .before .before .before .args .out)) (c .before .before .leave-out .last .1 .1 .1 .1 .0) (c .before .before .leave-out .result)) (read-part (c .before .before .before .before .before .before .before .before .before .rising .ensures))
+    subst (λ js. Wrote (conflict-list (possible? Ring (c .before .before .before .before .before .before .before .before .before .before .before .before .before .before .before .before .before .before .before .before .before .before .before .before .before .before .before .before .before .before .before .before .before .args .n)) (group-numbered (now (c .before .before .before .before .before .before .before .before .before .before .before .before .before .before .before .before .before .before .before .before .before .before .before .before .before .before .before .before .before .before .before .before .before .args .book))) (marked (now (c .before .before .before .before .before .before .before .before .before .before .before .before .before .before .before .before .before .before .before .before .before .before .before .before .before .before .before .before .before .before .before .before .before .args .group)) ∷ []) js) (now (c .before .before .before .before .before .before .before .before .before .before .before .before .before .before .before .before .before .before .before .before .before .before .before .before .before .before .before .before .before .before .before .before .before .args .out)) (c .before .before .leave-out .last .1 .1 .1 .1 .0) (c .before .before .leave-out .result)) (read-part (c .before .before .before .before .before .before .before .before .before .rising .ensures))
     (c .before .before .leave-out .ensures (x .tree) (marked (now (c .before .before .before .before .before .before .before .before .before .before .before .before .before .before .before .before .before .before .before .before .before .before .before .before .before .before .before .before .before .before .before .before .before .args .group)) ∷ []) (x .text) (one-represented (choice (c .before .before .before .before .before .before .before .before .before .before .before .before .before .before .before .before .before .before .before .before .before .before .before .before)) (x .is)))
 
 pub find-spec : {M : Type 1} → statement M

@@ -1,4 +1,6 @@
 use mathlib.Core.Path.{_∙_}
+use native.Mathlib.Omega.{arith}
+use Rattle.spec_calls.proofs.Demands.{few-bins}
 use Rattle.mark_words.specs.Marks.{marked}
 use Rattle.mark_words.proofs.Steps.{four-words}
 use Rattle.call_trial.proofs.Laws.{side-waits}
@@ -8,11 +10,13 @@ use Rattle.call_trial.proofs.prepare.Tie as tie
 
 returns : tie.Need-returns
 returns c = (
-  c .before .before .before .before .before .before .before .before .before .before .before .before .before .before .check-group .ensures,
+  c .before .before .before .before .before .before .before .before .before .before .before .before .before .before .before .check-group .ensures,
   record {
     side = marked (c .before .before .before .before .before .before .take-side .last .0);
-    waits = side-waits (marked (c .before .before .before .before .before .before .take-side .last .0)) (λ m. c .before .before .before .before .before .before .take-side .ensures (c .before .before .before .before .before .before .before .before .before .before .before .before .before .before .before .before .before .before .before .before .args .list .now) (four-words (c .before .before .before .before .before .before .before .before .before .before .before .before .before .before .check-group .last .1 .1 .1 .1 .1 .0) (c .before .before .before .before .before .before .before .before .before .before .before .before .before .before .check-group .kept .1 .1 .1 .1 .1 .0 ∙ c .before .before .before .before .before .before .before .before .before .before .before .before .before .before .before .before .before .before .before .before .pre .0) ∙ m)) (c .before .before .before .before .before .before .before .before .before .before .before .before .before .before .check-group .ensures);
-    started = c .before .before .begin .ensures (c .before .before .before .before .before .before .before .before .before .before .before .before .before .before .before .before .before .before .before .before .args .n);
+    waits = side-waits (marked (c .before .before .before .before .before .before .take-side .last .0)) (λ m e few.
+        let k = c .before .before .before .before .before .before .before .leaf-count .ensures (few-bins (c .before .before .before .before .before .before .before .before .before .before .before .before .before .before .before .before .before .before .before .before .before .args .layout) (c .before .before .before .before .before .before .before .before .before .before .before .before .before .before .before .before .before .before .before .before .before .args .n) few) in
+        c .before .before .before .before .before .before .take-side .ensures (c .before .before .before .before .before .before .before .before .before .before .before .before .before .before .before .before .before .before .before .before .before .args .layout) (c .before .before .before .before .before .before .before .before .before .before .before .before .before .before .before .before .before .before .before .before .before .args .n) (c .before .before .before .before .before .before .before .before .before .before .before .before .before .before .before .before .before .before .before .before .before .args .list .now) k (omega (arith, k)) (four-words (c .before .before .before .before .before .before .before .before .before .before .before .before .before .before .before .check-group .last .1 .1 .1 .1 .1 .1 .0) (c .before .before .before .before .before .before .before .before .before .before .before .before .before .before .before .check-group .kept .1 .1 .1 .1 .1 .1 .0 ∙ c .before .before .before .before .before .before .before .before .before .before .before .before .before .before .before .before .before .before .before .before .before .pre .0) ∙ m) e) (c .before .before .before .before .before .before .before .before .before .before .before .before .before .before .before .check-group .ensures);
+    started = c .before .before .begin .ensures;
   },
 )
 
@@ -26,6 +30,7 @@ prepare-spec =
     (λ c. search needs)
     (λ c. search needs)
     (λ c. search needs)
+    (λ c κs. search needs)
     (λ c κs. search needs)
     (λ c. search needs)
     (λ c κs. search needs)

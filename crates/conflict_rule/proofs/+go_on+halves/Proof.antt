@@ -4,10 +4,11 @@ use native.Mathlib.Omega.{arith}
 use borrow.Author.Needs.{needs}
 use lib.ListN.{length, take, drop, getD, set, length-set, length-drop}
 use lib.Seq.{length-take-le}
+use Rattle.spec_orders.specs.declared.Layout.the-variants.{Ring}
 use Rattle.spec_orders.specs.CircularOrder.{Restriction}
 use Rattle.spec_orders.specs.Tree.{Forest}
 use Rattle.spec_orders.specs.Conflict.{possible?, leave-out}
-use Rattle.spec_orders.proofs.Conflicts.{sublist-all, leave-out-kept, ring-tests}
+use Rattle.spec_orders.proofs.Conflicts.{sublist-all, leave-out-kept, possible-tests}
 use Rattle.spec_orders.proofs.ListLaws.{part-to-end}
 use Rattle.tree_tokens.specs.Tokens.{Wrote, flat}
 use Rattle.tree_tokens.proofs.Writes.{read-back, wrote-one, wrote-then}
@@ -123,7 +124,7 @@ go-on-returns-2 t c = (
   omega (arith, c .before .before .halves .ensures .0),
   λ u Gs e rep.
       let w = joined (c .before .before .before .before .before .before .before .before) u Gs e rep .0 in
-      wrote-then {ys = leave-out (possible? (c .before .before .before .before .before .before .before .before .before .before .before .before .before .before .before .before .args .n)) (group-numbered (c .before .before .before .before .before .before .before .before .before .before .before .before .before .before .before .before .args .book .now)) (Gs ++ map (group-numbered (c .before .before .before .before .before .before .before .before .before .before .before .before .before .before .before .before .args .book .now)) (take (c .before .before .before .before .before .before .before .before .before .before .before .before .before .before .before .before .args .k) (c .before .before .before .before .before .before .before .before .before .before .before .before .before .before .before .before .args .out .now))) (c .before .before .before .before .before .before .before .before .before .before .before .before .before .before .before .before .args .numbers .now)} (wrote-here (c .before .before .before .before .before .before .before .before .before .before .before .before .before .before .before .before .args .k) (c .before .before .before .before .before .before .before .before .before .before .before .before .before .before .before .before .args .out .now) (omega (arith, c .before .before .before .before .before .before .before .before .before .before .before .before .before .before .before .before .pre .1 .3)))
+      wrote-then {ys = leave-out (possible? Ring (c .before .before .before .before .before .before .before .before .before .before .before .before .before .before .before .before .args .n)) (group-numbered (c .before .before .before .before .before .before .before .before .before .before .before .before .before .before .before .before .args .book .now)) (Gs ++ map (group-numbered (c .before .before .before .before .before .before .before .before .before .before .before .before .before .before .before .before .args .book .now)) (take (c .before .before .before .before .before .before .before .before .before .before .before .before .before .before .before .before .args .k) (c .before .before .before .before .before .before .before .before .before .before .before .before .before .before .before .before .args .out .now))) (c .before .before .before .before .before .before .before .before .before .before .before .before .before .before .before .before .args .numbers .now)} (wrote-here (c .before .before .before .before .before .before .before .before .before .before .before .before .before .before .before .before .args .k) (c .before .before .before .before .before .before .before .before .before .before .before .before .before .before .before .before .args .out .now) (omega (arith, c .before .before .before .before .before .before .before .before .before .before .before .before .before .before .before .before .pre .1 .3)))
       (c .before .before .halves .ensures .1 (w .tree) (Gs ++ map (group-numbered (c .before .before .before .before .before .before .before .before .before .before .before .before .before .before .before .before .args .book .now)) (take (c .before .before .before .before .before .before .before .before .before .before .before .before .before .before .before .before .args .k) (c .before .before .before .before .before .before .before .before .before .before .before .before .before .before .before .before .args .out .now))) (part-start (c .before .before .before .before .before .before .before .before .walk .result .tokens) (c .before .before .before .before .before .before .before .before .walk .last .1 .1 .1 .1 .0) ∙ w .text) (walked-all w (omega (arith, c .before .before .before .before .before .before .if1 .left)))),
 )
 
@@ -139,7 +140,7 @@ halves-same-length t c = c .before .before .copy .kept .1 .0
 halves-returns : (t : ℕ) → halves-lts.Need-returns (halves-calls t) (halves-at t) halves.Post
 halves-returns t c = (
   omega (arith, c .before .before .copy .ensures .many),
-  λ u Gs e rep. rw (rule-short (ring-tests (c .before .before .before .before .before .before .before .before .before .args .n)) (group-numbered (c .before .before .before .before .before .before .before .before .before .args .book .now)) Gs (c .before .before .before .before .before .before .before .before .before .args .numbers .now) (omega (arith, c .before .before .before .before .if1 .taken)) (represented-possible rep)) (c .before .before .copy .ensures),
+  λ u Gs e rep. rw (rule-short (possible-tests Ring (c .before .before .before .before .before .before .before .before .before .args .n)) (group-numbered (c .before .before .before .before .before .before .before .before .before .args .book .now)) Gs (c .before .before .before .before .before .before .before .before .before .args .numbers .now) (omega (arith, c .before .before .before .before .if1 .taken)) (represented-possible rep)) (c .before .before .copy .ensures),
 )
 
 halves-mul-walk : (t : ℕ) → halves-lts.Need-mul-walk (halves-calls t) (halves-at t) halves.Post
@@ -219,8 +220,8 @@ halves-returns-2 t c =
       λ u Gs e rep.
           let d = down (c .before .before .before .before .before .before .before .before) u Gs e rep in
           rw (next-kept (c .before .before .before .before .before .before .before .before .before .before .before .before .before .before .before .before .args .numbers .now) (length (c .before .before .before .before .before .before .before .before .before .before .before .before .before .before .before .before .args .numbers .now) / 2) (c .before .before .before .before .before .before .before .before .walk .result .left) (d .0) (d .1) (omega (arith, c .before .before .before .before .before .before .if2 .taken)) h)
-          (went-on (possible? (c .before .before .before .before .before .before .before .before .before .before .before .before .before .before .before .before .args .n)) (group-numbered (c .before .before .before .before .before .before .before .before .before .before .before .before .before .before .before .before .args .book .now)) Gs (drop from (c .before .before .before .before .before .before .before .before .before .before .before .before .before .before .before .before .args .numbers .now)) (wrote-one j (c .before .before .before .before .before .before .before .before .before .before .before .before .before .before .before .before .args .out .now) (omega (arith, h, c .before .before .before .before .before .before .if2 .taken, c .before .before .before .before .before .before .before .before .before .before .before .before .before .before .before .before .pre .1 .3)))
-          (subst (λ js. Wrote (goes-on (possible? (c .before .before .before .before .before .before .before .before .before .before .before .before .before .before .before .before .args .n)) (group-numbered (c .before .before .before .before .before .before .before .before .before .before .before .before .before .before .before .before .args .book .now)) Gs (take 1 (set (c .before .before .before .before .before .before .before .before .before .before .before .before .before .before .before .before .args .out .now) 0 j)) js) (set (c .before .before .before .before .before .before .before .before .before .before .before .before .before .before .before .before .args .out .now) 0 j) (c .before .before .go-on .last .1 .1 .1 .1 .1 .0) (c .before .before .go-on .result)) (part-to-end (c .before .before .before .before .before .before .before .before .before .before .before .before .before .before .before .before .args .numbers .now) from) (c .before .before .go-on .ensures .1 u Gs e rep))),
+          (went-on (possible? Ring (c .before .before .before .before .before .before .before .before .before .before .before .before .before .before .before .before .args .n)) (group-numbered (c .before .before .before .before .before .before .before .before .before .before .before .before .before .before .before .before .args .book .now)) Gs (drop from (c .before .before .before .before .before .before .before .before .before .before .before .before .before .before .before .before .args .numbers .now)) (wrote-one j (c .before .before .before .before .before .before .before .before .before .before .before .before .before .before .before .before .args .out .now) (omega (arith, h, c .before .before .before .before .before .before .if2 .taken, c .before .before .before .before .before .before .before .before .before .before .before .before .before .before .before .before .pre .1 .3)))
+          (subst (λ js. Wrote (goes-on (possible? Ring (c .before .before .before .before .before .before .before .before .before .before .before .before .before .before .before .before .args .n)) (group-numbered (c .before .before .before .before .before .before .before .before .before .before .before .before .before .before .before .before .args .book .now)) Gs (take 1 (set (c .before .before .before .before .before .before .before .before .before .before .before .before .before .before .before .before .args .out .now) 0 j)) js) (set (c .before .before .before .before .before .before .before .before .before .before .before .before .before .before .before .before .args .out .now) 0 j) (c .before .before .go-on .last .1 .1 .1 .1 .1 .0) (c .before .before .go-on .result)) (part-to-end (c .before .before .before .before .before .before .before .before .before .before .before .before .before .before .before .before .args .numbers .now) from) (c .before .before .go-on .ensures .1 u Gs e rep))),
     )
 
 halves-sub-halves : (t : ℕ) → halves-lts.Need-sub-halves (halves-calls t) (halves-at t) halves.Post
@@ -251,10 +252,10 @@ halves-halves-requires t c κs =
 
 -- What is kept of the first half.
 first : {t : ℕ} (c : halves-lts.After-halves (halves-calls t) (halves-at t) halves.Post) (u : Forest) (Gs : List Restriction) → c .before .before .before .before .before .before .before .before .before .before .before .before .before .before .before .args .toks .now ≡ flat u → Represents (c .before .before .before .before .before .before .before .before .before .before .before .before .before .before .before .args .n) (group-numbered (c .before .before .before .before .before .before .before .before .before .before .before .before .before .before .before .args .book .now)) Gs u
-    → Wrote (leave-out (possible? (c .before .before .before .before .before .before .before .before .before .before .before .before .before .before .before .args .n)) (group-numbered (c .before .before .before .before .before .before .before .before .before .before .before .before .before .before .before .args .book .now)) (Gs ++ map (group-numbered (c .before .before .before .before .before .before .before .before .before .before .before .before .before .before .before .args .book .now)) (drop (length (c .before .before .before .before .before .before .before .before .before .before .before .before .before .before .before .args .numbers .now) / 2) (c .before .before .before .before .before .before .before .before .before .before .before .before .before .before .before .args .numbers .now))) (take (length (c .before .before .before .before .before .before .before .before .before .before .before .before .before .before .before .args .numbers .now) / 2) (c .before .before .before .before .before .before .before .before .before .before .before .before .before .before .before .args .numbers .now))) (c .before .before .before .before .before .before .before .before .before .before .before .before .before .before .before .args .out .now) (c .halves .last .1 .1 .1 .1 .0) (c .halves .result)
+    → Wrote (leave-out (possible? Ring (c .before .before .before .before .before .before .before .before .before .before .before .before .before .before .before .args .n)) (group-numbered (c .before .before .before .before .before .before .before .before .before .before .before .before .before .before .before .args .book .now)) (Gs ++ map (group-numbered (c .before .before .before .before .before .before .before .before .before .before .before .before .before .before .before .args .book .now)) (drop (length (c .before .before .before .before .before .before .before .before .before .before .before .before .before .before .before .args .numbers .now) / 2) (c .before .before .before .before .before .before .before .before .before .before .before .before .before .before .before .args .numbers .now))) (take (length (c .before .before .before .before .before .before .before .before .before .before .before .before .before .before .before .args .numbers .now) / 2) (c .before .before .before .before .before .before .before .before .before .before .before .before .before .before .before .args .numbers .now))) (c .before .before .before .before .before .before .before .before .before .before .before .before .before .before .before .args .out .now) (c .halves .last .1 .1 .1 .1 .0) (c .halves .result)
 first c u Gs e rep =
     let w = down (c .before .before .before .before .before .before .before) u Gs e rep .0 in
-    subst (λ js. Wrote (leave-out (possible? (c .before .before .before .before .before .before .before .before .before .before .before .before .before .before .before .args .n)) (group-numbered (c .before .before .before .before .before .before .before .before .before .before .before .before .before .before .before .args .book .now)) (Gs ++ map (group-numbered (c .before .before .before .before .before .before .before .before .before .before .before .before .before .before .before .args .book .now)) (drop (length (c .before .before .before .before .before .before .before .before .before .before .before .before .before .before .before .args .numbers .now) / 2) (c .before .before .before .before .before .before .before .before .before .before .before .before .before .before .before .args .numbers .now))) js) (c .before .before .before .before .before .before .before .before .before .before .before .before .before .before .before .args .out .now) (c .halves .last .1 .1 .1 .1 .0) (c .halves .result)) (part-start (length (c .before .before .before .before .before .before .before .before .before .before .before .before .before .before .before .args .numbers .now) / 2) (c .before .before .before .before .before .before .before .before .before .before .before .before .before .before .before .args .numbers .now))
+    subst (λ js. Wrote (leave-out (possible? Ring (c .before .before .before .before .before .before .before .before .before .before .before .before .before .before .before .args .n)) (group-numbered (c .before .before .before .before .before .before .before .before .before .before .before .before .before .before .before .args .book .now)) (Gs ++ map (group-numbered (c .before .before .before .before .before .before .before .before .before .before .before .before .before .before .before .args .book .now)) (drop (length (c .before .before .before .before .before .before .before .before .before .before .before .before .before .before .before .args .numbers .now) / 2) (c .before .before .before .before .before .before .before .before .before .before .before .before .before .before .before .args .numbers .now))) js) (c .before .before .before .before .before .before .before .before .before .before .before .before .before .before .before .args .out .now) (c .halves .last .1 .1 .1 .1 .0) (c .halves .result)) (part-start (length (c .before .before .before .before .before .before .before .before .before .before .before .before .before .before .before .args .numbers .now) / 2) (c .before .before .before .before .before .before .before .before .before .before .before .before .before .before .before .args .numbers .now))
     (c .halves .ensures .1 (w .tree) (Gs ++ map (group-numbered (c .before .before .before .before .before .before .before .before .before .before .before .before .before .before .before .args .book .now)) (drop (length (c .before .before .before .before .before .before .before .before .before .before .before .before .before .before .before .args .numbers .now) / 2) (c .before .before .before .before .before .before .before .before .before .before .before .before .before .before .before .args .numbers .now))) (part-start (c .before .before .before .before .before .before .before .walk .result .tokens) (c .before .before .before .before .before .before .before .walk .last .1 .1 .1 .1 .0) ∙ w .text) (walked-all w (omega (arith, c .before .before .before .before .before .if2 .left))))
 
 halves-mul-go-on-2 : (t : ℕ) → halves-lts.Need-mul-go-on-2 (halves-calls t) (halves-at t) halves.Post
@@ -277,7 +278,7 @@ halves-go-on-requires-2 t c κs =
     let size = length-drop (length (c .before .before .before .before .before .before .before .before .before .before .before .before .before .before .before .before .before .before .before .args .numbers .now) / 2) (c .before .before .before .before .before .before .before .before .before .before .before .before .before .before .before .before .before .before .before .args .numbers .now) in
     let half = ap length (part-start (length (c .before .before .before .before .before .before .before .before .before .before .before .before .before .before .before .before .before .before .before .args .numbers .now) / 2) (c .before .before .before .before .before .before .before .before .before .before .before .before .before .before .before .before .before .before .before .args .numbers .now)) in
     let size-2 = length-take-le (length (c .before .before .before .before .before .before .before .before .before .before .before .before .before .before .before .before .before .before .before .args .numbers .now) / 2) (c .before .before .before .before .before .before .before .before .before .before .before .before .before .before .before .before .before .before .before .args .numbers .now) (omega arith) in
-    (omega (arith, c .before .before .before .before .before .before .before .before .before .before .before .before .before .before .before .before .before .before .before .pre .0, rest, size, c .before .before .before .before .before .before .before .before .before .before .before .before .before .before .if1 .left), (c .before .before .before .before .before .before .before .before .before .before .before .before .before .before .before .before .before .before .before .pre .1 .0, c .before .before .before .before .before .before .before .before .before .before .before .before .before .before .before .before .before .before .before .pre .1 .1, subst InBook (sym (part-to-end (c .before .before .before .before .before .before .before .before .before .before .before .before .before .before .before .before .before .before .before .args .numbers .now) (length (c .before .before .before .before .before .before .before .before .before .before .before .before .before .before .before .before .before .before .before .args .numbers .now) / 2))) (book-drop (length (c .before .before .before .before .before .before .before .before .before .before .before .before .before .before .before .before .before .before .before .args .numbers .now) / 2) (c .before .before .before .before .before .before .before .before .before .before .before .before .before .before .before .before .before .before .before .args .numbers .now) (c .before .before .before .before .before .before .before .before .before .before .before .before .before .before .before .before .before .before .before .pre .1 .2)), omega (arith, c .before .before .before .before .halves .ensures .0, half, size-2, rest, size, c .before .before .before .before .before .before .before .before .before .before .before .before .before .before .before .before .before .before .before .pre .1 .3, c .before .before .before .before .halves .kept .1 .1 .1 .1 .0), subst InBook (sym (read-back a)) (sublist-all (λ j. (1 ≤ j) × (j ≤ 96)) (leave-out-kept (ring-tests (c .before .before .before .before .before .before .before .before .before .before .before .before .before .before .before .before .before .before .before .args .n)) (group-numbered (c .before .before .before .before .before .before .before .before .before .before .before .before .before .before .before .before .before .before .before .args .book .now)) (p .1 ++ map (group-numbered (c .before .before .before .before .before .before .before .before .before .before .before .before .before .before .before .before .before .before .before .args .book .now)) (drop (length (c .before .before .before .before .before .before .before .before .before .before .before .before .before .before .before .before .before .before .before .args .numbers .now) / 2) (c .before .before .before .before .before .before .before .before .before .before .before .before .before .before .before .before .before .before .before .args .numbers .now))) (take (length (c .before .before .before .before .before .before .before .before .before .before .before .before .before .before .before .before .before .before .before .args .numbers .now) / 2) (c .before .before .before .before .before .before .before .before .before .before .before .before .before .before .before .before .before .before .before .args .numbers .now)) .part) (book-take (length (c .before .before .before .before .before .before .before .before .before .before .before .before .before .before .before .before .before .before .before .args .numbers .now) / 2) (c .before .before .before .before .before .before .before .before .before .before .before .before .before .before .before .before .before .before .before .args .numbers .now) (c .before .before .before .before .before .before .before .before .before .before .before .before .before .before .before .before .before .before .before .pre .1 .2)))))
+    (omega (arith, c .before .before .before .before .before .before .before .before .before .before .before .before .before .before .before .before .before .before .before .pre .0, rest, size, c .before .before .before .before .before .before .before .before .before .before .before .before .before .before .if1 .left), (c .before .before .before .before .before .before .before .before .before .before .before .before .before .before .before .before .before .before .before .pre .1 .0, c .before .before .before .before .before .before .before .before .before .before .before .before .before .before .before .before .before .before .before .pre .1 .1, subst InBook (sym (part-to-end (c .before .before .before .before .before .before .before .before .before .before .before .before .before .before .before .before .before .before .before .args .numbers .now) (length (c .before .before .before .before .before .before .before .before .before .before .before .before .before .before .before .before .before .before .before .args .numbers .now) / 2))) (book-drop (length (c .before .before .before .before .before .before .before .before .before .before .before .before .before .before .before .before .before .before .before .args .numbers .now) / 2) (c .before .before .before .before .before .before .before .before .before .before .before .before .before .before .before .before .before .before .before .args .numbers .now) (c .before .before .before .before .before .before .before .before .before .before .before .before .before .before .before .before .before .before .before .pre .1 .2)), omega (arith, c .before .before .before .before .halves .ensures .0, half, size-2, rest, size, c .before .before .before .before .before .before .before .before .before .before .before .before .before .before .before .before .before .before .before .pre .1 .3, c .before .before .before .before .halves .kept .1 .1 .1 .1 .0), subst InBook (sym (read-back a)) (sublist-all (λ j. (1 ≤ j) × (j ≤ 96)) (leave-out-kept (possible-tests Ring (c .before .before .before .before .before .before .before .before .before .before .before .before .before .before .before .before .before .before .before .args .n)) (group-numbered (c .before .before .before .before .before .before .before .before .before .before .before .before .before .before .before .before .before .before .before .args .book .now)) (p .1 ++ map (group-numbered (c .before .before .before .before .before .before .before .before .before .before .before .before .before .before .before .before .before .before .before .args .book .now)) (drop (length (c .before .before .before .before .before .before .before .before .before .before .before .before .before .before .before .before .before .before .before .args .numbers .now) / 2) (c .before .before .before .before .before .before .before .before .before .before .before .before .before .before .before .before .before .before .before .args .numbers .now))) (take (length (c .before .before .before .before .before .before .before .before .before .before .before .before .before .before .before .before .before .before .before .args .numbers .now) / 2) (c .before .before .before .before .before .before .before .before .before .before .before .before .before .before .before .before .before .before .before .args .numbers .now)) .part) (book-take (length (c .before .before .before .before .before .before .before .before .before .before .before .before .before .before .before .before .before .before .before .args .numbers .now) / 2) (c .before .before .before .before .before .before .before .before .before .before .before .before .before .before .before .before .before .before .before .args .numbers .now) (c .before .before .before .before .before .before .before .before .before .before .before .before .before .before .before .before .before .before .before .pre .1 .2)))))
 
 halves-same-length-3 : (t : ℕ) → halves-lts.Need-same-length-3 (halves-calls t) (halves-at t) halves.Post
 halves-same-length-3 t c = c .before .before .go-on2 .kept .1 .1 .1 .1 .1 .0 ∙ c .before .before .before .before .before .before .before .halves .kept .1 .1 .1 .1 .0
@@ -286,9 +287,9 @@ halves-returns-3 : (t : ℕ) → halves-lts.Need-returns-3 (halves-calls t) (hal
 halves-returns-3 t c = (
   omega (arith, c .before .before .go-on2 .ensures .0, c .before .before .before .before .before .before .before .halves .ensures .0, ap length (part-to-end (c .before .before .before .before .before .before .before .before .before .before .before .before .before .before .before .before .before .before .before .before .before .before .args .numbers .now) (length (c .before .before .before .before .before .before .before .before .before .before .before .before .before .before .before .before .before .before .before .before .before .before .args .numbers .now) / 2)), length-drop (length (c .before .before .before .before .before .before .before .before .before .before .before .before .before .before .before .before .before .before .before .before .before .before .args .numbers .now) / 2) (c .before .before .before .before .before .before .before .before .before .before .before .before .before .before .before .before .before .before .before .before .before .before .args .numbers .now), ap length (part-start (length (c .before .before .before .before .before .before .before .before .before .before .before .before .before .before .before .before .before .before .before .before .before .before .args .numbers .now) / 2) (c .before .before .before .before .before .before .before .before .before .before .before .before .before .before .before .before .before .before .before .before .before .before .args .numbers .now)), length-take-le (length (c .before .before .before .before .before .before .before .before .before .before .before .before .before .before .before .before .before .before .before .before .before .before .args .numbers .now) / 2) (c .before .before .before .before .before .before .before .before .before .before .before .before .before .before .before .before .before .before .before .before .before .before .args .numbers .now) (omega arith)),
   λ u Gs e rep.
-      rw (rule-halves (ring-tests (c .before .before .before .before .before .before .before .before .before .before .before .before .before .before .before .before .before .before .before .before .before .before .args .n)) (group-numbered (c .before .before .before .before .before .before .before .before .before .before .before .before .before .before .before .before .before .before .before .before .before .before .args .book .now)) Gs (c .before .before .before .before .before .before .before .before .before .before .before .before .before .before .before .before .before .before .before .before .before .before .args .numbers .now) (length (c .before .before .before .before .before .before .before .before .before .before .before .before .before .before .before .before .before .before .before .before .before .before .args .numbers .now) / 2))
-      (went-on (possible? (c .before .before .before .before .before .before .before .before .before .before .before .before .before .before .before .before .before .before .before .before .before .before .args .n)) (group-numbered (c .before .before .before .before .before .before .before .before .before .before .before .before .before .before .before .before .before .before .before .before .before .before .args .book .now)) Gs (drop (length (c .before .before .before .before .before .before .before .before .before .before .before .before .before .before .before .before .before .before .before .before .before .before .args .numbers .now) / 2) (c .before .before .before .before .before .before .before .before .before .before .before .before .before .before .before .before .before .before .before .before .before .before .args .numbers .now)) (first (c .before .before .before .before .before .before .before) u Gs e rep)
-      (subst (λ js. Wrote (goes-on (possible? (c .before .before .before .before .before .before .before .before .before .before .before .before .before .before .before .before .before .before .before .before .before .before .args .n)) (group-numbered (c .before .before .before .before .before .before .before .before .before .before .before .before .before .before .before .before .before .before .before .before .before .before .args .book .now)) Gs (take (c .before .before .before .before .before .before .before .halves .result) (c .before .before .before .before .before .before .before .halves .last .1 .1 .1 .1 .0)) js) (c .before .before .before .before .before .before .before .halves .last .1 .1 .1 .1 .0) (c .before .before .go-on2 .last .1 .1 .1 .1 .1 .0) (c .before .before .go-on2 .result)) (part-to-end (c .before .before .before .before .before .before .before .before .before .before .before .before .before .before .before .before .before .before .before .before .before .before .args .numbers .now) (length (c .before .before .before .before .before .before .before .before .before .before .before .before .before .before .before .before .before .before .before .before .before .before .args .numbers .now) / 2)) (c .before .before .go-on2 .ensures .1 u Gs e rep))),
+      rw (rule-halves (possible-tests Ring (c .before .before .before .before .before .before .before .before .before .before .before .before .before .before .before .before .before .before .before .before .before .before .args .n)) (group-numbered (c .before .before .before .before .before .before .before .before .before .before .before .before .before .before .before .before .before .before .before .before .before .before .args .book .now)) Gs (c .before .before .before .before .before .before .before .before .before .before .before .before .before .before .before .before .before .before .before .before .before .before .args .numbers .now) (length (c .before .before .before .before .before .before .before .before .before .before .before .before .before .before .before .before .before .before .before .before .before .before .args .numbers .now) / 2))
+      (went-on (possible? Ring (c .before .before .before .before .before .before .before .before .before .before .before .before .before .before .before .before .before .before .before .before .before .before .args .n)) (group-numbered (c .before .before .before .before .before .before .before .before .before .before .before .before .before .before .before .before .before .before .before .before .before .before .args .book .now)) Gs (drop (length (c .before .before .before .before .before .before .before .before .before .before .before .before .before .before .before .before .before .before .before .before .before .before .args .numbers .now) / 2) (c .before .before .before .before .before .before .before .before .before .before .before .before .before .before .before .before .before .before .before .before .before .before .args .numbers .now)) (first (c .before .before .before .before .before .before .before) u Gs e rep)
+      (subst (λ js. Wrote (goes-on (possible? Ring (c .before .before .before .before .before .before .before .before .before .before .before .before .before .before .before .before .before .before .before .before .before .before .args .n)) (group-numbered (c .before .before .before .before .before .before .before .before .before .before .before .before .before .before .before .before .before .before .before .before .before .before .args .book .now)) Gs (take (c .before .before .before .before .before .before .before .halves .result) (c .before .before .before .before .before .before .before .halves .last .1 .1 .1 .1 .0)) js) (c .before .before .before .before .before .before .before .halves .last .1 .1 .1 .1 .0) (c .before .before .go-on2 .last .1 .1 .1 .1 .1 .0) (c .before .before .go-on2 .result)) (part-to-end (c .before .before .before .before .before .before .before .before .before .before .before .before .before .before .before .before .before .before .before .before .before .before .args .numbers .now) (length (c .before .before .before .before .before .before .before .before .before .before .before .before .before .before .before .before .before .before .before .before .before .before .args .numbers .now) / 2)) (c .before .before .go-on2 .ensures .1 u Gs e rep))),
 )
 
 pub +go-on+halves-spec : {M : Type 1} → statement M

@@ -4,6 +4,7 @@ use Prim.Native.Nat.{_-_}
 use native.Mathlib.Omega.{arith}
 use lib.ListN.{length, take, drop, getD, set, length-set, length-drop}
 use Rattle.tree_tokens.specs.Tokens.{Wrote}
+use Rattle.spec_orders.specs.declared.Layout.the-variants.{Ring}
 use Rattle.spec_orders.specs.Conflict.{possible?}
 use Rattle.spec_orders.proofs.ListLaws.{part-to-end}
 use Rattle.tree_tokens.proofs.Writes.{read-back, wrote-none, wrote-one}
@@ -36,8 +37,8 @@ returns-2 c = λ u Gs e rep.
     let j = (getD (c .before .before .before .before .before .before .before .before .before .before .before .before .before .before .args .numbers .now) (c .before .before .before .before .before .before .before .before .walk .result .left - 1) 0) in
     let d = c .before .before .before .before .before .before .before .before .walk .ensures .2 u Gs e rep in
     rw (first-kept (c .before .before .before .before .before .before .before .before .before .before .before .before .before .before .args .numbers .now) (c .before .before .before .before .before .before .before .before .walk .result .left) (d .0) (d .1) (omega (arith, c .before .before .before .before .before .before .if1 .left)) (c .before .before .before .before .before .before .before .before .walk .ensures .0))
-    (went-on (possible? (c .before .before .before .before .before .before .before .before .before .before .before .before .before .before .args .n)) (group-numbered (c .before .before .before .before .before .before .before .before .before .before .before .before .before .before .args .book .now)) Gs (drop left (c .before .before .before .before .before .before .before .before .before .before .before .before .before .before .args .numbers .now)) (wrote-one j (c .before .before .before .before .before .before .before .before .before .before .before .before .before .before .args .out .now) (omega (arith, c .before .before .before .before .before .before .before .before .walk .ensures .0, c .before .before .before .before .before .before .if1 .left, c .before .before .before .before .before .before .before .before .before .before .before .before .before .before .pre .3)))
-    (subst (λ js. Wrote (goes-on (possible? (c .before .before .before .before .before .before .before .before .before .before .before .before .before .before .args .n)) (group-numbered (c .before .before .before .before .before .before .before .before .before .before .before .before .before .before .args .book .now)) Gs (take 1 (set (c .before .before .before .before .before .before .before .before .before .before .before .before .before .before .args .out .now) 0 j)) js) (set (c .before .before .before .before .before .before .before .before .before .before .before .before .before .before .args .out .now) 0 j) (c .before .before .go-on .last .1 .1 .1 .1 .1 .0) (c .before .before .go-on .result)) (part-to-end (c .before .before .before .before .before .before .before .before .before .before .before .before .before .before .args .numbers .now) left) (c .before .before .go-on .ensures .1 u Gs e rep)))
+    (went-on (possible? Ring (c .before .before .before .before .before .before .before .before .before .before .before .before .before .before .args .n)) (group-numbered (c .before .before .before .before .before .before .before .before .before .before .before .before .before .before .args .book .now)) Gs (drop left (c .before .before .before .before .before .before .before .before .before .before .before .before .before .before .args .numbers .now)) (wrote-one j (c .before .before .before .before .before .before .before .before .before .before .before .before .before .before .args .out .now) (omega (arith, c .before .before .before .before .before .before .before .before .walk .ensures .0, c .before .before .before .before .before .before .if1 .left, c .before .before .before .before .before .before .before .before .before .before .before .before .before .before .pre .3)))
+    (subst (λ js. Wrote (goes-on (possible? Ring (c .before .before .before .before .before .before .before .before .before .before .before .before .before .before .args .n)) (group-numbered (c .before .before .before .before .before .before .before .before .before .before .before .before .before .before .args .book .now)) Gs (take 1 (set (c .before .before .before .before .before .before .before .before .before .before .before .before .before .before .args .out .now) 0 j)) js) (set (c .before .before .before .before .before .before .before .before .before .before .before .before .before .before .args .out .now) 0 j) (c .before .before .go-on .last .1 .1 .1 .1 .1 .0) (c .before .before .go-on .result)) (part-to-end (c .before .before .before .before .before .before .before .before .before .before .before .before .before .before .args .numbers .now) left) (c .before .before .go-on .ensures .1 u Gs e rep)))
 
 pub leave-out-spec : {M : Type 1} → statement M
 leave-out-spec =

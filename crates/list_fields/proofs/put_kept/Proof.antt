@@ -3,6 +3,7 @@ use Prim.Native.Nat.{_-_, _≤_}
 use native.Mathlib.Omega.{arith}
 use denote.Ref.{now}
 use lib.ListN.{length}
+use Rattle.spec_orders.specs.declared.Layout.the-variants.{Ring}
 use Rattle.spec_orders.specs.Lists.{elem}
 use Rattle.spec_orders.specs.CircularOrder.{Restriction}
 use Rattle.spec_orders.specs.Aim.{aim-of}
@@ -17,14 +18,14 @@ use Rattle.list_fields.proofs.put_kept.Statement.{statement}
 use Rattle.list_fields.proofs.put_kept.Tie as tie
 
 -- The leaf that is aimed at, and its name.
-aimed : (c : tie.After-middle) → c .middle .result ≡ aim-of (elem (now (c .before .before .before .before .before .before .before .before .before .before .args .list))) (now (c .before .before .before .before .before .before .before .before .before .before .args .order))
-aimed c = c .middle .ensures ∙ ap (λ (G : Restriction). aim-of G (now (c .before .before .before .before .before .before .before .before .before .before .args .order))) (same-group (c .before .before .before .before .before .before .before .before .before .before .pre .2) (now (c .before .before .before .before .before .before .before .before .before .before .args .list)) _ (c .before .before .before .before .before .before .before .before .before .before .pre .1) (c .before .before .before .mark-line .ensures))
+aimed : (c : tie.After-middle) → c .middle .result ≡ aim-of Ring (elem (now (c .before .before .before .before .before .before .before .before .before .before .args .list))) (now (c .before .before .before .before .before .before .before .before .before .before .args .order))
+aimed c = c .middle .ensures ∙ ap (λ (G : Restriction). aim-of Ring G (now (c .before .before .before .before .before .before .before .before .before .before .args .order))) (same-group (c .before .before .before .before .before .before .before .before .before .before .pre .2) (now (c .before .before .before .before .before .before .before .before .before .before .args .list)) _ (c .before .before .before .before .before .before .before .before .before .before .pre .1) (c .before .before .before .mark-line .ensures))
 
 leaf : (c : tie.After-middle) → (1 ≤ c .middle .result) × (c .middle .result ≤ c .before .before .before .before .before .before .before .before .before .before .args .names)
 leaf c = rw (aimed c) (aim-range (c .before .before .before .before .before .before .before .before .before .before .pre .2) (elem (now (c .before .before .before .before .before .before .before .before .before .before .args .list))))
 
 named : (c : tie.After-name-of) (f : FileHolds (now (c .before .before .before .before .before .before .before .before .before .before .before .before .before .before .before .before .args .file)) (c .before .before .before .before .before .before .before .before .before .before .before .before .before .before .before .before .args .names) (c .before .before .before .before .before .before .before .before .before .before .before .before .before .before .before .before .args .head) (c .before .before .before .before .before .before .before .before .before .before .before .before .before .before .before .before .args .lines))
-    → now (c .name-of .result) ≡ name (f .ns) (aim-of (elem (now (c .before .before .before .before .before .before .before .before .before .before .before .before .before .before .before .before .args .list))) (now (c .before .before .before .before .before .before .before .before .before .before .before .before .before .before .before .before .args .order)))
+    → now (c .name-of .result) ≡ name (f .ns) (aim-of Ring (elem (now (c .before .before .before .before .before .before .before .before .before .before .before .before .before .before .before .before .args .list))) (now (c .before .before .before .before .before .before .before .before .before .before .before .before .before .before .before .before .args .order)))
 named c f =
     c .name-of .ensures .0 ∙ name-held f (c .before .before .before .before .before .before .middle .result - 1)
     ∙ ap (name (f .ns)) (aimed (c .before .before .before .before .before .before))

@@ -1,0 +1,3 @@
+-- What the largest leaf of a tree in form sees.
+pub mod Ends
+pub mod Layouts
