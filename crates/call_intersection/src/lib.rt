@@ -88,8 +88,8 @@ fn check_pair(
     Checked::Fine
 }
 
-// Checks 3 and 8 on two whole node tables of so many leaves. Writes the tree that allows the orders allowed by both trees to the start of out, and says how
-// many tokens it has; or why there is none.
+// Checks 3 and 8 on two whole node tables of so many leaves. Writes the tree that allows the orders allowed by both trees to the start of out, and
+// says how many tokens it has; or why there is none.
 fn common(leaves: usize, nodes: &[u16], other: &[u16], out: &mut [u16]) -> Lent
     requires { ⌜ (1 ≤ leaves) × (leaves ≤ 256) × (65792 ≤ length (now nodes)) × (65792 ≤ length (now other)) × (512 ≤ length (now out)) ⌝ }
     ensures { λ r. ⌜ ((layout : Layout) (n have had : ℕ) → leaves ≡ leaf-count layout n

@@ -176,7 +176,7 @@ conflict-call layout n book list conflicts =
 unfoldable pub common-tree : Nodes → Nodes → Option Forest
 common-tree nodes other = then (held-tree nodes) (λ t. then (held-tree other) (intersection t))
 
--- Checks 1 and 15 (both bin counts), 2 (all three tables) and 13 ("checked right after 2"); then 3 (both trees) and 8.
+-- Checks 1 and 15 of both bin counts; with them 2 (all three tables) and 13 ("checked right after 2"); then 3 (both trees) and 8.
 abbrev pub pair-sizes : Layout → ℕ → Layout → ℕ → List (Option Refusal)
 pair-sizes l n l′ m = refuse (bad-size n || bad-size m) RingSize ∷ refuse (full-rack l n || full-rack l′ m) RackSize ∷ []
 

@@ -1,5 +1,5 @@
--- The second and the third demand, over the calls and in the orders of a ring or a rack; and the one of document 02's No. 1. The second: "for every tree in the
--- published form and every well-formed group, with a place left in the book".
+-- The second and the third demand, over the calls and in the orders of a ring or a rack; and the one of document 02's No. 1. The second: "for every
+-- tree in the published form and every well-formed group, with a place left in the book".
 use mathlib.Core.Path.{_≡_}
 use mathlib.Core.Logic.{_↔_, _≢_}
 use mathlib.Core.Bool.{true}

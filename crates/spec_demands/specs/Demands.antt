@@ -392,7 +392,7 @@ pub record StraightRacks : Type 0 where
       → (length list ≡ 0) ⊎ (length list ≡ 1) ⊎ (length list ≡ n)
       → (rows′ : List ℕ) (book′ : Book) (said : Reply) → JoinPromise (rack n records rows) book list rows′ book′ said
       → (said ≡ reply 0 (book .count + 1)) × (rows′ ≡ rows)
-  -- "Does not pass the ends", "without a seam": a group of the book whose run in the standard order passes the ends has no aim.
+  -- "Does not pass the ends", "without a seam": a group of the book whose run in the standard order passes the ends meets 10.
   pub no-seam : (n records : ℕ) (rows : List ℕ) (book : Book) (t : Forest) → LentTree (rack n records rows) t → LentBook n book
       → (k : ℕ) → 1 ≤ k → k ≤ book .count → (ord : List ℕ) → StandardOrder Rack n t ord → PassesEnds (group-numbered (book .words) k) ord
       → (said : Reply) → AimPromise (rack n records rows) book k said → said ≡ reply 10 0

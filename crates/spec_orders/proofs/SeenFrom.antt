@@ -7,8 +7,8 @@ use Prim.Native.Nat.{ℕ, suc, _≤_}
 use native.Mathlib.Omega.{arith}
 use borrow.Author.Tests.{eqb-true, eqb-false}
 use lib.Dec.{eqb}
-use lib.ListN.{length}
 use Rattle.spec_orders.specs.Lists.{All, Distinct, In, elem, Rearranged, next, here}
+use Rattle.spec_orders.specs.CircularOrder.{others}
 use Rattle.spec_orders.specs.Tree.{Kind, P, C, Forest, nil, leaf, node, Item, leaf-item, node-item, items, append, frontier, Consistent, no-items, leaf-first, Rotation}
 use Rattle.spec_orders.specs.Form.{first-of, InForm, Enough, Canonical, Single}
 use Rattle.spec_orders.specs.Reduce.{put, one}
@@ -19,7 +19,7 @@ use Rattle.spec_orders.proofs.Laws.{leaves-of, every-all, all-every, ev
 use Rattle.spec_orders.proofs.First.{frontier-allowed}
 use Rattle.spec_orders.proofs.Parts.{append-put, every-put, every-one, frontier-one, item-perm, one-single}
 use Rattle.spec_orders.proofs.ListLaws.{all-append, all-left, all-right}
-use Rattle.spec_orders.proofs.Numbers.{numbers-in, numbers-length}
+use Rattle.spec_orders.proofs.Numbers.{numbers-in}
 use Rattle.spec_orders.proofs.Forms.{not-one, form-distinct}
 use Rattle.spec_orders.proofs.PutSorted.{Climbs, Climbing, climbing-put-sorted, orient-ends}
 use Rattle.spec_orders.proofs.ReduceForm.{Sloped, Node-formed, Formed, Formed-of, canonical-formed, formed-canonical}
@@ -191,16 +191,15 @@ module _ (s r : ℕ) (t : Forest) (w : Rooted s t) (h : In r (frontier t)) where
       formed c =
           by-item r (λ g. Formed g → Formed (seen-from s r g)) (λ x i f. subst Formed (sym (seen-one s r x)) (every-one Node-formed (seen s r x) (seen-formed s r x i (every-put Node-formed x nil f .0)))) t (w .single) h (canonical-formed t c)
 
--- A tree in form is seen from leaf 1, and it has the largest leaf; that one sees as many leaves.
+-- A tree in form is seen from leaf 1, and it has the largest leaf.
 pub form-rooted : (n : ℕ) (t : Forest) → InForm n t → Rooted 1 t
 form-rooted n t f = record {
   single = f .single;
   distinct = (in-all (λ y. 1 ≢ y) (frontier t) (λ y i e. omega (arith, not-one n y (perm-in y (perm-sym (f .all-leaves)) i))), form-distinct n t f);
 }
 
-pub form-end : (n : ℕ) (t : Forest) → 1 ≤ n → InForm (suc n) t → In (suc n) (frontier t)
-form-end n t l f = perm-in (suc n) (f .all-leaves) (numbers-in 2 n (suc n) (omega arith) (omega arith))
+pub end-in : (n : ℕ) → 1 ≤ n → In (suc n) (others (suc n))
+end-in n l = numbers-in 2 n (suc n) (omega arith) (omega arith)
 
-pub end-length : (n : ℕ) (t : Forest) → 1 ≤ n → InForm (suc n) t → length (frontier (seen-from 1 (suc n) t)) ≡ n
-end-length n t l f =
-    omega (arith, perm-length (seen-from-leaves 1 (suc n) t (form-rooted (suc n) t f) (form-end n t l f)), perm-length (f .all-leaves), numbers-length 2 n)
+pub form-end : (n : ℕ) (t : Forest) → 1 ≤ n → InForm (suc n) t → In (suc n) (frontier t)
+form-end n t l f = perm-in (suc n) (f .all-leaves) (end-in n l)

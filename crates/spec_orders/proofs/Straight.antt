@@ -29,12 +29,9 @@ use Rattle.spec_orders.proofs.Joining.{join-none, join-some}
 use Rattle.spec_orders.proofs.Fresh.{fresh-allowed}
 use Rattle.spec_orders.specs.SeenFrom.{seen-from, standard-on}
 use Rattle.spec_orders.proofs.Rotations.{rotate, rotation-sym, rotation-trans, rotation-perm, rotation-head, around, read-from, rotation-consecutive}
-use Rattle.spec_orders.proofs.SeenFrom.{Rooted, seen-from-order, seen-from-rooted, seen-from-has, seen-from-canonical, form-rooted, form-end}
+use Rattle.spec_orders.proofs.SeenFrom.{Rooted, seen-from-order, seen-from-rooted, seen-from-has, seen-from-canonical, form-rooted, end-in, form-end}
 
--- The circle of a rack of n bins holds the end bin, and all else is 1 to n.
-pub end-in : (n : ℕ) → 1 ≤ n → In (suc n) (others (suc n))
-end-in n l = numbers-in 2 n (suc n) (omega arith) (omega arith)
-
+-- The leaves of a rack's tree are the end bin and 1 to n.
 numbers-snoc : (a n : ℕ) → Rearranged ((a + n) ∷ numbers-from a n) (numbers-from a (suc n))
 numbers-snoc a zero = let e : a ≡ a + 0 = omega arith in subst (λ x. Rearranged (x ∷ []) (a ∷ [])) e (next here done)
 numbers-snoc a (suc n) =

@@ -4,10 +4,12 @@ use mathlib.Core.List.{List}
 use Prim.Native.Nat.{ℕ, suc, _+_, _≤_}
 use native.Mathlib.Omega.{arith}
 use lib.ListN.{length}
+use Rattle.spec_orders.specs.declared.Layout.the-variants.{Rack}
 use Rattle.spec_orders.specs.Tree.{Forest, frontier}
-use Rattle.spec_orders.specs.SeenFrom.{seen-from}
+use Rattle.spec_orders.specs.SeenFrom.{seen-from, standard-on}
 use Rattle.spec_orders.proofs.Laws.{canonical-forked}
-use Rattle.spec_orders.proofs.SeenFrom.{form-end, end-length}
+use Rattle.spec_orders.proofs.SeenFrom.{form-end}
+use Rattle.spec_orders.proofs.Straight.{standard-length}
 use Rattle.tree_tokens.specs.Tokens.{plain, tree, Wrote, TreeTokens}
 use Rattle.tree_tokens.proofs.Counts.{form-size}
 use Rattle.tree_tokens.proofs.Sequences.{tree-plain}
@@ -35,7 +37,8 @@ pub seen-leaves : (n : ℕ) (t : Forest) → frontier (tree (plain (seen-from 1 
 seen-leaves n t = rw (tree-plain (seen-from 1 (n + 1) t), next-is n)
 
 pub seen-count : {n : ℕ} {toks : List ℕ} (t : TreeTokens (suc n) toks) → 1 ≤ n → length (frontier (tree (plain (seen-from 1 (n + 1) (t .shown))))) ≡ n
-seen-count {n} t l = ap length (seen-leaves n (t .shown)) ∙ end-length n (t .shown) l (t .in-form)
+unfolding standard-on
+seen-count {n} t l = ap length (seen-leaves n (t .shown)) ∙ standard-length Rack n (t .shown) l (t .in-form)
 
 pub wrote-seen : (n : ℕ) (t : Forest) {old new : List ℕ} {r : ℕ} → Wrote (frontier (tree (plain (seen-from 1 (n + 1) t)))) old new r → Wrote (frontier (seen-from 1 (suc n) t)) old new r
 wrote-seen n t {old} {new} {r} w = subst (λ (l : List ℕ). Wrote l old new r) (seen-leaves n t) w
