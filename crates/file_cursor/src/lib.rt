@@ -1,4 +1,5 @@
 // Where a scan of the ring file stands, and what one byte more leads to.
+#![tactic(auto)]
 ghost use Rattle.std.specs.Prelude.{◌≡◌, List, ◌++◌, ℕ, ◌+◌, ◌≤◌, ◌<◌, length, take, get_or};
 ghost use Rattle.file_syntax.specs.RingFile.{Value};
 ghost use Rattle.file_syntax.specs.Words.{spaced};

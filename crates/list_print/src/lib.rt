@@ -1,4 +1,5 @@
 // The listing of a ring file, printed to standard output.
+#![tactic(auto)]
 use libc::STDOUT_FILENO;
 
 // Prints the listing part by part, until a part is empty. Each part has a line, and there are fewer than 40,000.

@@ -1,4 +1,5 @@
 // Lists the ring file on standard input: prints its listing to standard output.
+#![tactic(auto)]
 ghost use Rattle.std.specs.Prelude.{◌≡◌, length};
 
 use libc::STDIN_FILENO;

@@ -1,4 +1,5 @@
 // The file of a test load, written to lent bytes.
+#![tactic(auto)]
 ghost use Rattle.std.specs.Prelude.{[], ℕ, ◌+◌, ◌*◌, ◌≤◌, length};
 ghost use Rattle.spec_orders.specs.Lists.{All};
 ghost use Rattle.spec_load.specs.TestLoad.{run, load_file};

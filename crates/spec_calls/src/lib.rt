@@ -1,4 +1,5 @@
 // What the calls answer. specs/ says, for each call, what it answers and what every lent table holds afterwards.
+#![tactic(auto)]
 ghost use Rattle.std.specs.Prelude.{◌≡◌};
 ghost use Rattle.spec_calls.specs.Tables.{layout_numbered};
 ghost use Rattle.spec_calls.specs.Refusals.{reply, reported, report};

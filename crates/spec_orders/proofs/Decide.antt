@@ -120,10 +120,10 @@ module _ {A : Type 0} where
 
   to_perms : (l q : List A) → Rearranged l q → In q (perms l)
   to_perms [] q p = inl (nil_perm p)
-  to_perms (x ∷ l) q p = go (perm_sym p) (to_perms l)
+  to_perms (x ∷ l) q p = go x l (perm_sym p) (to_perms l)
     where
-      go : Rearranged q (x ∷ l) → ((m : List A) → Rearranged l m → In m (perms l)) → In q (spread_all x (perms l))
-      go (next {k = m} k r) h = to_spread_all x (perms l) m q (h m (perm_sym r)) (to_spread k)
+      go : (x : A) (l : List A) {q : List A} → Rearranged q (x ∷ l) → ((m : List A) → Rearranged l m → In m (perms l)) → In q (spread_all x (perms l))
+      go x l {q} (next {k = m} k r) h = to_spread_all x (perms l) m q (h m (perm_sym r)) (to_spread k)
 
 -- In a straight order.
 contiguous_decides : (G : Restriction) (xs : List ℕ) → (contiguous? G xs ≡ true) ↔ Contiguous G xs

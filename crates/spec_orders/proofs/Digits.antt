@@ -93,6 +93,7 @@ Lead (d ∷ l) = 49 ≤ d
 
 lead_append : (a b : List ℕ) → Lead a → Lead (a ++ b)
 lead_append (d ∷ a) b h = h
+lead_append [] b h = elim h [ ]
 
 digits_in_lead : (k v : ℕ) → v < k → 1 ≤ v → Lead (digits_in k v)
 digits_in_lead zero v h g = absurd (omega arith)

@@ -64,6 +64,10 @@ form_one t f = go t f.single f.canonical (perm_length f.all_leaves)
     go nil o c e = refl
     go (leaf b nil) o c e = absurd (omega arith)
     go (node k i nil) o c e = absurd (omega (arith, node_long k i c))
+    go (leaf b (leaf _ _)) o c e = elim o [ ]
+    go (leaf b (node _ _ _)) o c e = elim o [ ]
+    go (node k i (leaf _ _)) o c e = elim o [ ]
+    go (node k i (node _ _ _)) o c e = elim o [ ]
 
 pub form_two : (t : Forest) → InForm 2 t → t ≡ leaf 2 nil
 form_two t f = go t f.single f.canonical f.all_leaves
@@ -72,6 +76,10 @@ form_two t f = go t f.single f.canonical f.all_leaves
     go nil o c p = absurd (omega (arith, perm_length p))
     go (leaf b nil) o c p = ap (λ x. leaf x nil) (head-eq_of_cons-eq (short_perm p (omega arith)))
     go (node k i nil) o c p = absurd (omega (arith, perm_length p, node_long k i c))
+    go (leaf b (leaf _ _)) o c p = elim o [ ]
+    go (leaf b (node _ _ _)) o c p = elim o [ ]
+    go (node k i (leaf _ _)) o c p = elim o [ ]
+    go (node k i (node _ _ _)) o c p = elim o [ ]
 
 pub form_more : (n : ℕ) (t : Forest) → InForm n t → 3 ≤ n → (k : Kind) × (i : Forest) × (t ≡ node k i nil)
 form_more zero t f l = absurd (omega arith)
@@ -81,3 +89,7 @@ form_more (suc n) t f l = go t f.single (omega (arith, perm_length f.all_leaves,
     go nil o m = absurd (omega arith)
     go (leaf b nil) o m = absurd (omega arith)
     go (node k i nil) o m = (k, i, refl)
+    go (leaf b (leaf _ _)) o m = elim o [ ]
+    go (leaf b (node _ _ _)) o m = elim o [ ]
+    go (node k i (leaf _ _)) o m = elim o [ ]
+    go (node k i (node _ _ _)) o m = elim o [ ]

@@ -130,8 +130,8 @@ module _ {A B : Type 0} (g : A → B) where
   pick_unmap [] e here = absurd (subst NonEmpty e tt)
   pick_unmap [] e (there k) = absurd (subst NonEmpty e tt)
   pick_unmap (x ∷ l) e here = record { elt = x; rest = l; pick = here; is = head-eq_of_cons-eq e; left = tail-eq_of_cons-eq e }
-  pick_unmap (x ∷ l) e (there k) =
-      let r = pick_unmap l (tail-eq_of_cons-eq e) k in
+  pick_unmap (x ∷ l) e (there {l = l'} k) =
+      let r = pick_unmap {q = l'} l (tail-eq_of_cons-eq e) k in
       record { elt = r.elt; rest = x ∷ r.rest; pick = there r.pick; is = r.is; left = ap₂ ◌∷◌ (head-eq_of_cons-eq e) r.left }
 
   pub perm_unmap : {q us : List B} (l : List A) → q ≡ map g l → Rearranged q us → (m : List A) × Rearranged l m × (us ≡ map g m)

@@ -27,12 +27,13 @@ module _ {A : Type 0} where
       let r = pull p q in
       let s = swap_picks k r.1 in
       (_, s.1, next s.2 r.2)
+  pull {t = t} {h = h} done x4 = elim x4 [ ]
 
   pub perm_trans : {f g h : List A} → Rearranged f g → Rearranged g h → Rearranged f h
   perm_trans p done = p
-  perm_trans p (next k q) =
+  perm_trans {f = f} p (next k q) =
       let r = pull p k in
-      next r.1 (perm_trans r.2 q)
+      next r.1 (perm_trans {f = r.0} r.2 q)
 
   pub perm_insert : {t : A} {f g h : List A} → Pick t f g → Rearranged h g → Rearranged (t ∷ h) f
   perm_insert here p = next here p
@@ -103,9 +104,15 @@ module _ {A : Type 0} where
   pub two_picks : (t u : A) {us : List A} → Rearranged (t ∷ (u ∷ [])) us → (us ≡ t ∷ (u ∷ [])) ⊎ (us ≡ u ∷ (t ∷ []))
   two_picks t u (next here (next here done)) = inl refl
   two_picks t u (next (there here) (next here done)) = inr refl
+  two_picks t u (next here (next here (next {k = k} {m = m} x34 _))) = elim x34 [ ]
+  two_picks t u (next here (next {m = m} (there x33) _)) = elim x33 [ ]
+  two_picks t u (next (there here) (next here (next {k = k} {m = m} x47 _))) = elim x47 [ ]
+  two_picks t u (next (there here) (next {m = m} (there x46) _)) = elim x46 [ ]
+  two_picks t u (next {m = m} (there (there x32)) _) = elim x32 [ ]
 
   pub nil_perm : {q : List A} → Rearranged [] q → q ≡ []
   nil_perm done = refl
+  nil_perm (next {k = k} {m = m} x6 _) = elim x6 [ ]
 
   -- Where the picked element stood.
   pick_split : {t : A} {f g : List A} → Pick t f g → (a : List A) × (b : List A) × (f ≡ a ++ (t ∷ b)) × (g ≡ a ++ b)
@@ -125,9 +132,9 @@ module _ {A : Type 0} where
   short_perm (next (there k) p) n = absurd (omega (arith, pick_length k))
 
   -- The same in front of two rearrangements.
-  cancel_one : {x : A} {l m k : List A} → Pick x (x ∷ l) m → Rearranged m k → Rearranged l k
-  cancel_one here p = p
-  cancel_one (there k) p = perm_trans (next k (perm_refl _)) p
+  cancel_one : {x y : A} {l m k : List A} → x ≡ y → Pick x (y ∷ l) m → Rearranged m k → Rearranged l k
+  cancel_one e here p = p
+  cancel_one {l = l} {k = k} e (there {m = m} q) p = subst (λ y. Rearranged (y ∷ m) k → Rearranged l k) e (λ p. perm_trans (next q (perm_refl _)) p) p
 
   pub perm_uncons : {x : A} {l m : List A} → Rearranged (x ∷ l) (x ∷ m) → Rearranged l m
-  perm_uncons (next k p) = cancel_one k p
+  perm_uncons (next k p) = cancel_one refl k p

@@ -2,7 +2,7 @@
 -- On the way "not larger" stands for "smaller" in the form; where no leaf stands twice, that is the same.
 use mathlib.Core.Path.{◌∙◌, ◌≡◌, ap, refl, subst, sym}
 use mathlib.Core.Bool.{Bool, cond, false, true}
-use mathlib.Core.Option.{Option, some_injective, none, some}
+use mathlib.Core.Option.{Option, some-injective, none, some}
 use mathlib.Core.List.{List, [], ◌++◌, ◌∷◌, map, reverse}
 use Prim.Native.Nat.{◌+◌, ◌≤◌, min, suc, ℕ}
 use native.Mathlib.Omega.{arith}
@@ -252,8 +252,12 @@ parts_made S (node k i f) g h = (
 
 reduce_formed : (S : Restriction) → (t t' : Forest) → Single (items t) → Forked t → Formed t → reduce S t ≡ some t' → Formed t'
 unfolding reduce
-reduce_formed S nil t' o k h e = subst Formed (some_injective nil t' e) tt
-reduce_formed S (leaf b nil) t' o k h e = subst Formed (some_injective (leaf b nil) t' e) tt
+reduce_formed S (leaf b (leaf _ _)) t' o k h e = elim o [ ]
+reduce_formed S (leaf b (node _ _ _)) t' o k h e = elim o [ ]
+reduce_formed S (node κ i (leaf _ _)) t' o k h e = elim o [ ]
+reduce_formed S (node κ i (node _ _ _)) t' o k h e = elim o [ ]
+reduce_formed S nil t' o k h e = subst Formed (some-injective nil t' e) tt
+reduce_formed S (leaf b nil) t' o k h e = subst Formed (some-injective (leaf b nil) t' e) tt
 reduce_formed S (node κ i nil) t' o k h e = (subst (AtLeast 1) e (parts_made S (node κ i nil) k h).0.reduced_made).0
 
 -- Where no leaf stands twice, "not larger" is "smaller".

@@ -191,6 +191,10 @@ module _ (S : Restriction) where
   -- At most one marked leaf; no marked leaf; only marked leaves.
   pub reduce-few : (t : Forest) → Single (items t) → Canonical t → Distinct (frontier t) → (x : ℕ) → ((y : ℕ) → In y (frontier t) → S y ≡ true → y ≡ x) → reduce S t ≡ some t
   unfolding reduce
+  reduce-few (leaf b (leaf _ _)) l c d x h = elim l [ ]
+  reduce-few (leaf b (node _ _ _)) l c d x h = elim l [ ]
+  reduce-few (node k i (leaf _ _)) l c d x h = elim l [ ]
+  reduce-few (node k i (node _ _ _)) l c d x h = elim l [ ]
   reduce-few nil l c d x h = refl
   reduce-few (leaf b nil) l c d x h = refl
   reduce-few (node k i nil) l c d x h = part_stays (class S (frontier i)) k i (λ e. go (some_of S (frontier i)) refl e)
@@ -207,6 +211,10 @@ module _ (S : Restriction) where
 
   pub reduce-outside : (t : Forest) → Single (items t) → Outside S (frontier t) → reduce S t ≡ some t
   unfolding reduce
+  reduce-outside (leaf b (leaf _ _)) l h = elim l [ ]
+  reduce-outside (leaf b (node _ _ _)) l h = elim l [ ]
+  reduce-outside (node k i (leaf _ _)) l h = elim l [ ]
+  reduce-outside (node k i (node _ _ _)) l h = elim l [ ]
   reduce-outside nil l h = refl
   reduce-outside (leaf b nil) l h = refl
   reduce-outside (node k i nil) l h =
@@ -214,6 +222,10 @@ module _ (S : Restriction) where
 
   pub reduce_all : (t : Forest) → Single (items t) → Inside S (frontier t) → reduce S t ≡ some t
   unfolding reduce
+  reduce_all (leaf b (leaf _ _)) l h = elim l [ ]
+  reduce_all (leaf b (node _ _ _)) l h = elim l [ ]
+  reduce_all (node k i (leaf _ _)) l h = elim l [ ]
+  reduce_all (node k i (node _ _ _)) l h = elim l [ ]
   reduce_all nil l h = refl
   reduce_all (leaf b nil) l h = refl
   reduce_all (node k i nil) l h = part_stays (class S (frontier i)) k i (λ e. absurd (not_partial (frontier i) (all_left _ (frontier i) [] h) e))

@@ -2,7 +2,7 @@
 use mathlib.Core.Path.{◌∙◌, ◌≡◌, ap, ap₂, refl, subst, sym}
 use mathlib.Core.Logic.{◌↔◌}
 use mathlib.Core.Bool.{false, true}
-use mathlib.Core.Option.{Option, none-ne-some, some_injective, none, some}
+use mathlib.Core.Option.{Option, none-ne-some, some-injective, none, some}
 use mathlib.Core.List.{List, [], ◌∷◌}
 use Prim.Native.Nat.{◌≤◌, suc, ℕ}
 use native.Mathlib.Omega.{arith}
@@ -72,6 +72,10 @@ module _ (S : Restriction) where
 
   pub reduce_ok : (t : Forest) → Single (items t) → Forked t → (xs : L) → Gives (reduce S t) xs ↔ (Consistent t xs × Contiguous S xs)
   unfolding reduce
+  reduce_ok (leaf b (leaf _ _)) l h xs = elim l [ ]
+  reduce_ok (leaf b (node _ _ _)) l h xs = elim l [ ]
+  reduce_ok (node k i (leaf _ _)) l h xs = elim l [ ]
+  reduce_ok (node k i (node _ _ _)) l h xs = elim l [ ]
   reduce_ok nil l h xs = ((λ s. (s, subst (Contiguous S) (sym (nil_order s)) (out_con S [] tt))), (λ r. r.0))
   reduce_ok (leaf b nil) l h xs = (parts_fit (leaf b nil) h).0.reduced_ok xs
   reduce_ok (node k i nil) l h xs = subst (λ t. Gives (reduce S (node k i nil)) xs ↔ (Consistent (one t) xs × Contiguous S xs)) (part_item (class S (frontier i)) k i (parts S i)) ((parts_fit (node k i nil) h).0.reduced_ok xs)
@@ -87,10 +91,14 @@ module _ (S : Restriction) where
   -- One item stays one item.
   single_items : (o : Option Forest) (t' : Forest) → Single-item o → o ≡ some t' → Single (items t')
   single_items none t' l e = absurd (none-ne-some t' e)
-  single_items (some f) t' l e = subst (λ g. Single (items g)) (sym l.1 ∙ some_injective f t' e) (one_single l.0)
+  single_items (some f) t' l e = subst (λ g. Single (items g)) (sym l.1 ∙ some-injective f t' e) (one_single l.0)
 
   pub reduce_single : (t t' : Forest) → Single (items t) → Forked t → reduce S t ≡ some t' → Single (items t')
   unfolding reduce
-  reduce_single nil t' l h e = subst (λ g. Single (items g)) (some_injective nil t' e) tt
+  reduce_single (leaf b (leaf _ _)) t' l h e = elim l [ ]
+  reduce_single (leaf b (node _ _ _)) t' l h e = elim l [ ]
+  reduce_single (node k i (leaf _ _)) t' l h e = elim l [ ]
+  reduce_single (node k i (node _ _ _)) t' l h e = elim l [ ]
+  reduce_single nil t' l h e = subst (λ g. Single (items g)) (some-injective nil t' e) tt
   reduce_single (leaf b nil) t' l h e = single_items (some (leaf b nil)) t' (leaf_item b, refl) e
   reduce_single (node k i nil) t' l h e = single_items (reduce S (node k i nil)) t' (parts_fit (node k i nil) h).0.single e

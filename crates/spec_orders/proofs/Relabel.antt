@@ -197,6 +197,10 @@ relabel_single : (f : Forest) → Single (items f) → Single (items (relabel f)
 relabel_single nil h = tt
 relabel_single (leaf b nil) h = tt
 relabel_single (node k i nil) h = tt
+relabel_single (leaf b (leaf _ _)) h = elim h [ ]
+relabel_single (leaf b (node _ _ _)) h = elim h [ ]
+relabel_single (node k i (leaf _ _)) h = elim h [ ]
+relabel_single (node k i (node _ _ _)) h = elim h [ ]
 
 -- The tree of an accepted text, relabelled, is in form.
 pub relabel_form : (n : ℕ) (t : Forest) → Shaped n t → Every Sorted t → InForm n (relabel t)

@@ -47,6 +47,10 @@ single_rev : (f : Forest) → Single (items f) → rev f ≡ f
 single_rev nil one = refl
 single_rev (leaf b nil) one = refl
 single_rev (node k i nil) one = refl
+single_rev (leaf b (leaf _ _)) one = elim one [ ]
+single_rev (leaf b (node _ _ _)) one = elim one [ ]
+single_rev (node k i (leaf _ _)) one = elim one [ ]
+single_rev (node k i (node _ _ _)) one = elim one [ ]
 
 module _ (n : ℕ) (t : Forest) (l : 1 ≤ n) (f : InForm (suc n) t) where
   rooted : Rooted 1 t

@@ -50,6 +50,7 @@ not_digits m b h x y e = go (digits m) (digits_nonempty m) (digits_all m) e
   where
     go : (l : List ℕ) → NonEmpty l → All Digit l → b ∷ x ≡ l ++ y → ⊥
     go (d ∷ l) f a i = h (subst Digit (sym (head-eq_of_cons-eq i)) a.0)
+    go [] f a i = elim f [ ]
 
 letter_not : (k : Kind) → Digit (letter k) → ⊥
 letter_not P d = omega arith

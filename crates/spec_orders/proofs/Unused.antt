@@ -200,4 +200,4 @@ module _ (n : ℕ) (keep : ℕ → Bool) where
 
       all : In x (1 ∷ kept n keep) ⊎ (ds ≡ []) → Rearranged (ds ++ (1 ∷ ys)) (widen (behind x ds) (1 ∷ ys))
       all (inl i) = widen_one x ds (1 ∷ ys) different (perm_in x (perm_skip 1 p) i)
-      all (inr e) = rw (e, widen_nothing x (1 ∷ ys)) (perm_refl (1 ∷ ys))
+      all (inr e) = subst (λ d. Rearranged (d ++ (1 ∷ ys)) (widen (behind x d) (1 ∷ ys))) (sym e) (subst (λ l. Rearranged (1 ∷ ys) l) (sym (widen_nothing x (1 ∷ ys))) (perm_refl (1 ∷ ys)))

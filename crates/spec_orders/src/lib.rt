@@ -1,9 +1,10 @@
 // What a reader must believe of orders and trees is in specs/, and its theorems in proofs/. In code: the layouts.
+#![tactic(auto)]
 ghost use Rattle.std.specs.Prelude.{◌≡◌, ◌≤◌};
 ghost use Rattle.spec_orders.specs.Layout.{leaf_count};
 
 // Whether a call is lent a ring or a rack, which has two ends.
-#[derive(Drop)]
+#[derive(Clone, Copy)]
 pub enum Layout {
     Ring,
     Rack,

@@ -5,6 +5,7 @@
 //     4 to 7      the marks of the leaves read so far
 //     8 to 263    of the node in record r, at 8 + r: first leaf + 512 * (records + 512 * state); it stays when the node is no root any more
 //     264         0: all records so far are blank; else how many records are used, or 257: this is the table of no tree
+#![tactic(auto)]
 
 ghost use Rattle.std.specs.Prelude.{◌≡◌, not, List, ◌∷◌, ℕ, suc, ◌+◌, ◌≤◌, ◌<◌, length, replicate};
 ghost use Rattle.spec_orders.specs.Lists.{same};

@@ -2,6 +2,7 @@
 // lent to it. A command is a letter and numbers, one space before each: one of those of crate test_commands, or
 //
 //   C rack n b count c list         the conflict list of a group, into the first c places of the conflicts
+#![tactic(auto)]
 use spec_calls::Answer;
 use test_fields::{at, least};
 

@@ -1,4 +1,5 @@
 // Runs the vectors of document 02 through the calls, compares each answer with the file's, and counts the cases by n.
+#![tactic(auto)]
 mod aims;
 mod answers;
 mod fields;

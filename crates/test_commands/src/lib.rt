@@ -8,6 +8,7 @@
 //   N i v, B i v                    the node table's number i, or the book's word i, is v
 //   S rack n have a c               the standard order, into the first c places of the order
 //   W rack n have a c               the tree text, into the first c bytes
+#![tactic(auto)]
 use spec_calls::{Answer, Refusal};
 use spec_orders::Layout;
 use test_fields::{at, layout, least};

@@ -1,4 +1,5 @@
 // What the programs of the outside vectors read: a file, and its numbers, layouts, leaves and bytes.
+#![tactic(auto)]
 ghost use Rattle.std.specs.Prelude.{◌≤◌, ◌≡◌, length};
 ghost use Rattle.io.specs.Counts.{IsPrefixLen};
 

@@ -1,4 +1,5 @@
 // Lists each ring file that index.txt names, a line each, and prints the name and the listing.
+#![tactic(auto)]
 ghost use Rattle.std.specs.Prelude.{◌≡◌, ◌≤◌, length};
 
 // 65,537 zeros: one byte more than the longest file that is accepted.

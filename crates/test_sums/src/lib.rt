@@ -1,4 +1,5 @@
 // What the programs of the outside vectors print: checksums of tables, and counts of outcomes.
+#![tactic(auto)]
 ghost use Rattle.std.specs.Prelude.{◌≤◌};
 
 mod counts;

@@ -1,4 +1,5 @@
 // What the programs of the outside vectors say of tables.
+#![tactic(auto)]
 use spec_calls::Answer;
 use spec_orders::Layout;
 

@@ -1,5 +1,6 @@
 // Runs the cases of joins.txt (a tree text, a group, the text after joining) and of texts.txt (a text, accepted and written again, or refused at a
 // byte) through the calls, compares each answer with the file's, and counts the cases by n.
+#![tactic(auto)]
 ghost use Rattle.std.specs.Prelude.{◌≤◌};
 
 mod joins;

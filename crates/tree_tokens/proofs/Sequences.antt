@@ -88,7 +88,7 @@ pub bare_is : (j : Judged) → map bare (encode j) ≡ flat (tree j)
 unfolding encode
 bare_is j_nil = refl
 bare_is (j_leaf s b j) = rw (bare_leaf s b, bare_is j)
-bare_is (j_node s k i j) = rw (bare_node s k (length (encode i)), map-append, bare_is i, bare_is j, plain-length i)
+bare_is (j_node s k i j) = rw (bare_node s k (length (encode i)), map-append bare (encode i) (encode j), bare_is i, bare_is j, plain-length i)
 
 -- The tokens say what the sequence is.
 abbrev as_kind : ℕ → Kind

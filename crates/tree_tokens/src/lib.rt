@@ -1,5 +1,7 @@
 // The tree as tokens: its flat preorder, in a slice of numbers. A leaf b is 16b; a node is 32m + 8 (P) or 32m + 24 (C), and the m tokens of
 // its items follow. An item's state under a restriction, 0 to 4, is added to its token.
+#![tactic(auto)]
+
 ghost use Rattle.std.specs.Prelude.{◌≡◌, ◌<◌, ◌≤◌, length};
 ghost use Rattle.spec_orders.specs.Lists.{same, numbers_from};
 ghost use Rattle.spec_orders.specs.Tree.{rev, items};
