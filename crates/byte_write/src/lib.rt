@@ -1,5 +1,6 @@
 // Bytes written to the start of a lent slice.
 #![tactic(auto)]
+
 ghost use Rattle.std.specs.Prelude.{◌≤◌, length, replicate};
 ghost use Rattle.spec_orders.specs.TreeText.{digits};
 ghost use Rattle.tree_tokens.specs.Tokens.{Wrote};
