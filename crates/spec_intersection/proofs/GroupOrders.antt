@@ -112,6 +112,10 @@ builts (leaf b f) w = (built_leaf b, builts f w)
 builts (node k i f) w = (built_node k i w.0.0 w.0.1 (builts i w.0.1), builts f w.1)
 
 runs_consistent : (f : Forest) → Single (items f) → All Built (items f) → (xs : List ℕ) → Rearranged (frontier f) xs → Distinct xs → Runs (characteristic f) xs → Consistent f xs
+runs_consistent (leaf b (leaf _ _)) o h xs p d r = elim o [ ]
+runs_consistent (leaf b (node _ _ _)) o h xs p d r = elim o [ ]
+runs_consistent (node k i (leaf _ _)) o h xs p d r = elim o [ ]
+runs_consistent (node k i (node _ _ _)) o h xs p d r = elim o [ ]
 runs_consistent nil o h xs p d r = subst (Consistent nil) (sym (nil_perm p)) no_items
 runs_consistent (leaf b nil) o h xs p d r = h.0 xs p d r
 runs_consistent (node k i nil) o h xs p d r = h.0 xs (rw append-nil at p) d (rw append-nil at r)

@@ -1,6 +1,6 @@
 -- The intersection as one walk makes it: groups join one after another, and the groups of a sequence are those of its parts.
 use mathlib.Core.Path.{◌∙◌, ◌≡◌, ap, refl, subst, sym}
-use mathlib.Core.Option.{Option, none-ne-some, some_injective, none, some}
+use mathlib.Core.Option.{Option, none-ne-some, some-injective, none, some}
 use mathlib.Core.List.{List, [], ◌++◌, ◌∷◌, append_assoc}
 use Rattle.spec_orders.specs.CircularOrder.{Restriction}
 use Rattle.spec_orders.specs.Tree.{Forest, nil, leaf, node, append}
@@ -19,7 +19,7 @@ joins-append (G ∷ Gs) Hs t = go (join G t) (joins-append Gs Hs)
 -- What one group that joins keeps, they keep.
 pub joins_keep : (Q : Forest → Type 0) → ((G : Restriction) (t u : Forest) → Q t → join G t ≡ some u → Q u) → (Gs : List Restriction) (t u : Forest) → Q t → joins Gs t ≡ some u → Q u
 unfolding joins
-joins_keep Q h [] t u q e = subst Q (some_injective t u e) q
+joins_keep Q h [] t u q e = subst Q (some-injective t u e) q
 joins_keep Q h (G ∷ Gs) t u q e = go (join G t) refl e (joins_keep Q h Gs)
   where
     go : (o : Option Forest) → join G t ≡ o → then o (joins Gs) ≡ some u → ((v w : Forest) → Q v → joins Gs v ≡ some w → Q w) → Q u

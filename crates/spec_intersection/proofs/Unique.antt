@@ -220,6 +220,22 @@ same-frontier f g cf cg h = not_after_antisym (frontier f) (frontier g) (frontie
 
 -- Same orders, same tree.
 pub unique : (f g : Forest) → Canonical f → Canonical g → Distinct (frontier f) → Single (items f) → Single (items g) → Alike f g → f ≡ g
+unique (leaf b nil) (leaf c (leaf _ _)) cf cg d of og h = elim og [ ]
+unique (leaf b nil) (leaf c (node _ _ _)) cf cg d of og h = elim og [ ]
+unique (leaf b (leaf _ _)) (leaf c g) cf cg d of og h = elim of [ ]
+unique (leaf b (node _ _ _)) (leaf c g) cf cg d of og h = elim of [ ]
+unique (leaf b nil) (node l j (leaf _ _)) cf cg d of og h = elim og [ ]
+unique (leaf b nil) (node l j (node _ _ _)) cf cg d of og h = elim og [ ]
+unique (leaf b (leaf _ _)) (node l j g) cf cg d of og h = elim of [ ]
+unique (leaf b (node _ _ _)) (node l j g) cf cg d of og h = elim of [ ]
+unique (node k i nil) (leaf c (leaf _ _)) cf cg d of og h = elim og [ ]
+unique (node k i nil) (leaf c (node _ _ _)) cf cg d of og h = elim og [ ]
+unique (node k i (leaf _ _)) (leaf c g) cf cg d of og h = elim of [ ]
+unique (node k i (node _ _ _)) (leaf c g) cf cg d of og h = elim of [ ]
+unique (node k i nil) (node l j (leaf _ _)) cf cg d of og h = elim og [ ]
+unique (node k i nil) (node l j (node _ _ _)) cf cg d of og h = elim og [ ]
+unique (node k i (leaf _ _)) (node l j g) cf cg d of og h = elim of [ ]
+unique (node k i (node _ _ _)) (node l j g) cf cg d of og h = elim of [ ]
 unique nil nil cf cg d of og h = refl
 unique nil (leaf c g) cf cg d of og h = absurd (subst NonEmpty (sym (same-frontier nil (leaf c g) cf cg h)) tt)
 unique nil (node l j g) cf cg d of og h = absurd (subst NonEmpty (sym (same-frontier nil (node l j g) cf cg h)) (frontier_nonempty (node l j g) cg tt))
