@@ -16,7 +16,7 @@ use borrow.Author.Tests.{eq-eqb, ne_eqb}
 use Rattle.spec_orders.specs.CircularOrder.{Restriction}
 use Rattle.spec_orders.proofs.Tests.{or_swap}
 use Rattle.mark_words.specs.Marks.{bit, marked, word_of, words_of, with_leaf}
-use Rattle.mark_words.proofs.Word.{word_is, bit_or, bit_pow}
+use Rattle.mark_words.proofs.Word.{word_is, bit_of_or, bit_pow}
 use Rattle.mark_words.proofs.Words.{Words, words_are, marked_at, leaf_at, words_agree, words_of-marked}
 
 -- ---- one leaf more
@@ -55,7 +55,7 @@ set-one ws m v l =
 
     new : (j : ℕ) → j < 64 → bit (bit_or (get_or ws (m / 64) 0) (2 ^ (m % 64))) j ≡ with_leaf (suc m) (marked ws) (64 * (m / 64) + suc j)
     new j h =
-        bit_or (get_or ws (m / 64) 0) (2 ^ (m % 64)) j
+        bit_of_or (get_or ws (m / 64) 0) (2 ^ (m % 64)) j
         ∙ ap₂ (λ (a b : Bool). a || b) (sym (marked_at ws (m / 64) j h))
         (bit_pow (m % 64) j ∙ eqb_iff j (m % 64) (64 * (m / 64) + suc j) (suc m) (λ e. omega (arith, leaf_at m)) (λ e. omega (arith, leaf_at m)))
         ∙ or_swap (marked ws (64 * (m / 64) + suc j)) (eqb (64 * (m / 64) + suc j) (suc m))

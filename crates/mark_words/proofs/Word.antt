@@ -134,15 +134,15 @@ module _ (op : ℕ → ℕ → ℕ) (f : Bool → Bool → Bool)
       ap (λ (x : ℕ). eqb (x % 2) 1) (shr a b i) ∙ ap (λ (x : ℕ). eqb x 1) (low-digits (a / 2 ^ i) (b / 2 ^ i) 1)
       ∙ on_digits (a / 2 ^ i % 2) (b / 2 ^ i % 2) (mod-lt (a / 2 ^ i) (omega arith)) (mod-lt (b / 2 ^ i) (omega arith))
 
-pub bit_and : (a b i : ℕ) → bit (bit_and a b) i ≡ (bit a i && bit b i)
-bit_and = bit_op bit_and ◌&&◌ and_shr and_mod refl refl refl refl
+pub bit_of_and : (a b i : ℕ) → bit (bit_and a b) i ≡ (bit a i && bit b i)
+bit_of_and = bit_op bit_and ◌&&◌ and_shr and_mod refl refl refl refl
 
-pub bit_or : (a b i : ℕ) → bit (bit_or a b) i ≡ (bit a i || bit b i)
-bit_or = bit_op bit_or ◌||◌ or_shr or_mod refl refl refl refl
+pub bit_of_or : (a b i : ℕ) → bit (bit_or a b) i ≡ (bit a i || bit b i)
+bit_of_or = bit_op bit_or ◌||◌ or_shr or_mod refl refl refl refl
 
 -- The marks where the two words differ.
-pub bit_xor : (a b i : ℕ) → bit (bit_xor a b) i ≡ cond (bit a i) (not (bit b i)) (bit b i)
-bit_xor = bit_op bit_xor (λ x y. cond x (not y) y) xor_shr xor_mod refl refl refl refl
+pub bit_of_xor : (a b i : ℕ) → bit (bit_xor a b) i ≡ cond (bit a i) (not (bit b i)) (bit b i)
+bit_of_xor = bit_op bit_xor (λ x y. cond x (not y) y) xor_shr xor_mod refl refl refl refl
 
 -- One mark, and the k lowest.
 pub bit_pow : (j i : ℕ) → bit (2 ^ j) i ≡ eqb i j

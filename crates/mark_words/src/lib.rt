@@ -1,5 +1,6 @@
 // Sets of leaves as mark words: leaf b is bit (b - 1) % 64 of word (b - 1) / 64, in any number of words.
 #![tactic(auto)]
+
 ghost use Rattle.std.specs.Prelude.{◌≡◌, ◌%◌, ◌^◌, length};
 ghost use Rattle.mark_words.specs.Marks.{marked, words_of, no_leaf, with_leaf};
 
