@@ -60,6 +60,7 @@ due_of : (c : ℕ) (cs l : List ℕ) (m : ℕ) → Filled ((c - 1) ∷ cs) l →
 due_of c cs l m r = go r.fs r.fits r.each
   where
     go : (fs : List Forest) → Fits ((c - 1) ∷ cs) fs → l ≡ frontiers fs → (x : List ℕ) × Due c cs (m ∷ l) x
+    go [] h e = elim h [ ]
     go (f ∷ fs) h e = (
       text (leaf m f) ++ (41 ∷ bytes fs),
       record {

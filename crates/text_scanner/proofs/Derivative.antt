@@ -58,6 +58,7 @@ tail_space : {c : ℕ} {cs l x : List ℕ} → Tail (c ∷ cs) l (32 ∷ x) → 
 tail_space {c} {cs} {l} {x} t = go t.fs t.fits t.each t.is
   where
     go : (fs : List Forest) → Fits (c ∷ cs) fs → Rearranged l (frontiers fs) → 32 ∷ x ≡ bytes fs → Due c cs l x
+    go [] h p e = elim h [ ]
     go (nil ∷ fs) h p e = absurd (let z = head-eq_of_cons-eq e in omega arith)
     go (leaf m f ∷ fs) h p e = record { f = leaf m f; fs = fs; has = omega arith; two = h.0; good = h.1; fits = h.2; each = p; is = tail-eq_of_cons-eq e }
     go (node k i f ∷ fs) h p e = record { f = node k i f; fs = fs; has = omega arith; two = h.0; good = h.1; fits = h.2; each = p; is = tail-eq_of_cons-eq e }
@@ -74,6 +75,7 @@ tail_close : {c : ℕ} {cs l x : List ℕ} → Tail (c ∷ cs) l (41 ∷ x) → 
 tail_close {c} {cs} {l} {x} t = go t.fs t.fits t.each t.is
   where
     go : (fs : List Forest) → Fits (c ∷ cs) fs → Rearranged l (frontiers fs) → 41 ∷ x ≡ bytes fs → (c ≡ 0) × Tail cs l x
+    go [] h p e = elim h [ ]
     go (nil ∷ fs) h p e = (omega (arith, h.0), record { fs = fs; fits = h.2; each = p; is = tail-eq_of_cons-eq e })
     go (leaf m f ∷ fs) h p e = absurd (let z = head-eq_of_cons-eq e in omega arith)
     go (node k i f ∷ fs) h p e = absurd (let z = head-eq_of_cons-eq e in omega arith)
@@ -99,6 +101,7 @@ tail_end {l} {x} t = go t.fs t.fits t.each t.is
     empty (m ∷ k) p = absurd (omega (arith, perm_length p))
 
     go : (fs : List Forest) → Fits [] fs → Rearranged l (frontiers fs) → x ≡ bytes fs → (x ≡ []) × (l ≡ [])
+    go (_ ∷ _) h p e = elim h [ ]
     go [] h p e = (e, empty l p)
 
 tail_closes : (cs l : List ℕ) {x : List ℕ} → Tail cs l x → closes cs l ≡ true
@@ -143,6 +146,7 @@ digit_byte m b a t e = at a (subst (All Digit) e (digits_all m))
     at (d ∷ a) h = at a h.1
 
 first_byte : (l : List ℕ) → NonEmpty l → (b : ℕ) (x y : List ℕ) → b ∷ x ≡ l ++ y → (t : List ℕ) × (l ≡ b ∷ t) × (x ≡ t ++ y)
+first_byte [] h b x y e = elim h [ ]
 first_byte (d ∷ l) h b x y e = (l, ap (λ w. w ∷ l) (sym (head-eq_of_cons-eq e)), tail-eq_of_cons-eq e)
 
 letter_high : (k : Kind) → 57 < letter k
@@ -179,6 +183,7 @@ node_due : {c : ℕ} {cs l x : List ℕ} (b : ℕ) → Letter b → Open ((c - 1
 node_due {c} {cs} {l} {x} b k o = go o.then.fs o.then.fits o.then.each (o.is ∙ ap (◌∷◌ 40) o.then.is)
   where
     go : (fs : List Forest) → Fits ((c - 1) ∷ cs) fs → Rearranged l (frontier o.then.f ++ frontiers fs) → x ≡ 40 ∷ (text o.then.f ++ (41 ∷ bytes fs)) → Due c cs l (b ∷ x)
+    go [] h p e = elim h [ ]
     go (f ∷ fs) h p e = record {
       f = node k.0 o.then.f f;
       fs = fs;
@@ -191,12 +196,12 @@ node_due {c} {cs} {l} {x} b k o = go o.then.fs o.then.fits o.then.each (o.is ∙
     }
 
 due_leaf : {c : ℕ} {cs l x : List ℕ} (b : ℕ) → ((k : Kind) → b ≡ letter k → ⊥) → Due c cs l (b ∷ x) → Num (b ∷ []) ((c - 1) ∷ cs) l x
-due_leaf {c} {cs} {l} {x} b k d = go d.f d.has d.good d.two d.each d.is
+due_leaf {c} {cs} {l} {x} b k d = go l d.f d.has d.good d.two d.each d.is
   where
-    go : (f : Forest) → 1 ≤ length (items f) → Forked f → c ≤ length (items f) → Rearranged l (frontier f ++ frontiers d.fs)
+    go : (l : List ℕ) (f : Forest) → 1 ≤ length (items f) → Forked f → c ≤ length (items f) → Rearranged l (frontier f ++ frontiers d.fs)
         → b ∷ x ≡ text f ++ (41 ∷ bytes d.fs) → Num (b ∷ []) ((c - 1) ∷ cs) l x
-    go nil h g n p e = absurd (omega arith)
-    go (leaf m f) h g n (next {k = j} p q) e =
+    go l nil h g n p e = absurd (omega arith)
+    go l (leaf m f) h g n (next {k = j} p q) e =
         let r = first_byte (digits m) (digits_nonempty m) b x (more f ++ (41 ∷ bytes d.fs)) (e ∙ simp append_assoc) in
         record {
           m = m;
@@ -208,12 +213,13 @@ due_leaf {c} {cs} {l} {x} b k d = go d.f d.has d.good d.two d.each d.is
           is = r.2;
           then = record { fs = f ∷ d.fs; fits = (omega arith, g, d.fits); each = q; is = refl };
         }
-    go (node j i f) h g n p e = absurd (k j (head-eq_of_cons-eq e))
+    go l (node j i f) h g n p e = absurd (k j (head-eq_of_cons-eq e))
 
 leaf_due : {c : ℕ} {cs l x : List ℕ} (b : ℕ) → Num (b ∷ []) ((c - 1) ∷ cs) l x → Due c cs l (b ∷ x)
 leaf_due {c} {cs} {l} {x} b d = go d.then.fs d.then.fits d.then.each (d.is ∙ ap (λ w. d.tail ++ w) d.then.is)
   where
     go : (fs : List Forest) → Fits ((c - 1) ∷ cs) fs → Rearranged d.k (frontiers fs) → x ≡ d.tail ++ bytes fs → Due c cs l (b ∷ x)
+    go [] h p e = elim h [ ]
     go (f ∷ fs) h p e = record {
       f = leaf d.m f;
       fs = fs;

@@ -47,6 +47,7 @@ tail_some : {c : ℕ} {cs l x : List ℕ} → Tail (c ∷ cs) l x → (t : List 
 tail_some {c} {cs} {l} {x} h t e = go h.fs h.fits h.is
   where
     go : (fs : List Forest) → Fits (c ∷ cs) fs → x ≡ bytes fs → ⊥
+    go [] g i = elim g [ ]
     go (f ∷ fs) g i = nil_not (t ++ more f) 41 (bytes fs) (e ∙ ap (λ w. t ++ w) i ∙ sym (append_assoc t (more f) (41 ∷ bytes fs)))
 
 not_final : (s : TextState) → final s ≡ false → Lang s [] → ⊥
@@ -103,6 +104,7 @@ to_text n x h =
 
     go : (fs : List Forest) → Fits [] fs → Rearranged (others n) (frontier d.f ++ frontiers fs)
         → x ≡ 49 ∷ 32 ∷ letter h.k ∷ 40 ∷ (text d.f ++ (41 ∷ bytes fs)) → ShapeText n x
+    go (_ ∷ _) g p e = elim g [ ]
     go [] g p e = record { tree = node h.k d.f nil; shaped = record { single = tt; forked = ((omega (arith, d.two), d.good), tt); all_leaves = p }; bytes = e }
 
 of_text : (n : ℕ) → 3 ≤ n → (x : List ℕ) → ShapeText n x → Lang (pre (49 ∷ 32 ∷ []) (others n)) x
@@ -110,6 +112,10 @@ unfolding tree_text
 of_text n b x t = go t.tree t.shaped.single t.shaped.forked t.shaped.all_leaves t.bytes
   where
     go : (f : Forest) → Single (items f) → Forked f → Rearranged (others n) (frontier f) → x ≡ tree_text f → Lang (pre (49 ∷ 32 ∷ []) (others n)) x
+    go (leaf m (leaf _ _)) s g p e = elim s [ ]
+    go (leaf m (node _ _ _)) s g p e = elim s [ ]
+    go (node k i (leaf _ _)) s g p e = elim s [ ]
+    go (node k i (node _ _ _)) s g p e = elim s [ ]
     go nil s g p e = absurd (omega (arith, perm_length p, others-length n))
     go (leaf m nil) s g p e = absurd (omega (arith, perm_length p, others-length n))
     go (node k i nil) s g p e = record {
@@ -136,6 +142,10 @@ two_text : (f : Forest) → Shaped 2 f → f ≡ leaf 2 nil
 two_text f s = go f s.single s.forked s.all_leaves
   where
     go : (f : Forest) → Single (items f) → Forked f → Rearranged (2 ∷ []) (frontier f) → f ≡ leaf 2 nil
+    go (leaf b (leaf _ _)) o g p = elim o [ ]
+    go (leaf b (node _ _ _)) o g p = elim o [ ]
+    go (node k i (leaf _ _)) o g p = elim o [ ]
+    go (node k i (node _ _ _)) o g p = elim o [ ]
     go nil o g p = absurd (omega (arith, perm_length p))
     go (leaf b nil) o g p = ap (λ x. leaf x nil) (head-eq_of_cons-eq (short_perm p (omega arith)))
     go (node k i nil) o g p = absurd (omega (arith, perm_length p, nodes_bound (node k i nil) g, g.0.0))

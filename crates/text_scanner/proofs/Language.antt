@@ -83,6 +83,8 @@ Viable (num ds c cs l) = (suc (need (c ∷ cs)) ≤ length l) × (begun ds l ≡
 Viable (after cs l) = (need cs ≤ length l) × (closes cs l ≡ true)
 
 pub fits_need : (cs : List ℕ) (fs : List Forest) → Fits cs fs → need cs ≤ length (frontiers fs)
+fits_need [] (f ∷ fs) h = elim h [ ]
+fits_need (c ∷ cs) [] h = elim h [ ]
 fits_need [] [] h = omega arith
 fits_need (c ∷ cs) (f ∷ fs) h = simp length-append (omega (arith, nodes_bound f h.1, fits_need cs fs h.2))
 

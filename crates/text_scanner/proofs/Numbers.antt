@@ -47,6 +47,7 @@ begins_snoc (y ∷ a) (x ∷ q) d = step (eqb y x) _ _ _ (begins_snoc a q d)
     step false p s r e = refl
 
 begins-one : (a : List ℕ) → NonEmpty a → (d : ℕ) → begins a (d ∷ []) ≡ same a (d ∷ [])
+begins-one [] h d = elim h [ ]
 begins-one (x ∷ []) h d = refl
 begins-one (x ∷ (y ∷ a)) h d = refl
 
