@@ -1,7 +1,6 @@
 -- The definitions, computed: the first states of xorshift32 from 1, as they are published; and a load of five bins.
 use mathlib.Core.Path.{◌≡◌, refl}
-use mathlib.Core.List.{List, [], ◌∷◌, map}
-use Prim.Native.Nat.{ℕ}
+use mathlib.Core.List.{[], ◌∷◌, map}
 use Rattle.spec_load.specs.TestLoad.{next_state, state_after, drawn, exchanged, shuffled, circle, run, runs, load}
 
 first-states : map (λ k. state_after k 1) (1 ∷ 2 ∷ 3 ∷ 4 ∷ 5 ∷ 6 ∷ []) ≡ 270369 ∷ 67634689 ∷ 2647435461 ∷ 307599695 ∷ 2398689233 ∷ 745495504 ∷ []

@@ -1,14 +1,13 @@
 -- The file of a load is an accepted ring file of n names and so many lines, it always fits 65,536 bytes, and the groups of its lines, as a reader of
 -- ring files finds them, are the load's: so they can hang together.
 use mathlib.Core.Path.{◌≡◌, refl, sym, ap, subst, ◌∙◌}
-use mathlib.Core.Logic.{◌≢◌}
 use mathlib.Core.Bool.{Bool, true, false}
 use mathlib.Core.List.{List, [], ◌∷◌, ◌++◌, map}
 use Prim.Native.Nat.{ℕ, zero, suc, ◌+◌, ◌-◌, ◌*◌, ◌≤◌, ◌<◌}
 use native.Mathlib.Omega.{arith}
 use native.Mathlib.Nat.{le_trans, mul-le-mul_left, mul-le-mul_right}
 use lib.ListN.{length, get_or, length-append, length-map}
-use Rattle.spec_orders.specs.Lists.{All, In, elem, those_of, numbers_from}
+use Rattle.spec_orders.specs.Lists.{All, elem, those_of, numbers_from}
 use Rattle.spec_orders.specs.declared.Layout.TheVariants.{Ring}
 use Rattle.spec_orders.specs.CircularOrder.{Restriction, group_of, Consecutive}
 use Rattle.spec_orders.specs.Layout.{AllOn, Possible}
@@ -18,7 +17,7 @@ use Rattle.spec_orders.proofs.ListLaws.{all_map}
 use Rattle.spec_orders.proofs.Members.{NonEmpty, all_in, in_all, in_right, in_elem, elem_in}
 use Rattle.spec_orders.proofs.Numbers.{numbers_length, numbers_distinct, in_range, numbers_in, those_agree, in_those, those_in}
 use Rattle.spec_orders.proofs.Tests.{same_tests}
-use Rattle.file_syntax.specs.RingFile.{alphabet, NameByte, Name, Names, Value, off, on, hyphen, in_group, value_word, further, line, value_lines, file_bytes, Rules, FileHolds, leaves_on}
+use Rattle.file_syntax.specs.RingFile.{alphabet, NameByte, Name, Names, Value, off, in_group, value_word, further, line, value_lines, file_bytes, Rules, FileHolds, leaves_on}
 use Rattle.file_syntax.proofs.Lists.{distinct_map}
 use Rattle.file_syntax.proofs.Exact.{parts_once}
 use Rattle.spec_load.specs.TestLoad.{load, bin_names, value_of, values, load_file}

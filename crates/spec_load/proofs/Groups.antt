@@ -8,7 +8,7 @@ use native.Mathlib.Omega.{arith}
 use lib.ListN.{length, take, drop, take-append-drop, length-take}
 use Rattle.spec_orders.specs.Lists.{All, Distinct, elem, Rearranged, numbers_from}
 use Rattle.spec_orders.specs.declared.Layout.TheVariants.{Ring}
-use Rattle.spec_orders.specs.CircularOrder.{CircularOrder, Restriction, WellFormed, group_of, Inside, Outside, Consecutive}
+use Rattle.spec_orders.specs.CircularOrder.{CircularOrder, WellFormed, group_of, Inside, Outside, Consecutive}
 use Rattle.spec_orders.specs.Layout.{Possible}
 use Rattle.spec_orders.specs.Tree.{Rotation}
 use Rattle.spec_orders.proofs.ListLaws.{all_left}
