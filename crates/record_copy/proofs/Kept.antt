@@ -32,6 +32,7 @@ at_next n l i e =
 
 at_row : (ns : List Node) (l : List ℕ) (i : ℕ) → Sound ns → i < length ns → node_at (rows_of ns ++ l) i ≡ get_or ns i zero_node
 unfolding rows_of Sound
+at_row [] l i s h = elim h [ ]
 at_row (n ∷ ns) l zero s h = ap (λ (m : List ℕ). node_at m 0) (append_assoc (row_of n) (rows_of ns) l) ∙ at_first n (rows_of ns ++ l) s.0.0 s.0.1
 at_row (n ∷ ns) l (suc i) s h = ap (λ (m : List ℕ). node_at m (suc i)) (append_assoc (row_of n) (rows_of ns) l) ∙ at_next n (rows_of ns ++ l) i s.0.1 ∙ at_row ns l i s.1 (omega arith)
 

@@ -1,11 +1,12 @@
 // The node table as it is lent, a slice of records, and its copies to and from rows of 257 numbers.
 #![tactic(auto)]
+
 ghost use Rattle.std.specs.Prelude.{◌≡◌, ◌++◌, ◌⊎◌, ◌+◌, ◌*◌, ◌<◌, ◌≤◌, length, get_or, set, take, drop};
 ghost use Rattle.record_copy.specs.Rows.{zero_node, row_of, rows_of, put_row, node_at, with_rows, Sound};
 
 // A record of the node table (docs/NODE-TABLE.md).
 #[repr(C)]
-#[derive(Drop)]
+#[derive(Clone, Copy)]
 pub struct Node {
     pub kind: u8,
     pub count: u16,
