@@ -62,7 +62,7 @@ class Enum(NamedTuple):
     @property
     def definition(self):
         """What that value is, of spec_calls/specs/Tables."""
-        return self.numbered.replace("_", "-")
+        return self.numbered
 
 
 ENUMS = {"Layout": Enum("spec_orders", "u8", "layout_numbered")}

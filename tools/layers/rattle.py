@@ -16,13 +16,14 @@ from layers.table import (
     with_nodes,
     written,
 )
-from layers.text import CODED, MADE, comment, listed, signature
+from layers.text import CODED, MADE, comment, signature
 
-REPLY = "(reply r (now (value .exit)))"
+TACTIC = "#![tactic(auto)]"
+REPLY = "(reply result value.new)"
 
 
 def at_entry(p):
-    return f"(now ({p.name} .entry))" if p.table else p.name
+    return f"{p.name}.{'old' if p.written else 'now'}" if p.table else p.name
 
 
 def coded_entry(p):
@@ -31,7 +32,7 @@ def coded_entry(p):
 
 
 def at_exit(p):
-    return f"(now ({p.name} .exit))"
+    return f"{p.name}.new"
 
 
 def declared(p, node):
@@ -45,7 +46,7 @@ def head(name, lent, result, node):
 
 
 def function(head, ensures, body):
-    return "\n".join([head, f"    ensures {{ λ r. ⌜ {ensures} ⌝ }}", "{", *("    " + line for line in body), "}"])
+    return "\n".join([head, f"    ensures {{ {ensures} }}", "{", *("    " + line for line in body), "}"])
 
 
 def with_value(call):
@@ -81,16 +82,23 @@ def c_source(crate):
     tables = [call for call in made if call in with_nodes()]
     where = f", {on_tables(made)} of rows of 257 numbers, one row a record" if tables else ""
     yield comment(f"{calls.CRATES[crate]}, for C and Rust{where}. {CODED} {MADE}")
-    yield from uses("Rattle·spec_calls.specs.Tables", ["lent-rows"] * bool(tables) + enum_uses(made) + lent_uses(made))
-    yield from uses("Rattle·spec_calls.specs.Refusals", ["reply"])
-    yield from uses("Rattle·spec_calls.specs.Promises", [call.promise for call in made])
+    yield TACTIC
+    yield from uses("Rattle.spec_calls.specs.Tables", ["lent_rows"] * bool(tables) + enum_uses(made) + lent_uses(made))
+    yield from uses("Rattle.spec_calls.specs.Refusals", ["reply"])
+    yield from uses("Rattle.spec_calls.specs.Promises", [call.promise for call in made])
     for call in made:
         body = decoded(call) + [f"let {calls.RECORDS[x]} = c_rows::records({x});" for x in node_tables(call)]
-        body += listed(f"let answer = {call.rows}::{call.name}", counted(call), ";", 96).splitlines()
+        body += called(f"let answer = {call.rows}::{call.name}", counted(call)).splitlines()
         body.append("spec_calls::code(answer, value)")
-        ensures = promise(call, coded_entry, at_exit, lambda of, p: f"(lent-rows {of} {at_entry(p)})", REPLY)
-        yield "\n" + comment(with_value(call)) + "\n#[no_mangle]"
+        ensures = promise(call, coded_entry, at_exit, lambda of, p: f"(lent_rows {of} {at_entry(p)})", REPLY)
+        yield "\n" + comment(with_value(call)) + "\n#[unsafe(no_mangle)]"
         yield function(head(f'pub extern "C" fn tokuwhape_{call.name}', coded(call.lent + " value!"), "u8", "u16"), ensures, body)
+
+
+def called(head, xs):
+    """A call whose result is named: in one line, or where that is too long with all that it takes in one line of its own."""
+    line = f"{head}({', '.join(xs)});"
+    return line if len(line) <= 96 else f"{head}(\n    {', '.join(xs)},\n);"
 
 
 def file_heads():
@@ -127,19 +135,19 @@ def c_proof(call):
     result = {x: f"(z{' .1' * i}{' .0' * (i + 1 < len(results))})" for i, x in enumerate(results)} if len(results) > 1 else dict.fromkeys(results, "z")
     entry = lambda p: result.get(p.name) or (f"(a .{p.name} .now)" if p.table else f"(a .{p.name})")
     exit = lambda p: f"(x{' .1' * passed.index(p.name)} .0)"
-    said = promise(call, entry, exit, lambda of, p: f"(lent-nodes {of} {result[calls.RECORDS[p.name]]} {entry(p)})", "").rstrip()
+    said = promise(call, entry, exit, lambda of, p: f"(lent_nodes {of} {result[calls.RECORDS[p.name]]} {entry(p)})", "").rstrip()
     yield f"-- The promise of `{call.rows}::{call.name}`, of the two numbers in which its answer is coded. {MADE}"
     if nodes:
         yield "use Prim.Native.Nat.{ℕ}"
     yield "use borrow.Author.Needs.{needs}"
-    yield from sorted({f"use Rattle·{p.enum.crate}.specs.declared.{p.type}.{{{p.type}}}" for p in values})
-    lent = ["lent-nodes"] * bool(nodes) + lent_uses([call])
+    yield from sorted({f"use Rattle.{p.enum.crate}.specs.declared.{p.type}.{{{p.type}}}" for p in values})
+    lent = ["lent_nodes"] * bool(nodes) + lent_uses([call])
     if lent:
-        yield f"use Rattle·spec_calls.specs.Tables.{{{', '.join(lent)}}}"
-    yield f"use Rattle·spec_calls.specs.Promises.{{{call.promise}}}"
-    yield f"use Rattle·c_rows.proofs.Coded.{{{'coded' if results else 'replied'}{', both' * (len(results) > 1)}}}"
-    yield f"use Rattle·{crate}·proofs.proofs.{name}.Statement.{{statement}}"
-    yield f"use Rattle·{crate}·proofs.proofs.{name}.Tie as tie\n"
+        yield f"use Rattle.spec_calls.specs.Tables.{{{', '.join(lent)}}}"
+    yield f"use Rattle.spec_calls.specs.Promises.{{{call.promise}}}"
+    yield f"use Rattle.c_rows.proofs.Coded.{{{'coded' if results else 'replied'}{', both' * (len(results) > 1)}}}"
+    yield f"use Rattle.{crate}·proofs.proofs.{name}.Statement.{{statement}}"
+    yield f"use Rattle.{crate}·proofs.proofs.{name}.Tie as tie\n"
     yield "returns : tie.Need-returns"
     yield f"returns c =\n    let a = {back(to_start)} .args in"
     if many:
@@ -166,13 +174,13 @@ def with_rows(f):
 
 def records_uses(made, reply, tables):
     """`tables`: what is used besides of spec_calls/specs/Tables."""
-    yield from uses("Rattle·spec_calls.specs.Tables", tables + lent_uses(made))
-    yield from uses("Rattle·spec_calls.specs.Refusals", [reply])
-    yield from uses("Rattle·spec_calls.specs.Promises", [call.promise for call in made])
+    yield from uses("Rattle.spec_calls.specs.Tables", tables + lent_uses(made))
+    yield from uses("Rattle.spec_calls.specs.Refusals", [reply])
+    yield from uses("Rattle.spec_calls.specs.Promises", [call.promise for call in made])
     stored = any(p.nodes for call in made for p in written(call))
-    yield from uses("Rattle·record_copy.specs.Rows", ["node-rows"] * stored)
-    yield from uses("Rattle·record_left.specs.Records", ["lent-records"] + ["Left"] * stored)
-    yield "use record_copy::Node;"
+    yield from uses("Rattle.record_copy.specs.Rows", ["node_rows"] * stored)
+    yield from uses("Rattle.record_left.specs.Records", ["lent_records"] + ["Left"] * stored)
+    yield "\nuse record_copy::Node;"
 
 
 def enum_names(made):
@@ -182,20 +190,21 @@ def enum_names(made):
 
 def on_records_head(call):
     """The comment, the head and the contract of the call on node records."""
-    return [comment(with_answer(call)), head(f"pub fn {call.name}", params(call.lent), "Answer", "Node"), f"⌜ {on_records(call, at_entry, at_exit, '(report r)')} ⌝"]
+    return [comment(with_answer(call)), head(f"pub fn {call.name}", params(call.lent), "Answer", "Node"), f"ensures {{ {on_records(call, at_entry, at_exit, '(report result)')} }}"]
 
 
 def records_source(crate):
     made = [call for call in of_crate(crate) if not call.by_hand]
     apart = "".join(f", but for `{call.name}`, which stands in {call.by_hand}" for call in of_crate(crate) if call.by_hand)
     yield comment(f"{calls.CRATES[crate]}, {on_tables(made)} of records{apart}. {MADE}")
-    yield from records_uses(made, "report", ["lent-nodes"] * any(f.in_rows for call in made for f in functions(call)))
+    yield TACTIC
+    yield from records_uses(made, "report", ["lent_nodes"] * any(f.in_rows for call in made for f in functions(call)))
     yield "use spec_calls::Answer;"
     yield from enum_names(made)
     for call in made:
         for f in functions(call):
             does, public = (with_answer(call), "pub ") if f.name == call.name else (with_rows(f), "")
-            ensures = on_records(call, at_entry, at_exit, "(report r)", f.in_rows)
+            ensures = on_records(call, at_entry, at_exit, "(report result)", f.in_rows)
             yield "\n" + comment(does)
             yield function(head(f"{public}fn {f.name}", f.params(), "Answer", "Node"), ensures, records_body(f))
 
@@ -213,9 +222,10 @@ def records_body(f):
 def tests_source():
     made = with_nodes()
     yield comment(f"The calls of crate `record_calls` on node records, for tests from C and Rust. {CODED} {MADE}")
+    yield TACTIC
     yield from records_uses(made, "reply", enum_uses(made))
     for call in made:
         body = decoded(call) + [f"let answer = record_calls::{call.name}({', '.join(names(call))});", "spec_calls::code(answer, value)"]
-        yield "\n" + comment(with_value(call)) + "\n#[no_mangle]"
+        yield "\n" + comment(with_value(call)) + "\n#[unsafe(no_mangle)]"
         made_head = head(f'pub extern "C" fn ring_{call.name}', coded(call.lent + " value!"), "u8", "Node")
         yield function(made_head, on_records(call, coded_entry, at_exit, REPLY), body)

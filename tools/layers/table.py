@@ -89,7 +89,7 @@ def functions(call):
 def of_book(call, words, entry):
     """A book with these words, and what else of it the call is lent."""
     by_name = {p.name: p for p in params(call.lent)}
-    return " ".join(["(lent-book", words, *(entry(by_name[x]) if x in by_name else "0" for x in calls.OF_BOOK)]) + ")"
+    return " ".join(["(lent_book", words, *(entry(by_name[x]) if x in by_name else "0" for x in calls.OF_BOOK)]) + ")"
 
 
 def lent(call, entry, nodes):
@@ -113,20 +113,20 @@ def promise(call, entry, exit, nodes, said):
 
 def lent_table(of, p, entry, in_rows):
     """A node table of such a ring or rack: of records, or of rows with their number where it is among `in_rows`."""
-    return f"(lent-nodes {of} {calls.RECORDS[p.name]} {entry(p)})" if p.name in in_rows else f"(lent-records {of} {entry(p)})"
+    return f"(lent_nodes {of} {calls.RECORDS[p.name]} {entry(p)})" if p.name in in_rows else f"(lent_records {of} {entry(p)})"
 
 
 def on_records(call, entry, exit, said, in_rows=()):
     """The promise on node records: where they are written, with what is left of them. The tables `in_rows` are lent as rows."""
     stored = [p.name for p in written(call) if p.nodes and p.name not in in_rows]
-    rows = lambda p: f"(node-rows {exit(p)})" if p.name in stored else exit(p)
+    rows = lambda p: f"(node_rows {exit(p)})" if p.name in stored else exit(p)
     text = promise(call, entry, rows, lambda of, p: lent_table(of, p, entry, in_rows), said)
     return text + "".join(f" × Left {entry(p)} {exit(p)} {said}" for p in written(call) if p.name in stored)
 
 
 def lent_uses(made):
     """The definitions of spec_calls/specs/Tables that the promises of these calls are stated with."""
-    return ["lent-book"] * any("book" in names(call) for call in made)
+    return ["lent_book"] * any("book" in names(call) for call in made)
 
 
 def enum_uses(made):
