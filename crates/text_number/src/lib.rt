@@ -1,5 +1,6 @@
 // The numbers of a tree text: which unused leaf its digits name.
 #![tactic(auto)]
+
 ghost use Rattle.std.specs.Prelude.{◌≡◌, true, ◌↔◌, ◌+◌, ◌≤◌, length};
 ghost use Rattle.text_scanner.specs.Scan.{sep?};
 ghost use Rattle.text_scanner.specs.Unused.{any_start};
