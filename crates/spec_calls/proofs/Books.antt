@@ -171,6 +171,7 @@ booked_form n book G lent place_left within = record {
         (λ k i. go k (in_append k (numbers_from 0 c) ((0 + c) ∷ []) (subst (λ (l : List ℕ). In k l) (numbers_append 0 c 1) i)))
       where
         go : (k : ℕ) → In k (numbers_from 0 c) ⊎ In k ((0 + c) ∷ []) → Fine k ≡ true
+        go k (inr (inr x'')) = elim x'' [ ]
         go k (inl i) =
             ap (group_in_form? n) (before book.words c G room k (omega (arith, (in_range 0 c k i).1)))
             ∙ group_form n book k lent (omega (arith, (in_range 0 c k i).1))

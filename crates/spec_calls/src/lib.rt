@@ -1,5 +1,6 @@
 // What the calls answer. specs/ says, for each call, what it answers and what every lent table holds afterwards.
 #![tactic(auto)]
+
 ghost use Rattle.std.specs.Prelude.{◌≡◌};
 ghost use Rattle.spec_calls.specs.Tables.{layout_numbered};
 ghost use Rattle.spec_calls.specs.Refusals.{reply, reported, report};
@@ -8,7 +9,7 @@ use spec_orders::Layout;
 
 // Why a call is refused, by the numbers of the table "What a call refuses". A place counts from 0 in the group's list, a byte from 0 in the
 // text or file.
-#[derive(Drop)]
+#[derive(Clone, Copy)]
 pub enum Refusal {
     RingSize,
     ShortTable,
@@ -29,7 +30,7 @@ pub enum Refusal {
 }
 
 // A call's answer: done, with the number that the call returns, or refused.
-#[derive(Drop)]
+#[derive(Clone, Copy)]
 pub enum Answer {
     Done(usize),
     Refused(Refusal),
