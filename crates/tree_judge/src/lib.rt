@@ -1,6 +1,7 @@
 // The judge: each item of a tree in tokens is labelled with its state under a restriction. The state of the whole tree says whether the
 // restriction is possible.
 #![tactic(auto)]
+
 ghost use Rattle.std.specs.Prelude.{◌≡◌, ◌++◌, ℕ, ◌<◌, ◌≤◌, length, take};
 ghost use Rattle.std.proofs.Math.Seq.{slice};
 ghost use Rattle.mark_words.specs.Marks.{marked};
