@@ -1,5 +1,6 @@
 // What a reader must believe of orders and trees is in specs/, and its theorems in proofs/. In code: the layouts.
 #![tactic(auto)]
+
 ghost use Rattle.std.specs.Prelude.{◌≡◌, ◌≤◌};
 ghost use Rattle.spec_orders.specs.Layout.{leaf_count};
 
