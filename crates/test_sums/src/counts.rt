@@ -1,6 +1,8 @@
 // How many cases had each outcome: 4n + 1 done as in the file, 4n + 2 refused as in the file, 4n + 3 another answer.
 ghost use Rattle.std.specs.Prelude.{◌≤◌, ◌*◌};
 
+use std::io;
+
 // One more at i, where there is room.
 pub fn add(sums: &mut [u64], i: usize) {
     if i >= sums.len() {
@@ -28,7 +30,7 @@ fn get(sums: &[u64], i: usize) -> u64
 }
 
 // Prints a line for each n that has cases, and one for all.
-pub fn print(sums: &[u64]) {
+pub fn print(rt: &impl Print, sums: &[u64]) -> io::Result<()> {
     let mut n = 0;
     let mut kept: u64 = 0;
     let mut none: u64 = 0;
@@ -37,43 +39,28 @@ pub fn print(sums: &[u64]) {
         let a = get(sums, 4 * n + 1);
         let b = get(sums, 4 * n + 2);
         let c = get(sums, 4 * n + 3);
-        family(n as u64, a, b, c);
+        family(rt, n as u64, a, b, c)?;
         kept += a;
         none += b;
         bad += c;
         n += 1;
     }
-    say(b"total: ");
-    numbers(kept + none + bad, none, bad);
+    print!(rt; "total: ")?;
+    numbers(rt, kept + none + bad, none, bad)
 }
 
 // The line of one n.
-fn family(n: u64, kept: u64, none: u64, bad: u64)
+fn family(rt: &impl Print, n: u64, kept: u64, none: u64, bad: u64) -> io::Result<()>
     requires { (kept ≤ 1000000) × (none ≤ 1000000) × (bad ≤ 1000000) }
 {
     let all = kept + none + bad;
     if all == 0 {
-        return;
+        return Ok(());
     }
-    say(b"n ");
-    number(n);
-    say(b": ");
-    numbers(all, none, bad);
+    print!(rt; "n {n}: ")?;
+    numbers(rt, all, none, bad)
 }
 
-fn numbers(all: u64, none: u64, bad: u64) {
-    number(all);
-    say(b" cases, ");
-    number(none);
-    say(b" refused, ");
-    number(bad);
-    say(b" bad\n");
-}
-
-fn say(text: &[u8]) {
-    io::write_all(1, text);
-}
-
-fn number(n: u64) {
-    io::print_decimal(1, n);
+fn numbers(rt: &impl Print, all: u64, none: u64, bad: u64) -> io::Result<()> {
+    println!(rt; "{all} cases, {none} refused, {bad} bad")
 }

@@ -1,39 +1,37 @@
 // What the programs of the outside vectors print: checksums of tables, and counts of outcomes.
 #![tactic(auto)]
+
 ghost use Rattle.std.specs.Prelude.{◌≤◌};
 
 mod counts;
 
 pub use counts::{add, print};
+use std::io;
 
-// Prints the checksums of the two tables, and ends the line. So do the three below.
-pub fn ring(nodes: &[u16], book: &[u64]) {
-    sums(sum16(nodes), sum64(book));
+// Prints the checksums of the two tables, and ends the line. So do the three below. Each fails where a write fails.
+pub fn ring(rt: &impl Print, nodes: &[u16], book: &[u64]) -> io::Result<()> {
+    sums(rt, sum16(nodes), sum64(book))
 }
 
-pub fn nodes_and_order(nodes: &[u16], order: &[u16]) {
-    sums(sum16(nodes), sum16(order));
+pub fn nodes_and_order(rt: &impl Print, nodes: &[u16], order: &[u16]) -> io::Result<()> {
+    sums(rt, sum16(nodes), sum16(order))
 }
 
-pub fn nodes_and_text(nodes: &[u16], bytes: &[u8]) {
-    sums(sum16(nodes), sum8(bytes));
+pub fn nodes_and_text(rt: &impl Print, nodes: &[u16], bytes: &[u8]) -> io::Result<()> {
+    sums(rt, sum16(nodes), sum8(bytes))
 }
 
-pub fn book_and_conflicts(book: &[u64], conflicts: &[u16]) {
-    sums(sum64(book), sum16(conflicts));
+pub fn book_and_conflicts(rt: &impl Print, book: &[u64], conflicts: &[u16]) -> io::Result<()> {
+    sums(rt, sum64(book), sum16(conflicts))
 }
 
-fn sums(first: u64, second: u64) {
-    io::write_all(1, b" :");
-    number(first);
-    number(second);
-    io::write_all(1, b"\n");
+fn sums(rt: &impl Print, first: u64, second: u64) -> io::Result<()> {
+    println!(rt; " : {first} {second}")
 }
 
 // Prints a space and a number.
-pub fn number(x: u64) {
-    io::write_all(1, b" ");
-    io::print_decimal(1, x);
+pub fn number(rt: &impl Print, x: u64) -> io::Result<()> {
+    print!(rt; " {x}")
 }
 
 // The checksum of a table with one number more.
