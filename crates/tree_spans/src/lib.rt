@@ -1,6 +1,7 @@
 // The items of one state at the start of a judged sequence. A leaf whose state has the number s is the token 16b + s, so it is passed by one
 // test and without its size: the walks of the update are runs of such leaves.
 #![tactic(auto)]
+
 ghost use Rattle.std.specs.Prelude.{◌≡◌, ◌≤◌, length};
 ghost use Rattle.tree_tokens.specs.Tokens.{Judged, encode, Tokens};
 ghost use Rattle.tree_spans.specs.Spans.{is, is_not, Parted};
