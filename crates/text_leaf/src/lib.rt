@@ -1,5 +1,6 @@
 // A leaf of a tree text, read into its token; the letter and the token of a node.
 #![tactic(auto)]
+
 ghost use Rattle.std.specs.Prelude.{◌≡◌, false, ℕ, ◌+◌, ◌-◌, ◌*◌, ◌≤◌, ◌<◌, length, get_or};
 ghost use Rattle.tree_tokens.specs.Tokens.{E, node_token};
 ghost use Rattle.text_scanner.specs.Scan.{letter?};
