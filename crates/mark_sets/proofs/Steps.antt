@@ -17,7 +17,7 @@ use Rattle.spec_orders.specs.Lists.{all_of}
 use Rattle.mark_words.specs.Marks.{bit, marked, word_of, leaves_of, no_mark?, outside}
 use Rattle.spec_orders.proofs.Members.{all_passed}
 use Rattle.spec_orders.proofs.Tests.{both, false_if}
-use Rattle.mark_words.proofs.Word.{word_is, word_ext, no_marks, bit_and, bit_xor, bit_ones, bit_past}
+use Rattle.mark_words.proofs.Word.{word_is, word_ext, no_marks, bit_of_and, bit_of_xor, bit_ones, bit_past}
 use Rattle.mark_words.proofs.Words.{Words, marked_at}
 use Rattle.mark_words.proofs.Leaves.{marked_leaf, no_mark, by_mark}
 
@@ -42,8 +42,8 @@ pub outside_word : (ws : List ℕ) (n i : ℕ) → Words ws → bit_xor (low n i
 outside_word ws n i v =
     word_is (outside n (marked ws)) (64 * i) (bit_xor (low n i) (bit_and w (low n i))) 64
     (xor_lt 64 (low n i) (bit_and w (low n i)) (low_lt n i) (and_lt 64 w (low n i) (v i) (low_lt n i)))
-    (λ j h. bit_xor (low n i) (bit_and w (low n i)) j
-    ∙ ap (λ (b : Bool). cond (bit (low n i) j) (not b) b) (bit_and w (low n i) j)
+    (λ j h. bit_of_xor (low n i) (bit_and w (low n i)) j
+    ∙ ap (λ (b : Bool). cond (bit (low n i) j) (not b) b) (bit_of_and w (low n i) j)
     ∙ less (bit (low n i) j) (bit w j)
     ∙ ap₂ (λ (a b : Bool). a && not b) (low_bit n i j h) (sym (marked_at ws i j h)))
   where
@@ -63,7 +63,7 @@ within_all ws n h =
     (all_passed (λ b. leb b n) (leaves_of ws)).1
     (by_mark ws (λ x. leb x n ≡ true)
     (λ i j k l b. sym (low_bit n i j l)
-    ∙ ((both {a = bit (get_or ws i 0) j} {b = bit (low n i) j} Iff.rfl Iff.rfl).0 (sym (bit_and (get_or ws i 0) (low n i) j) ∙ ap (λ (w : ℕ). bit w j) (h i k) ∙ b)).1))
+    ∙ ((both {a = bit (get_or ws i 0) j} {b = bit (low n i) j} Iff.rfl Iff.rfl).0 (sym (bit_of_and (get_or ws i 0) (low n i) j) ∙ ap (λ (w : ℕ). bit w j) (h i k) ∙ b)).1))
 
 pub within_not : (ws : List ℕ) (n i : ℕ) → Words ws → bit_and (get_or ws i 0) (low n i) ≢ get_or ws i 0 → all_of (λ b. leb b n) (leaves_of ws) ≡ false
 within_not ws n i v h = false_if (all_of (λ b. leb b n) (leaves_of ws)) (λ e. h (word_ext (bit_and w (low n i)) w 64 (and_lt 64 w (low n i) (v i) (low_lt n i)) (v i) (same e)))
@@ -72,7 +72,7 @@ within_not ws n i v h = false_if (all_of (λ b. leb b n) (leaves_of ws)) (λ e. 
     w = get_or ws i 0
 
     same : all_of (λ b. leb b n) (leaves_of ws) ≡ true → (j : ℕ) → j < 64 → bit (bit_and w (low n i)) j ≡ bit w j
-    same e j l = bit_and w (low n i) j ∙ go (bit w j) refl
+    same e j l = bit_of_and w (low n i) j ∙ go (bit w j) refl
       where
         go : (b : Bool) → bit w j ≡ b → (b && bit (low n i) j) ≡ b
         go true f = low_bit n i j l ∙ (all_passed (λ b. leb b n) (leaves_of ws)).0 e (64 * i + suc j) (marked_leaf ws (64 * i + suc j) (marked_at ws i j l ∙ f))

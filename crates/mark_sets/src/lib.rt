@@ -1,5 +1,6 @@
 // Sets of leaves as mark words, all at once: the leaves outside a set, whether it is within 1 to n, whether it is empty, and its size.
 #![tactic(auto)]
+
 ghost use Rattle.std.specs.Prelude.{◌≡◌, ◌≤◌, ◌-◌, ◌^◌, min, leb, length, [], ◌∷◌};
 ghost use Rattle.std.specs.Int.Count.{ones};
 ghost use Rattle.spec_orders.specs.Lists.{all_of};

@@ -1,0 +1,12 @@
+use Prim.Native.Nat.{◌-◌, ◌*◌}
+use mathlib.Core.Path.{◌≡◌}
+use lib.ListN.{length}
+use Rattle.mark_words.specs.Marks.{marked, outside}
+use Rattle.mark_words.proofs.Words.{Words, Written}
+use Rattle.mark_sets.proofs.complement.Given as goal
+
+abbrev pub invariant-loop-i : goal.invariant-loop-i
+invariant-loop-i l = Written (outside l.n (marked l.initial.words)) l.i l.initial.words l.words × ((l.left ≡ l.n - 64 * l.i) × Words l.initial.words)
+
+abbrev pub decreases-loop-i : goal.decreases-loop-i
+decreases-loop-i l = length l.initial.words - l.i
