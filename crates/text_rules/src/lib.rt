@@ -1,5 +1,6 @@
 // The P and C rules of a tree text, on its tokens: the least byte at which one is broken.
 #![tactic(auto)]
+
 ghost use Rattle.std.specs.Prelude.{◌≡◌, cond, ◌&&◌, ◌+◌, ◌*◌, ◌≤◌, ◌<◌, ltb, length};
 ghost use Rattle.spec_orders.specs.Tree.{Kind, C};
 ghost use Rattle.spec_orders.specs.TreeText.{digits};

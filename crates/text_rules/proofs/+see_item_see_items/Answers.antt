@@ -1,0 +1,62 @@
+use mathlib.Core.Path.{◌≡◌, refl, sym, ap, ◌∙◌}
+use Prim.Native.Nat.{◌+◌}
+use native.Mathlib.Omega.{arith}
+use lib.Dec.{eqb}
+use lib.ListN.{length, length-drop}
+use Rattle.spec_orders.specs.TreeText.{digits}
+use Rattle.spec_orders.proofs.ListLaws.{part_to_end}
+use Rattle.tree_tokens.specs.Tokens.{encode}
+use Rattle.tree_tokens.specs.Views.{shape_of, items_of, rest_of}
+use Rattle.tree_tokens.proofs.Laws.{at_end, part_rest}
+use Rattle.tree_tokens.proofs.Steps.{here, at_last, next_item}
+use Rattle.text_rules.proofs.Seeing.{kind_in, kind_shape, first_size, saw_none, saw_leaf, saw_node, goes_start, goes_next, goes_end}
+use Prim.Native.Nat.{◌<◌}
+use Rattle.text_rules.proofs.+see_item_see_items.Goals as goal
+
+pub see_item-returns-then-s-eq1 : goal.see_item-returns-then-s-eq1
+see_item-returns-then-s-eq1 t c = λ j e.
+    let some : 0 < length (encode j) = omega (arith, ap length e, c.requires.1) in
+    let one = sym (c.shape-s.ensures j e) ∙ c.if-s-eq1.true in
+    let b = c.leaf-b.ensures j e one in (
+      omega (arith, c.digit_count.ensures.0, first_size j some),
+      saw_leaf j c.args.o one b b (ap (λ d. c.args.o + d) (c.digit_count.ensures.1 ∙ ap (λ v. length (digits v)) b)) refl,
+    )
+
+pub see_item-returns : goal.see_item-returns
+see_item-returns t c = λ j e.
+    let some : 0 < length (encode j) = omega (arith, ap length e, c.requires.1) in
+    let no : shape_of j ≡ 1 → ⊥ = λ g. c.if-s-eq1.false (c.shape-s.ensures j e ∙ g) in
+    let i = c.items.ensures.1 j e in
+    let kinds = kind_shape j some no in
+    let w = c.see_items-r.ensures.1 (items_of j) (kind_in j) i (ap (λ s. eqb s 2) (c.shape-s.ensures j e) ∙ kinds.0) in (
+      omega (arith, c.see_items-r.ensures.0, first_size j some, ap length i),
+      saw_node j c.args.o some no w refl refl refl (rw (← kinds.1, ← c.shape-s.ensures j e) c.broken_or.ensures),
+    )
+
+pub see_items-returns-then-toks-eq0 : goal.see_items-returns-then-toks-eq0
+see_items-returns-then-toks-eq0 t c = (omega arith, λ j k e r. rw (at_end j e c.if-toks-eq0.true) (saw_none k c.args.o refl refl refl refl))
+
+pub see_items-loop-i-init : goal.see_items-loop-i-init
+see_items-loop-i-init t c =
+    let p = c.requires.0 in (
+      c.size-i.ensures.1,
+      omega (arith, (c.see_item-seen.ensures p.0 p.1).0, c.size-i.ensures.2 p.0 p.1),
+      record {
+        at = λ j e.
+            let some : 0 < length (encode j) = omega (arith, ap length e, c.if-toks-eq0.false) in
+            (rest_of j, sym (part_to_end c.args.toks.now c.size-i.result) ∙ part_rest j e (c.size-i.ensures.2 j e), λ k r. goes_start k c.args.o j c.requires.1 some (c.see_item-seen.ensures j e).1);
+      },
+    )
+
+pub see_items-loop-i-preserved : goal.see_items-loop-i-preserved
+see_items-loop-i-preserved t c =
+    let p = c.requires.0 in
+    let h = here c.loop-i.invariant.2 c.loop-i-test.true p.0 p.1 in (
+      omega (arith, c.size-i-in-loop-i.ensures.1, length-drop c.loop-i.i c.args.toks.now),
+      omega (arith, c.loop-i.invariant.1, (c.see_item-t.ensures h.0 h.1.part).0, c.size-i-in-loop-i.ensures.2 h.0 h.1.part),
+      next_item c.loop-i.invariant.2 c.loop-i-test.true c.size-i-in-loop-i.ensures.2 (λ j f q g k r.
+          goes_next f (g k r) q.some (c.see_item-t.ensures f q.part).1 refl refl refl (rw (← r, ← c.broken_or-p.ensures) c.or_else.ensures)),
+    )
+
+pub see_items-returns : goal.see_items-returns
+see_items-returns t c = (omega (arith, c.loop-i.invariant.0, c.loop-i.invariant.1), λ j k e r. goes_end (at_last c.loop-i.invariant.2 c.loop-i-test.false j e k r))
