@@ -1,5 +1,6 @@
 // The leaves of a tree in tokens, from left to right: the P-node walk and the C-node walk.
 #![tactic(auto)]
+
 ghost use Rattle.std.specs.Prelude.{◌≡◌, length};
 ghost use Rattle.spec_orders.specs.Tree.{frontier};
 ghost use Rattle.tree_tokens.specs.Tokens.{Judged, tree, encode, Wrote};
