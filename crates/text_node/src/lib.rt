@@ -1,5 +1,6 @@
 // The items and nodes of a tree text, read into tokens.
 #![tactic(auto)]
+
 ghost use Rattle.std.specs.Prelude.{false, ◌+◌, ◌-◌, ◌*◌, ◌≤◌, ◌<◌, length};
 ghost use Rattle.text_leaf.specs.Passages.{Marks, ItemRead, ItemsRead, OpenedRead};
 
