@@ -1,9 +1,13 @@
 // What the programs of the outside vectors read: a file, and its numbers, layouts, leaves and bytes.
 #![tactic(auto)]
+
 ghost use Rattle.std.specs.Prelude.{◌≤◌, ◌≡◌, length};
-ghost use Rattle.io.specs.Counts.{IsPrefixLen};
+ghost use Rattle.std.specs.Io.{ReadsAtMost};
 
 use spec_orders::Layout;
+use std::io::Read;
+use std::rt::Files;
+use std::{fs, io};
 
 // 1,048,576 zeros: more than any of the files has.
 pub fn buffer() -> [u8; 1048576]
@@ -12,18 +16,21 @@ pub fn buffer() -> [u8; 1048576]
     [0; 1048576]
 }
 
-// Reads the file to the start of the table, as much as there is room for, and answers how many bytes. Where it does not open, that is 0, and
-// standard error says why.
-pub fn read_file(name: &[u8], table: &mut [u8]) -> usize
-    ensures { IsPrefixLen result table.new }
+// Reads the file to the start of the table, as much as there is room for, and answers how many bytes. Fails where it does not open or a read fails:
+// then the start of the table may hold what was read before.
+pub fn read_file(rt: &impl Files, name: &str, table: &mut [u8]) -> io::Result<usize>
+    ensures { ReadsAtMost result table.new }
 {
-    let fd = os::open_read(name);
-    if fd < 0 {
-        os::fail(name);
+    let mut file = fs::open(rt, name)?;
+    let mut done = 0;
+    while done < table.len() {
+        let n = file.read(&mut table[done..])?;
+        if n == 0 {
+            break;
+        }
+        done += n;
     }
-    let n = io::read_full(fd, table);
-    libc::close(fd);
-    n
+    Ok(done)
 }
 
 // Where b is next, from a place on; the end where there is none.
