@@ -15,29 +15,23 @@ LARGEST = 2 ** 64 - 1
 
 
 class Random:
-    """The generator of test loads, Marsaglia's xorshift32, so that the script is the same everywhere."""
+    """A linear congruential generator, so that the script is the same everywhere."""
 
     def __init__(self, seed):
         self.x = seed
 
-    def draw(self, k):
-        """A number from 1 to k: the next state modulo k, plus 1."""
-        self.x ^= self.x << 13 & 2 ** 32 - 1
-        self.x ^= self.x >> 17
-        self.x ^= self.x << 5 & 2 ** 32 - 1
-        return self.x % k + 1
-
     def below(self, k):
-        return self.draw(k) - 1
+        self.x = (self.x * 6364136223846793005 + 1442695040888963407) % 2 ** 64
+        return (self.x >> 33) % k
 
     def pick(self, xs):
         return xs[self.below(len(xs))]
 
     def shuffled(self, xs):
         xs = list(xs)
-        for i in range(len(xs), 1, -1):
-            j = self.draw(i)
-            xs[i - 1], xs[j - 1] = xs[j - 1], xs[i - 1]
+        for i in range(len(xs) - 1, 0, -1):
+            j = self.below(i + 1)
+            xs[i], xs[j] = xs[j], xs[i]
         return xs
 
 

@@ -16,7 +16,7 @@ const LONGEST: usize = 9;
 /// How often a call that leaves the ring as it is, a conflict call apart, is made in a round.
 const TIMES: usize = 10;
 const GROUPS: usize = 96;
-/// Seeds of test loads.
+/// First states of the generator.
 const SEED: u32 = 2_463_534_242;
 const OTHER_SEED: u32 = 362_436_069;
 
@@ -39,8 +39,6 @@ trait Planner {
     fn name(&mut self, file: &[u8]);
     /// The group of the ring file's last line, 96 in all after a names line of `head` bytes.
     fn group(&mut self, file: &[u8], head: usize);
-    /// The ring file of 96 groups that are drawn from a seed.
-    fn test_load(&mut self, seed: u32);
     /// Puts the list's group into the book's next place, whatever the tree.
     fn book(&mut self, list: &[u16]);
     /// The tree text.
@@ -67,7 +65,7 @@ macro_rules! planner {
             fn fresh(layout: $planner::Layout, n: usize) -> Box<dyn Planner> {
                 let nodes = vec![$planner::Node { kind: 0, count: 0, items: [0; 255] }; 256];
                 let (other, third, book) = (nodes.clone(), nodes.clone(), vec![0; 4 * GROUPS]);
-                let (order, conflicts, bytes) = (vec![0; n], vec![0; GROUPS], vec![0; tokuwhape::FILE]);
+                let (order, conflicts, bytes) = (vec![0; n], vec![0; GROUPS], vec![0; 2048]);
                 let mut fresh = $name { layout, n, nodes, other, third, book, count: 0, order, conflicts, bytes };
                 fresh.open();
                 Box::new(fresh)
@@ -115,9 +113,6 @@ macro_rules! planner {
             fn group(&mut self, file: &[u8], head: usize) {
                 black_box($group_of(file, self.n, head, GROUPS - 1, &mut self.order));
             }
-            fn test_load(&mut self, seed: u32) {
-                black_box($planner::test_load(self.n, seed, GROUPS, &mut self.bytes).expect("a test load"));
-            }
             fn book(&mut self, list: &[u16]) {
                 self.book[4 * self.count..4 * self.count + 4].copy_from_slice(&marks(list));
                 self.count += 1;
@@ -148,19 +143,28 @@ fn marks(list: &[u16]) -> [u64; 4] {
     words
 }
 
-/// So many groups that are runs of one random order: of a circular one, those of a test load. Of a straight one, those of the ring of n + 1 leaves,
-/// each that has the hidden end exchanged for the leaves that it has not; one of all n + 1 is an empty group then. With SEED the 96th, whose aim is
-/// timed, has a leaf.
+/// The next state of a xorshift32 generator, modulo k.
+fn draw(state: &mut u32, k: usize) -> usize {
+    *state ^= *state << 13;
+    *state ^= *state >> 17;
+    *state ^= *state << 5;
+    *state as usize % k
+}
+
+/// So many groups that are runs of one random order: of a circular one, of 1 to n - 1 leaves each; of a straight one, up to its end at the most.
 fn runs(layout: Layout, seed: u32, n: usize, many: usize) -> Vec<Vec<u16>> {
-    if layout == Ring {
-        return plain::groups(n, seed, many);
+    let mut state = seed;
+    let mut order: Vec<u16> = (1..=n as u16).collect();
+    for i in (1..n).rev() {
+        order.swap(i, draw(&mut state, i + 1));
     }
-    let hidden = n as u16 + 1;
-    let straight = |group: Vec<u16>| match group.contains(&hidden) {
-        true => (1..hidden).filter(|leaf| !group.contains(leaf)).collect(),
-        false => group,
-    };
-    plain::groups(n + 1, seed, many).into_iter().map(straight).collect()
+    let mut groups = Vec::new();
+    for _ in 0..many {
+        let start = draw(&mut state, n);
+        let length = 1 + draw(&mut state, if layout == Ring { n - 1 } else { n - start });
+        groups.push((start..start + length).map(|i| order[i % n]).collect());
+    }
+    groups
 }
 
 /// A book of 96 groups and a group that cannot join it. The leaves from 1 on, one left over, stand in blocks of these sizes in turn, 97 blocks at the
@@ -408,7 +412,7 @@ fn deep_rack_rows(n: usize) -> Vec<Row> {
     ]
 }
 
-/// The calls on a ring file with n names, and the test load that writes one.
+/// The calls on a ring file with n names.
 fn file_rows(n: usize) -> Vec<Row> {
     let opened = both_planners;
     let groups = &runs(Ring, SEED, n, GROUPS);
@@ -420,7 +424,6 @@ fn file_rows(n: usize) -> Vec<Row> {
         ("scan", short(opened(n), |ring| assert_eq!(ring.scan(black_box(&file)), head))),
         ("name", short(opened(n), |ring| ring.name(black_box(&file)))),
         ("group", short(opened(n), |ring| ring.group(black_box(&file), head))),
-        ("test load", short(opened(n), |ring| ring.test_load(black_box(SEED)))),
     ]
 }
 

@@ -6,7 +6,7 @@ ghost use Rattle.tree_tokens.specs.Tokens.{Judged, tree, encode, Wrote};
 ghost use Rattle.tree_frontier.specs.Room.{Room};
 ghost use Rattle.text_write.specs.Around.{opening, gap, closing};
 
-use byte_write::write_number;
+pub use byte_write::write_number;
 
 // Writes what stands before the first item's items: a leaf's digits, or a node's letter and bracket. Says how many bytes.
 fn write_opening(toks: &[u16], out: &mut [u8]) -> usize

@@ -91,13 +91,13 @@ fn check_grown(random: &mut Random, layout: Layout, n: usize, times: usize) {
 
 #[test]
 fn rings_against_all_orders() {
-    let mut random = Random::new(1);
+    let mut random = Random(1);
     (1..=6).for_each(|n| check_grown(&mut random, Ring, n, 20));
 }
 
 #[test]
 fn racks_against_all_orders() {
-    let mut random = Random::new(9);
+    let mut random = Random(9);
     (1..=5).for_each(|n| check_grown(&mut random, Rack, n, 20));
     check_grown(&mut random, Rack, 6, 6);
 }
@@ -121,7 +121,7 @@ fn aims_of_racks() {
 
 #[test]
 fn runs_of_a_hidden_order() {
-    let mut random = Random::new(2);
+    let mut random = Random(2);
     for n in [3, 7, 20, 64, 100, 255, 256] {
         for limit in [3, 16, n] {
             let (layout, hidden) = (random.layout(n), random.shuffled(n));

@@ -61,7 +61,7 @@ fn call_all(random: &mut Random, bins: &mut Bins) -> bool {
 
 #[test]
 fn damaged_tables() {
-    let mut random = Random::new(3);
+    let mut random = Random(3);
     let mut accepted = 0;
     for n in (1..=9).cycle().take(6_000).chain([64, 255, 256].into_iter().cycle().take(150)) {
         let mut bins = grown(&mut random, n);
@@ -77,7 +77,7 @@ fn damaged_tables() {
 
 #[test]
 fn tables_of_noise() {
-    let mut random = Random::new(4);
+    let mut random = Random(4);
     for _ in 0..100 {
         let n = 1 + random.below(256);
         let noise = |random: &mut Random| Node {
@@ -93,7 +93,7 @@ fn tables_of_noise() {
 
 #[test]
 fn damaged_texts() {
-    let mut random = Random::new(5);
+    let mut random = Random(5);
     for _ in 0..4_000 {
         let n = 1 + random.below(14);
         let grown = grown(&mut random, n);

@@ -51,7 +51,7 @@ fn all_pairs_of_small_trees() {
 
 #[test]
 fn random_pairs_of_trees() {
-    let mut random = Random::new(7);
+    let mut random = Random(7);
     for (layout, leaves) in [(Ring, 5), (Ring, 6), (Rack, 5), (Rack, 6)] {
         let trees = trees(layout, leaves);
         let mut done = 0;
@@ -90,7 +90,7 @@ fn check_grown(random: &mut Random, n: usize, odd: usize) -> bool {
 
 #[test]
 fn against_joining() {
-    let mut random = Random::new(8);
+    let mut random = Random(8);
     let sizes = (3..20).cycle().take(1_500).chain([63, 64, 65, 100, 255, 256].into_iter().cycle().take(150));
     let done = sizes.filter(|&n| check_grown(&mut random, n, [1_000, 40][n % 2])).count();
     assert!((800..1_600).contains(&done), "{done}");

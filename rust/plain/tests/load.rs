@@ -78,7 +78,7 @@ fn check_load(n: usize, seed: u32, many: usize) {
 
 #[test]
 fn loads_of_every_size_hang_together() {
-    let mut random = Random::new(10);
+    let mut random = Random(10);
     for n in 1..=256 {
         check_load(n, 1 + random.below(u32::MAX as usize) as u32, 96);
     }
@@ -86,7 +86,7 @@ fn loads_of_every_size_hang_together() {
 
 #[test]
 fn loads_of_many_seeds_hang_together() {
-    let mut random = Random::new(11);
+    let mut random = Random(11);
     for seed in (1..=40).chain((0..32).map(|k| 1 << k)).chain([u32::MAX, u32::MAX - 1]) {
         check_load(1 + random.below(20), seed, 1 + random.below(96));
     }

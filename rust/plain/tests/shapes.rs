@@ -9,7 +9,7 @@ use std::collections::HashSet;
 
 #[test]
 fn bytes_against_all_shapes() {
-    let mut random = Random::new(6);
+    let mut random = Random(6);
     for n in 3..=5 {
         let texts = shapes(n);
         let whole: HashSet<&[u8]> = texts.iter().map(|text| text.as_bytes()).collect();

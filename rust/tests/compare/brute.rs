@@ -193,7 +193,7 @@ impl Watched {
 }
 
 /// Joins random groups to fresh rings or racks of 1 to 6 leaves, `times` for each leaf, and compares each answer with all orders.
-fn check_grown(seed: u32, layout: Layout, times: usize) {
+fn check_grown(seed: u64, layout: Layout, times: usize) {
     let mut draw = Draw::new(seed);
     for n in 1..=6 {
         let size = Size { layout, n };
@@ -211,18 +211,18 @@ fn check_grown(seed: u32, layout: Layout, times: usize) {
 
 #[test]
 fn small_rings_allow_what_all_orders_say() {
-    check_grown(0x0123_4567, Ring, 40);
+    check_grown(0x0123_4567_89ab_cdef, Ring, 40);
 }
 
 #[test]
 fn small_racks_allow_what_all_orders_say() {
-    check_grown(0x89ab_cdef, Rack, 20);
+    check_grown(0x89ab_cdef_0123_4567, Rack, 20);
 }
 
 /// Joins random groups to trees of 3 to 6 leaves that were read from texts.
 #[test]
 fn small_trees_allow_what_all_orders_say() {
-    let mut draw = Draw::new(0xfedc_ba98);
+    let mut draw = Draw::new(0xfedc_ba98_7654_3210);
     let mut accepted = 0;
     for _ in 0..2_000 {
         let (layout, leaves) = (draw.pick(&[Ring, Rack]), 3 + draw.below(4));
@@ -258,7 +258,7 @@ fn every_two_groups_of_five_leaves() {
 /// Intersects random trees of 1 to 6 leaves that were read from texts, and compares the orders left with those of both.
 #[test]
 fn small_trees_intersect_as_their_orders_do() {
-    let mut draw = Draw::new(0x1357_9bdf);
+    let mut draw = Draw::new(0x1357_9bdf_0246_8ace);
     let (mut done, mut refused) = (0, 0);
     for _ in 0..6_000 {
         let n = 1 + draw.below(6);

@@ -1,26 +1,27 @@
-//! The generator of test loads, and what is drawn from it.
+//! A seeded xorshift64 generator, and what is drawn from it.
 use crate::damage::Choose;
 use crate::tables::Size;
-use plain::Generator;
 use tokuwhape::Layout::{self, Rack, Ring};
 
-pub struct Draw(Generator);
+pub struct Draw(u64);
 
 impl Draw {
     /// The generator with this seed, which is not 0.
-    pub fn new(seed: u32) -> Draw {
-        Draw(Generator { state: seed })
+    pub fn new(seed: u64) -> Draw {
+        Draw(seed)
     }
 
-    /// A number of 64 bits: two states, one after the other.
+    /// The next state.
     pub fn number(&mut self) -> u64 {
-        let [high, low] = [(); 2].map(|()| self.below(1 << 32) as u64);
-        high << 32 | low
+        self.0 ^= self.0 << 13;
+        self.0 ^= self.0 >> 7;
+        self.0 ^= self.0 << 17;
+        self.0
     }
 
     /// A number below k.
     pub fn below(&mut self, k: usize) -> usize {
-        self.0.take(k) - 1
+        (self.number() >> 11) as usize % k
     }
 
     /// True one time in k.
@@ -35,7 +36,9 @@ impl Draw {
 
     /// Puts these in a random sequence.
     pub fn shuffle<T>(&mut self, entries: &mut [T]) {
-        self.0 = self.0.shuffle(entries);
+        for i in (1..entries.len()).rev() {
+            entries.swap(i, self.below(i + 1));
+        }
     }
 
     /// The leaves 1 to n in a random sequence.

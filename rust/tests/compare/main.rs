@@ -1,11 +1,10 @@
-//! The proved planner and the independent one of crate `plain`, side by side on random rings and racks, lists, tables, texts, pairs of trees, files
-//! and test loads. A case is one call whose answer and every lent table, whole, is compared.
+//! The proved planner and the independent one of crate `plain`, side by side on random rings and racks, lists, tables, texts, pairs of trees and
+//! files. A case is one call whose answer and every lent table, whole, is compared.
 mod brute;
 mod damage;
 mod damaged;
 mod draw;
 mod files;
-mod load;
 mod pairs;
 mod rings;
 mod tables;
@@ -127,14 +126,6 @@ fn files(tally: &mut Tally, draw: &mut Draw) {
     files::long(tally, draw);
 }
 
-/// Test loads.
-fn loads(tally: &mut Tally, draw: &mut Draw) {
-    for _ in 0..4_000 {
-        load::any(tally, draw);
-    }
-    load::joined(tally, draw);
-}
-
 /// Checks that a call gave each of these answers, and no other. Returns how often it was made.
 fn checked(tally: &Tally, call: &str, layout: Layout, answers: &[u8]) -> usize {
     let given = tally.given(call, layout);
@@ -144,8 +135,8 @@ fn checked(tally: &Tally, call: &str, layout: Layout, answers: &[u8]) -> usize {
 }
 
 /// The generator's seed: that of the environment's COMPARE_SEED, which is not 0, or a fixed one.
-fn seed() -> u32 {
-    std::env::var("COMPARE_SEED").map_or(0x9e37_79b9, |seed| seed.parse().expect("COMPARE_SEED is a number"))
+fn seed() -> u64 {
+    std::env::var("COMPARE_SEED").map_or(0x9e37_79b9_7f4a_7c15, |seed| seed.parse().expect("COMPARE_SEED is a number"))
 }
 
 #[test]
@@ -158,8 +149,7 @@ fn both_planners_answer_alike() {
     long(&mut tally, &mut draw, &mut kept);
     intersections(&mut tally, &mut draw);
     files(&mut tally, &mut draw);
-    loads(&mut tally, &mut draw);
-    let mut cases = checked(&tally, "scan", Ring, &[0, 11]) + checked(&tally, "test load", Ring, &[0, 1, 2, 16, 17]);
+    let mut cases = checked(&tally, "scan", Ring, &[0, 11]);
     for (call, answers) in ANSWERS {
         cases += checked(&tally, call, Rack, answers);
         // a ring has no 15, but it may meet a rack that has

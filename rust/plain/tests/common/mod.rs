@@ -5,7 +5,7 @@
 pub mod orders;
 pub mod shapes;
 
-use plain::{Answer, Generator, Layout, Node, Refused};
+use plain::{Answer, Layout, Node, Refused};
 
 pub const UNUSED: Node = Node { kind: 0, count: 0, items: [0; 255] };
 pub const PAST: Node = Node { kind: 77, count: 7_777, items: [777; 255] };
@@ -106,24 +106,24 @@ pub fn refused<T>(number: u8, place: usize) -> Result<T, Refused> {
     Err(Refused { number, place })
 }
 
-/// Random choices, by the generator of test loads.
-pub struct Random(Generator);
+/// A small generator of random numbers.
+pub struct Random(pub u64);
 
 impl Random {
-    /// Returns the choices of this seed, which is not 0.
-    pub fn new(seed: u32) -> Random {
-        Random(Generator { state: seed })
-    }
-
     /// Returns a number below `limit`.
     pub fn below(&mut self, limit: usize) -> usize {
-        self.0.take(limit) - 1
+        self.0 ^= self.0 << 13;
+        self.0 ^= self.0 >> 7;
+        self.0 ^= self.0 << 17;
+        (self.0 >> 11) as usize % limit
     }
 
     /// Returns the numbers 1 to n, shuffled.
     pub fn shuffled(&mut self, n: usize) -> Vec<u16> {
         let mut numbers: Vec<u16> = (1..=n as u16).collect();
-        self.0 = self.0.shuffle(&mut numbers);
+        for k in (1..n).rev() {
+            numbers.swap(k, self.below(k + 1));
+        }
         numbers
     }
 
