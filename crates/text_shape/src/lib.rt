@@ -1,5 +1,6 @@
 // The shape of a tree text: the tokens of the tree that it spells, or the byte at which no text of the shape goes on.
 #![tactic(auto)]
+
 ghost use Rattle.std.specs.Prelude.{false, ◌+◌, ◌-◌, ◌≤◌, ◌<◌, length};
 ghost use Rattle.text_scanner.specs.Unused.{unused};
 ghost use Rattle.text_leaf.specs.Passages.{Marks};
