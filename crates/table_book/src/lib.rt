@@ -1,5 +1,6 @@
 // The book: a table of 384 mark words, four for each of up to 96 groups; and the list of a group that is to join it.
 #![tactic(auto)]
+
 ghost use Rattle.std.specs.Prelude.{◌≡◌, ℕ, ◌≤◌, ◌<◌, ◌+◌, ◌^◌, length, List};
 ghost use Rattle.spec_orders.specs.Lists.{elem};
 ghost use Rattle.spec_orders.specs.CircularOrder.{Restriction};
