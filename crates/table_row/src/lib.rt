@@ -1,6 +1,7 @@
 // The row of a node in the node table, written from tokens: the number of its kind, how many items it has, and 255 places for them. A leaf
 // stands as its number, the node in record r as 256 + r.
 #![tactic(auto)]
+
 ghost use Rattle.std.specs.Prelude.{◌≡◌, ℕ, ◌<◌, ◌≤◌, length, replicate};
 ghost use Rattle.spec_calls.specs.NodeTable.{entries};
 ghost use Rattle.tree_tokens.specs.Tokens.{Judged, tree, encode, Wrote};
