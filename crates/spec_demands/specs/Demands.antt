@@ -3,9 +3,9 @@
 -- whatever keeps the promise of a call (spec_calls/specs/Promises): first comes what is lent, then the tables as they are left, last what is
 -- returned. The contracts of the calls on rows and for C are these promises; so are those on node records, of the rows that the records are, with
 -- `Left` (record_left/specs/Records): a refusal leaves the records themselves as they were.
-use Rattle.std.specs.Prelude.{◌≡◌, ◌↔◌, ◌≢◌, ◌⊎◌, true, false, List, [], ◌∷◌, ◌++◌, map, reverse, ℕ, suc, ◌+◌, ◌*◌, ◌^◌, ◌≤◌, ◌<◌, length, get_or, take, drop}
+use Rattle.std.specs.Prelude.{◌≡◌, ◌↔◌, ◌≢◌, ◌⊎◌, true, false, List, [], ◌∷◌, ◌++◌, map, reverse, ℕ, suc, ◌+◌, ◌*◌, ◌≤◌, ◌<◌, length, get_or, take, drop}
 use Rattle.std.proofs.Math.Option.{Option, none, some}
-use Rattle.spec_orders.specs.Lists.{All, In, Rearranged, numbers_from}
+use Rattle.spec_orders.specs.Lists.{In, Rearranged, numbers_from}
 use Rattle.spec_orders.specs.declared.Layout.{Layout}
 use Rattle.spec_orders.specs.declared.Layout.TheVariants.{Ring, Rack}
 use Rattle.spec_orders.specs.CircularOrder.{Restriction, WellFormed, group_of, EmptyGroup, Consecutive}
@@ -13,28 +13,25 @@ use Rattle.spec_orders.specs.Layout.{leaf_count, Contiguous, ConsecutiveOn, Poss
 use Rattle.spec_orders.specs.Tree.{C, Forest, Rotation, AllowedOn}
 use Rattle.spec_orders.specs.Form.{Every, Enough, InForm, FirstOf, StandardOrder}
 use Rattle.spec_orders.specs.ThreeNeighbours.{relabel}
-use Rattle.spec_orders.specs.TreeText.{digits, tree_text, Shaped, Breaks, RuleRefused, AcceptedAs, tree, refused, Reads}
-use Rattle.spec_orders.specs.Join.{fresh, joins}
+use Rattle.spec_orders.specs.TreeText.{tree_text, Shaped, Breaks, RuleRefused, AcceptedAs, tree, refused, Reads}
 use Rattle.spec_orders.specs.Conflict.{Numbers}
 use Rattle.spec_orders.specs.Aim.{AimedOn}
-use Rattle.file_syntax.specs.RingFile.{Value, hyphen, FileHolds, leaves_on}
-use Rattle.spec_load.specs.TestLoad.{state_after, load_file}
 use Rattle.spec_calls.specs.declared.Refusal.{Refusal}
 use Rattle.spec_calls.specs.declared.Refusal.TheVariants.{TreeText}
 use Rattle.spec_calls.specs.Tables.{Nodes, lent_nodes, leaves, same_ring, Book, lent_book, padded}
 use Rattle.spec_calls.specs.Book.{with_group}
 use Rattle.spec_calls.specs.NodeTable.{Holds}
 use Rattle.spec_calls.specs.Refusals.{Reply, reply, reported}
-use Rattle.spec_calls.specs.Calls.{Changed, open_refusal, open_call, join_refusal, join_call, order_refusal, aim_refusal, write_refusal, write_call, ReadCall, conflict_refusal, conflicts_of, conflict_call, group_numbered, intersect_refusal, intersect_call, test_load_refusal}
-use Rattle.spec_calls.specs.Demands.{LentWhole, LentTree, LentBook, ImpossibleIff, NewTree, BothTrees, SameBins, LoadGiven}
-use Rattle.spec_calls.specs.Promises.{OpenPromise, JoinPromise, TrialPromise, OrderPromise, AimPromise, WritePromise, ReadPromise, ConflictPromise, IntersectPromise, TestLoadPromise}
+use Rattle.spec_calls.specs.Calls.{Changed, open_refusal, open_call, join_refusal, join_call, order_refusal, aim_refusal, write_refusal, write_call, ReadCall, conflict_refusal, conflicts_of, conflict_call, group_numbered, intersect_refusal, intersect_call}
+use Rattle.spec_calls.specs.Demands.{LentWhole, LentTree, LentBook, ImpossibleIff, NewTree, BothTrees, SameBins}
+use Rattle.spec_calls.specs.Promises.{OpenPromise, JoinPromise, TrialPromise, OrderPromise, AimPromise, WritePromise, ReadPromise, ConflictPromise, IntersectPromise}
 
 -- ==== The first demand
 
 -- "Any call, given any numbers, tables or text, ends and does nothing undefined": so does every proved function where its `requires` holds, and no
 -- call has a `requires`. "One that must be refused gives the number in the table of document 01 and leaves every table as that table says", which is
--- as it was. `must` is the first refusal down that table, if there is one (document 02's 15 stands right after 1 there, and so do 16 and 17 in that
--- order, 13 right after 2 and 14 after 9, and 4 is no longer given); `Kept` says that the tables which the call may write are as they were. (Others are lent to be read only.) A call that
+-- as it was. `must` is the first refusal down that table, if there is one (document 02's 15 stands right after 1 there, 13 right after 2 and 14 after
+-- 9, and 4 is no longer given); `Kept` says that the tables which the call may write are as they were. (Others are lent to be read only.) A call that
 -- need not be refused is done and returns 0.
 pub record ByTheTable (must : Option Refusal) (said : Reply) (Kept : Type 0) : Type 0 where
   pub refused : (r : Refusal) → must ≡ some r → (said ≡ reported r) × Kept
@@ -68,8 +65,6 @@ pub record FirstDemand : Type 0 where
       → ConflictPromise l n book list conflicts conflicts' said → ByTheTable (conflict_refusal l n book list conflicts) said (conflicts' ≡ conflicts)
   pub intersecting : (nodes other third : Nodes) (third' : List ℕ) (said : Reply) → IntersectPromise nodes other third third' said
       → ByTheTable (intersect_refusal nodes other third) said (third' ≡ third.rows)
-  pub loading : (n seed groups : ℕ) (bytes bytes' : List ℕ) (said : Reply) → TestLoadPromise n seed groups bytes bytes' said
-      → ByTheTable (test_load_refusal n seed groups bytes) said (bytes' ≡ bytes)
 
 -- ==== The second demand
 
@@ -402,42 +397,3 @@ pub record StraightRacks : Type 0 where
       → (third' : List ℕ) (said : Reply) → IntersectPromise nodes other third third' said → said ≡ reply 13 0
   -- "15 when a rack has 256 bins, checked right after 1."
   pub full_rack : (records : ℕ) (rows : List ℕ) → Meets15 (rack 256 records rows)
-
--- ==== Document 02, No. 7: a test load from one number
-
--- The numbers and the bytes that are given are 1 to 256 bins, a seed that is not 0, 1 to 96 groups and 65,536 bytes (`LoadGiven`). The four refusals,
--- "in that order right after 1; fewer lent bytes meet 2".
-pub record LoadRefused (n seed groups : ℕ) (bytes : List ℕ) (said : Reply) : Type 0 where
-  pub by_1 : (n ≡ 0) ⊎ (256 < n) → said ≡ reply 1 0
-  pub by_16 : 1 ≤ n → n ≤ 256 → seed ≡ 0 → said ≡ reply 16 0
-  pub by_17 : 1 ≤ n → n ≤ 256 → 1 ≤ seed → (groups ≡ 0) ⊎ (96 < groups) → said ≡ reply 17 0
-  pub by_2 : 1 ≤ n → n ≤ 256 → 1 ≤ seed → 1 ≤ groups → groups ≤ 96 → length bytes < 65536 → said ≡ reply 2 0
-
--- "A ring file with bin numbers as names and no hyphens": it is accepted, with n names and so many lines. (Its bytes tell its names and values:
--- file_syntax/proofs/Exact, `parts_once`.) "Every such book can hang together": one ring order hangs together the groups of all its lines; so, joined
--- to a fresh ring one after another, none is refused.
-pub record LoadFile (n groups : ℕ) (file : List ℕ) : Type 0 where
-  pub head : ℕ
-  pub accepted : FileHolds file n head groups
-  pub names : accepted.ns ≡ map digits (numbers_from 1 n)
-  pub no_hyphens : All (λ vs. All (λ v. v ≢ hyphen) vs) accepted.vss
-  pub possible : Possible Ring n (map (λ vs. group_of n (leaves_on vs)) accepted.vss)
-  pub all_join : (t : Forest) × (joins (map (λ vs. group_of n (leaves_on vs)) accepted.vss) (fresh n) ≡ some t)
-
--- "In 65,536 lent bytes, zero after its length, which is returned." What is past them stays.
-pub record LoadWritten (n seed groups : ℕ) (bytes bytes' : List ℕ) (said : Reply) : Type 0 where
-  pub returned : said ≡ reply 0 (length (load_file n seed groups))
-  pub zero_after : take 65536 bytes' ≡ padded 65536 (load_file n seed groups)
-  pub past : drop 65536 bytes' ≡ drop 65536 bytes
-  -- What a reader of so many bytes finds.
-  pub the_file : take said.value bytes' ≡ load_file n seed groups
-  pub is_file : LoadFile n groups (take said.value bytes')
-
-pub record TestLoads : Type 0 where
-  -- The load itself, state, draws, places, groups and bytes, is `load_file` (spec_load/specs/TestLoad). A 32-bit state stays one.
-  pub state : (draws seed : ℕ) → seed < 2 ^ 32 → state_after draws seed < 2 ^ 32
-  pub refusing : (n seed groups : ℕ) (bytes bytes' : List ℕ) (said : Reply) → TestLoadPromise n seed groups bytes bytes' said
-      → LoadRefused n seed groups bytes said
-  -- "This is to be shown for all seeds and sizes."
-  pub writing : (n seed groups : ℕ) (bytes bytes' : List ℕ) (said : Reply) → LoadGiven n seed groups bytes → TestLoadPromise n seed groups bytes bytes' said
-      → LoadWritten n seed groups bytes bytes' said

@@ -1,2 +1,3 @@
 -- The customer's three demands.
 pub mod Demands
+pub mod TestLoads
