@@ -1,5 +1,6 @@
 // A node table of rows of 257 numbers, one row a record.
 #![tactic(auto)]
+
 ghost use Rattle.std.specs.Prelude.{◌≡◌, ◌/◌, length};
 
 // How many whole records the rows are.
