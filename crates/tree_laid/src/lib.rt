@@ -1,5 +1,6 @@
 // A tree that lies in the middle of a buffer, and items that are laid round it: what lies there stays where it is.
 #![tactic(auto)]
+
 ghost use Rattle.std.specs.Prelude.{◌≡◌, List, ◌∷◌, ◌++◌, ℕ, ◌+◌, ◌-◌, ◌*◌, ◌<◌, ◌≤◌, length};
 ghost use Rattle.spec_orders.specs.Tree.{Forest, append, rev};
 ghost use Rattle.spec_orders.specs.Form.{first};
