@@ -1,5 +1,6 @@
 // The lines of a judged sequence: items with all empty leaves before all full ones, or under `back` the other way round.
 #![tactic(auto)]
+
 ghost use Rattle.std.specs.Prelude.{◌≡◌, true, reverse, ◌<◌, ◌≤◌, length};
 ghost use Rattle.tree_tokens.specs.Tokens.{Judged, encode, Tokens, Wrote, flat};
 ghost use Rattle.tree_tokens.specs.Views.{items_of};
