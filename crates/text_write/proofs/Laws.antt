@@ -1,15 +1,14 @@
 -- The text of a sequence, by its first item.
-use mathlib.Core.Path.{◌≡◌, refl, ap, ◌∙◌}
+use mathlib.Core.Path.{◌≡◌, refl, ap}
 use mathlib.Core.List.{List, [], ◌∷◌, ◌++◌}
 use Prim.Native.Nat.{ℕ, suc, ◌+◌, ◌≤◌, ◌<◌}
 use native.Mathlib.Omega.{arith}
-use lib.ListN.{length, drop, set, length-append, length-drop}
+use lib.ListN.{length, drop, length-append, length-drop}
 use Rattle.spec_orders.specs.Tree.{Forest, nil, leaf, node}
 use Rattle.spec_orders.specs.TreeText.{digits, letter, text, more, tree_text}
 use Rattle.tree_tokens.specs.Tokens.{Judged, j_nil, j_leaf, j_node, tree, encode, Wrote}
 use Rattle.tree_tokens.specs.Views.{shape_of, leaf_of, items_of, rest_of}
 use Rattle.tree_tokens.proofs.Laws.{is_leaf, is_p, is_c}
-use Rattle.tree_tokens.proofs.Writes.{write_step}
 use Rattle.text_write.specs.Around.{opening, gap, closing}
 
 -- Further items, each with a space before it.

@@ -1,5 +1,6 @@
 // The tree text, written from tokens: the P-node walk and the C-node walk.
 #![tactic(auto)]
+
 ghost use Rattle.std.specs.Prelude.{◌≡◌, ◌≤◌, ◌<◌, length};
 ghost use Rattle.spec_orders.specs.TreeText.{text, tree_text};
 ghost use Rattle.tree_tokens.specs.Tokens.{Judged, tree, encode, Wrote};
