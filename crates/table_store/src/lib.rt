@@ -1,6 +1,7 @@
 // The node table of a tree, written from its tokens. A record is a row of 257 numbers: the number of its kind, how many items it has, and 255
 // places for them; a leaf stands as its number, the node in record r as 256 + r.
 #![tactic(auto)]
+
 ghost use Rattle.std.specs.Prelude.{◌≡◌, ℕ, ◌*◌, ◌≤◌, length, replicate};
 ghost use Rattle.spec_orders.specs.Tree.{Forest};
 ghost use Rattle.spec_calls.specs.Tables.{over};
