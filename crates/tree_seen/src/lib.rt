@@ -1,6 +1,7 @@
 // A tree in tokens, seen from another leaf, in the published form. The path from the old root to the leaf is gone down once; what the nodes
 // left behind have become lies in the middle of a buffer, and the other items of the next node are laid round it.
 #![tactic(auto)]
+
 ghost use Rattle.std.specs.Prelude.{◌≡◌, ℕ, ◌+◌, ◌-◌, ◌<◌, ◌≤◌, length};
 ghost use Rattle.spec_orders.specs.Tree.{Kind, Forest, Item, node_item};
 ghost use Rattle.spec_orders.specs.Reduce.{one};
