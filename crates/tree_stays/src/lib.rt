@@ -1,5 +1,6 @@
 // Where an update changes nothing: read off the states, without writing the new tree.
 #![tactic(auto)]
+
 ghost use Rattle.std.specs.Prelude.{◌≡◌, ◌<◌, length};
 ghost use Rattle.tree_tokens.specs.Tokens.{Judged, encode, Tokens};
 ghost use Rattle.tree_stays.specs.Stays.{stays};
