@@ -61,6 +61,7 @@ labels_same S w v x (node k i f) h r = (
 
 pub roots_same : (S : Restriction) (w v : List ℕ) (x : ℕ) (g : Forest) → ((j : ℕ) → 8 + x ≤ j → get_or v j 0 ≡ get_or w j 0) → Roots S w x g → Roots S v x g
 unfolding Roots
+roots_same S w v x (leaf _ _) h r = elim r [ ]
 roots_same S w v x nil h r = tt
 roots_same S w v x (node k i f) h r = (
   h (8 + x) (omega arith) ∙ r.0,
@@ -72,6 +73,7 @@ roots_same S w v x (node k i f) h r = (
 -- Roots have their labels; an item more has them too.
 pub roots_labels : (S : Restriction) (w : List ℕ) (x : ℕ) (g : Forest) → Roots S w x g → x + nodes g ≤ 256 → Labels S w x g
 unfolding Roots Labels packed
+roots_labels S w x (leaf _ _) r h = elim r [ ]
 roots_labels S w x nil r h = tt
 roots_labels S w x (node k i f) r h =
     (omega (arith, r.0, r.1, number_small (node_state k (states (judge S i)))), r.2, roots_labels S w (suc x + nodes i) f r.3 (omega arith))
