@@ -1,5 +1,6 @@
 // The tree text, read: the tokens of the tree that is found in it, or the byte at which it is refused.
 #![tactic(auto)]
+
 ghost use Rattle.std.specs.Prelude.{◌≡◌, ◌<◌, ◌≤◌, length, get_or};
 ghost use Rattle.spec_orders.specs.Tree.{Forest};
 ghost use Rattle.spec_orders.specs.ThreeNeighbours.{relabel};
