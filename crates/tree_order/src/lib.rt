@@ -1,6 +1,7 @@
 // The standard order of a ring: leaf 1, and then the leaves of the tree from left to right. That of a rack: the leaves of the tree, seen from its
 // largest leaf, from left to right.
 #![tactic(auto)]
+
 ghost use Rattle.std.specs.Prelude.{◌≡◌, suc, ◌≤◌, length};
 ghost use Rattle.spec_orders.specs.Tree.{Forest, frontier};
 ghost use Rattle.spec_orders.specs.Form.{standard};
