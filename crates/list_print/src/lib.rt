@@ -1,22 +1,42 @@
-// The listing of a ring file, printed to standard output.
+// A ring file is read, and its listing is printed to standard output.
 #![tactic(auto)]
-use libc::STDOUT_FILENO;
 
-// Prints the listing part by part, until a part is empty. Each part has a line, and there are fewer than 40,000.
-pub fn print(file: &[u8]) {
-    let mut out = io::large_buffer();
+ghost use Rattle.std.specs.Io.{ReadsAtMost};
+
+use std::io;
+use std::io::Read;
+
+// Reads to the start of the table, until it is full or the input ends, and answers how many bytes. Fails where a read fails: then the start of the
+// table may hold what was read before.
+pub fn read(source: &mut impl Read, table: &mut [u8]) -> io::Result<usize>
+    ensures { ReadsAtMost result table.new }
+{
+    let mut done = 0;
+    while done < table.len() {
+        let n = source.read(&mut table[done..])?;
+        if n == 0 {
+            break;
+        }
+        done += n;
+    }
+    Ok(done)
+}
+
+// Prints the listing part by part, until a part is empty. Each part has a line, and there are fewer than 40,000. Fails where a write fails: then
+// what was printed is the beginning of the listing.
+pub fn print(rt: &impl Print, file: &[u8]) -> io::Result<()> {
+    let mut out = [0u8; 65536];
     let mut from = 0;
     let mut parts: usize = 0;
     while parts < 40000 {
         let p = list_part::part(file, from, &mut out);
         let n = p.bytes;
         if p.next == from {
-            return;
+            return Ok(());
         }
-        if !io::write_all(STDOUT_FILENO, &out[..n]) {
-            return;
-        }
+        rt.write_all(&out[..n])?;
         from = p.next;
         parts += 1;
     }
+    Ok(())
 }

@@ -1,8 +1,9 @@
 // Lists the ring file on standard input: prints its listing to standard output.
 #![tactic(auto)]
+
 ghost use Rattle.std.specs.Prelude.{◌≡◌, length};
 
-use libc::STDIN_FILENO;
+use std::io;
 
 // 65,537 zeros: one byte more than the longest file that is accepted.
 fn buffer() -> [u8; 65537]
@@ -11,8 +12,8 @@ fn buffer() -> [u8; 65537]
     [0; 65537]
 }
 
-fn main() {
+fn main(rt: HostRuntime) -> io::Result<()> {
     let mut bytes = buffer();
-    let n = io::read_full(STDIN_FILENO, &mut bytes);
-    list_print::print(&bytes[..n]);
+    let n = list_print::read(&mut rt.reader(), &mut bytes)?;
+    list_print::print(&rt, &bytes[..n])
 }

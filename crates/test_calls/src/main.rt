@@ -3,77 +3,89 @@
 //
 //   C rack n b count c list         the conflict list of a group, into the first c places of the conflicts
 #![tactic(auto)]
+
 use spec_calls::Answer;
+use std::io;
 use test_fields::{at, least};
 
-fn main() {
+fn main(rt: HostRuntime) -> io::Result<()> {
     let mut text = test_fields::buffer();
-    let n = test_fields::read_file(b"script.txt", &mut text);
-    with_tables(&text[..n]);
+    let n = test_fields::read_file(&rt, "script.txt", &mut text)?;
+    with_tables(&rt, &text[..n])
 }
 
 // Obeys the script on tables that are each one entry longer than they must be, and hold 7 throughout.
-fn with_tables(text: &[u8]) {
+fn with_tables(rt: &impl Print, text: &[u8]) -> io::Result<()> {
     let mut nodes = [7u16; 65793];
     let mut book = [7u64; 385];
     let mut order = [7u16; 257];
     let mut conflicts = [7u16; 97];
     let mut bytes = [7u8; 2049];
     run(
+        rt,
         text,
         &mut nodes,
         &mut book,
         &mut order,
         &mut conflicts,
         &mut bytes,
-    );
+    )
 }
 
 // Obeys every line of the script.
 fn run(
+    rt: &impl Print,
     text: &[u8],
     nodes: &mut [u16],
     book: &mut [u64],
     order: &mut [u16],
     conflicts: &mut [u16],
     bytes: &mut [u8],
-) {
+) -> io::Result<()> {
     let mut at = 0;
     while at < text.len() {
         let end = test_fields::find(text, at, b'\n');
-        line(&text[at..end], nodes, book, order, conflicts, bytes);
+        line(rt, &text[at..end], nodes, book, order, conflicts, bytes)?;
         at = end + 1;
     }
+    Ok(())
 }
 
 // Obeys the command of one line.
 fn line(
+    rt: &impl Print,
     text: &[u8],
     nodes: &mut [u16],
     book: &mut [u64],
     order: &mut [u16],
     conflicts: &mut [u16],
     bytes: &mut [u8],
-) {
+) -> io::Result<()> {
     let letter = test_fields::letter(text);
     let mut space = [0usize; 2304];
     let k = test_fields::line_numbers(text, &mut space);
     let numbers = &space[0..k];
-    test_commands::on_ring(letter, numbers, nodes, book);
-    test_commands::into_table(letter, numbers, nodes, order, bytes);
-    on_book(letter, numbers, book, conflicts);
+    test_commands::on_ring(rt, letter, numbers, nodes, book)?;
+    test_commands::into_table(rt, letter, numbers, nodes, order, bytes)?;
+    on_book(rt, letter, numbers, book, conflicts)
 }
 
 // Obeys the command C; another letter changes nothing.
-fn on_book(letter: u8, numbers: &[usize], book: &[u64], conflicts: &mut [u16]) {
+fn on_book(
+    rt: &impl Print,
+    letter: u8,
+    numbers: &[usize],
+    book: &[u64],
+    conflicts: &mut [u16],
+) -> io::Result<()> {
     if letter != b'C' {
-        return;
+        return Ok(());
     }
     let b = least(at(numbers, 2), book.len());
     let c = least(at(numbers, 4), conflicts.len());
     let got = conflict_list(numbers, &book[0..b], &mut conflicts[0..c]);
-    test_commands::answer(letter, got);
-    test_sums::book_and_conflicts(book, conflicts);
+    test_commands::answer(rt, letter, got)?;
+    test_sums::book_and_conflicts(rt, book, conflicts)
 }
 
 // The answer of the call.

@@ -5,7 +5,7 @@ use spec_orders::Layout;
 use test_fields::least;
 
 // What a field holds, and where the next one begins.
-#[derive(Drop)]
+#[derive(Clone, Copy)]
 pub struct Field {
     pub value: usize,
     pub next: usize,

@@ -1,5 +1,6 @@
 // Runs the vectors of document 02 through the calls, compares each answer with the file's, and counts the cases by n.
 #![tactic(auto)]
+
 mod aims;
 mod answers;
 mod fields;
@@ -10,26 +11,28 @@ mod rings;
 mod texts;
 mod updates;
 
-fn main() {
-    file(b"01_intersection.txt");
-    file(b"01_intersection_large.txt");
-    file(b"02_empty.txt");
-    file(b"03_aim.txt");
-    file(b"04_trial.txt");
-    file(b"05_threes.txt");
-    file(b"06_racks.txt");
-    file(b"06_racks_refusals.txt");
+use std::io;
+use std::rt::Files;
+
+fn main(rt: HostRuntime) -> io::Result<()> {
+    file(&rt, "01_intersection.txt")?;
+    file(&rt, "01_intersection_large.txt")?;
+    file(&rt, "02_empty.txt")?;
+    file(&rt, "03_aim.txt")?;
+    file(&rt, "04_trial.txt")?;
+    file(&rt, "05_threes.txt")?;
+    file(&rt, "06_racks.txt")?;
+    file(&rt, "06_racks_refusals.txt")
 }
 
 // Reads a file, counts the outcome of each line, and prints its name and the counts.
-fn file(name: &[u8]) {
+fn file(rt: &(impl Files + Print), name: &str) -> io::Result<()> {
     let mut bytes = test_fields::buffer();
-    let n = test_fields::read_file(name, &mut bytes);
+    let n = test_fields::read_file(rt, name, &mut bytes)?;
     let mut sums = [0u64; 1028];
     run(&bytes[..n], &mut sums);
-    io::write_all(1, name);
-    io::write_all(1, b"\n");
-    test_sums::print(&sums);
+    println!(rt; "{name}")?;
+    test_sums::print(rt, &sums)
 }
 
 // Counts the outcome of each line.

@@ -5,7 +5,7 @@ use test_fields::{layout, least};
 
 // What is lent beside the tables: 0 for a ring or 1 for a rack, n, how many records, the numbers that these are, how many entries of the second
 // table, and the book's count; and where the next field begins. What the line does not have is 0.
-#[derive(Drop)]
+#[derive(Clone, Copy)]
 pub struct Lent {
     pub rack: usize,
     pub n: usize,

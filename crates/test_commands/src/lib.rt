@@ -9,55 +9,66 @@
 //   S rack n have a c               the standard order, into the first c places of the order
 //   W rack n have a c               the tree text, into the first c bytes
 #![tactic(auto)]
+
 use spec_calls::{Answer, Refusal};
 use spec_orders::Layout;
+use std::io;
 use test_fields::{at, layout, least};
 
-// Obeys the commands O, J, T, A, R, N and B; another letter changes nothing.
-pub fn on_ring(letter: u8, numbers: &[usize], nodes: &mut [u16], book: &mut [u64]) {
+// Obeys the commands O, J, T, A, R, N and B; another letter changes nothing. Fails where a write fails, as do those below: the command is then done.
+pub fn on_ring(
+    rt: &impl Print,
+    letter: u8,
+    numbers: &[usize],
+    nodes: &mut [u16],
+    book: &mut [u64],
+) -> io::Result<()> {
     match letter {
         b'N' => test_fields::set_number(nodes, at(numbers, 0), at(numbers, 1)),
         b'B' => test_fields::set_word(book, at(numbers, 0), at(numbers, 1)),
-        _ => lend_ring(letter, numbers, nodes, book),
+        _ => return lend_ring(rt, letter, numbers, nodes, book),
     }
+    Ok(())
 }
 
 // Obeys the commands S and W; another letter changes nothing.
 pub fn into_table(
+    rt: &impl Print,
     letter: u8,
     numbers: &[usize],
     nodes: &[u16],
     order: &mut [u16],
     bytes: &mut [u8],
-) {
+) -> io::Result<()> {
     match letter {
-        b'S' => standard(numbers, nodes, order),
-        b'W' => tree_text(numbers, nodes, bytes),
-        _ => {}
+        b'S' => standard(rt, numbers, nodes, order),
+        b'W' => tree_text(rt, numbers, nodes, bytes),
+        _ => Ok(()),
     }
 }
 
 // Prints a call's letter and what it returned: 0 and the value, or the refusal's number and its place.
-pub fn answer(letter: u8, got: Answer) {
+pub fn answer(rt: &impl Print, letter: u8, got: Answer) -> io::Result<()> {
     let text = [letter];
-    io::write_all(1, &text);
+    rt.write_all(&text)?;
     match got {
-        Answer::Done(value) => done(value),
-        Answer::Refused(refusal) => refused(refusal),
+        Answer::Done(value) => done(rt, value),
+        Answer::Refused(refusal) => refused(rt, refusal),
     }
 }
 
-fn done(value: usize) {
-    test_sums::number(0);
-    test_sums::number(value as u64);
+fn done(rt: &impl Print, value: usize) -> io::Result<()> {
+    test_sums::number(rt, 0)?;
+    test_sums::number(rt, value as u64)
 }
 
-fn refused(refusal: Refusal) {
+fn refused(rt: &impl Print, refusal: Refusal) -> io::Result<()> {
     let k = spec_calls::number(refusal);
-    test_sums::number(k as u64);
+    test_sums::number(rt, k as u64)?;
     if has_place(k) {
-        test_sums::number(spec_calls::place(refusal) as u64);
+        test_sums::number(rt, spec_calls::place(refusal) as u64)?;
     }
+    Ok(())
 }
 
 // Whether a place or byte is returned with a refusal's number.
@@ -84,9 +95,15 @@ fn on_both(letter: u8) -> bool {
 }
 
 // Makes the call on the first parts of the tables, and prints its answer.
-fn lend_ring(letter: u8, numbers: &[usize], nodes: &mut [u16], book: &mut [u64]) {
+fn lend_ring(
+    rt: &impl Print,
+    letter: u8,
+    numbers: &[usize],
+    nodes: &mut [u16],
+    book: &mut [u64],
+) -> io::Result<()> {
     if !on_both(letter) {
-        return;
+        return Ok(());
     }
     let layout = layout(at(numbers, 0));
     let n = at(numbers, 1);
@@ -102,8 +119,8 @@ fn lend_ring(letter: u8, numbers: &[usize], nodes: &mut [u16], book: &mut [u64])
         have,
         &mut book[0..b],
     );
-    answer(letter, got);
-    test_sums::ring(nodes, book);
+    answer(rt, letter, got)?;
+    test_sums::ring(rt, nodes, book)
 }
 
 // The call's answer.
@@ -164,24 +181,34 @@ fn read(
     call_text::read(layout, n, nodes, have, book, &bytes[0..k])
 }
 
-fn standard(numbers: &[usize], nodes: &[u16], order: &mut [u16]) {
+fn standard(
+    rt: &impl Print,
+    numbers: &[usize],
+    nodes: &[u16],
+    order: &mut [u16],
+) -> io::Result<()> {
     let layout = layout(at(numbers, 0));
     let n = at(numbers, 1);
     let have = at(numbers, 2);
     let a = least(at(numbers, 3), nodes.len());
     let c = least(at(numbers, 4), order.len());
     let got = call_order::order(layout, n, &nodes[0..a], have, &mut order[0..c]);
-    answer(b'S', got);
-    test_sums::nodes_and_order(nodes, order);
+    answer(rt, b'S', got)?;
+    test_sums::nodes_and_order(rt, nodes, order)
 }
 
-fn tree_text(numbers: &[usize], nodes: &[u16], bytes: &mut [u8]) {
+fn tree_text(
+    rt: &impl Print,
+    numbers: &[usize],
+    nodes: &[u16],
+    bytes: &mut [u8],
+) -> io::Result<()> {
     let layout = layout(at(numbers, 0));
     let n = at(numbers, 1);
     let have = at(numbers, 2);
     let a = least(at(numbers, 3), nodes.len());
     let c = least(at(numbers, 4), bytes.len());
     let got = call_text::write(layout, n, &nodes[0..a], have, &mut bytes[0..c]);
-    answer(b'W', got);
-    test_sums::nodes_and_text(nodes, bytes);
+    answer(rt, b'W', got)?;
+    test_sums::nodes_and_text(rt, nodes, bytes)
 }

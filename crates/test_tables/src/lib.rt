@@ -1,5 +1,6 @@
 // What the programs of the outside vectors say of tables.
 #![tactic(auto)]
+
 use spec_calls::Answer;
 use spec_orders::Layout;
 

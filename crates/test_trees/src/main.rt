@@ -1,25 +1,29 @@
 // Runs the cases of joins.txt (a tree text, a group, the text after joining) and of texts.txt (a text, accepted and written again, or refused at a
 // byte) through the calls, compares each answer with the file's, and counts the cases by n.
 #![tactic(auto)]
+
 ghost use Rattle.std.specs.Prelude.{◌≤◌};
 
 mod joins;
 mod texts;
 
-fn main() {
-    io::write_all(1, b"joins\n");
-    file(b"joins.txt", true);
-    io::write_all(1, b"texts\n");
-    file(b"texts.txt", false);
+use std::io;
+use std::rt::Files;
+
+fn main(rt: HostRuntime) -> io::Result<()> {
+    println!(rt; "joins")?;
+    file(&rt, "joins.txt", true)?;
+    println!(rt; "texts")?;
+    file(&rt, "texts.txt", false)
 }
 
 // Reads a file, counts the outcome of each line, and prints the counts.
-fn file(name: &[u8], joins: bool) {
+fn file(rt: &(impl Files + Print), name: &str, joins: bool) -> io::Result<()> {
     let mut bytes = test_fields::buffer();
-    let n = test_fields::read_file(name, &mut bytes);
+    let n = test_fields::read_file(rt, name, &mut bytes)?;
     let mut sums = [0u64; 1028];
     run(&bytes[..n], joins, &mut sums);
-    test_sums::print(&sums);
+    test_sums::print(rt, &sums)
 }
 
 // Counts the outcome of each line.
