@@ -1,2 +1,0 @@
--- What the walks of the exported calls share.
-pub mod Steps
