@@ -1,5 +1,6 @@
 // The tree that a node table holds, loaded into tokens: the sweep says whether there is one, and a walk from the first record on writes its tokens.
 #![tactic(auto)]
+
 ghost use Rattle.std.specs.Prelude.{◌≡◌, ◌≤◌, length};
 ghost use Rattle.std.proofs.Math.Option.{some};
 ghost use Rattle.spec_orders.specs.Tree.{Forest};
