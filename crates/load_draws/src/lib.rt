@@ -1,5 +1,6 @@
 // The generator of test loads, and the circle that it shuffles.
 #![tactic(auto)]
+
 ghost use Rattle.std.specs.Prelude.{◌≡◌, ◌≤◌, ◌-◌, length};
 ghost use Rattle.spec_load.specs.TestLoad.{next_state, state_after, drawn, shuffled, circle};
 ghost use Rattle.spec_orders.specs.Lists.{numbers_from};
