@@ -1,5 +1,6 @@
 // The words of a names line: whether one can be new, and where one stands.
 #![tactic(auto)]
+
 ghost use Rattle.std.specs.Prelude.{◌≡◌, List, ℕ, ◌≤◌, length};
 ghost use Rattle.spec_orders.specs.Lists.{All, Distinct, elem, those_of, begins_with};
 ghost use Rattle.file_syntax.specs.RingFile.{alphabet, Name};
