@@ -2,7 +2,7 @@
 use mathlib.Core.Path.{◌≡◌, refl, sym, ap, ◌∙◌}
 use mathlib.Core.Logic.{◌≢◌}
 use mathlib.Core.Bool.{Bool, true, false}
-use mathlib.Core.Option.{none-ne-some, some_injective, none, some}
+use mathlib.Core.Option.{none-ne-some, some-injective, none, some}
 use mathlib.Core.List.{List, [], ◌∷◌}
 use Prim.Native.Nat.{ℕ, zero, suc, ◌-◌, ◌≤◌}
 use native.Mathlib.Omega.{arith}
@@ -106,7 +106,7 @@ reduce_yes n S t f h = reduce_total S t (canonical_forked t f.canonical) ∙ whe
 
 -- The tree that it can be reduced to is the one that the judged tree says.
 when_some : (b : Bool) (f u : Forest) → when b f ≡ some u → f ≡ u
-when_some true f u h = some_injective f u h
+when_some true f u h = some-injective f u h
 when_some false f u h = absurd (none-ne-some u h)
 
 pub reduce_is : (n : ℕ) (S : Restriction) (t u : Forest) → FormWithin n t → reduce S t ≡ some u → first_reduced (totals (judge S t)) ≡ u

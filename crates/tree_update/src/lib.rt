@@ -1,6 +1,7 @@
 // The update of a tree in tokens by a restriction, and a group that joins. It writes the reduced form of the judged tree: one item whose full
 // leaves are consecutive.
 #![tactic(auto)]
+
 ghost use Rattle.std.specs.Prelude.{◌≡◌, ℕ, ◌+◌, ◌<◌, ◌≤◌, length};
 ghost use Rattle.std.proofs.Math.Option.{some};
 ghost use Rattle.tree_tokens.specs.Tokens.{Judged, tree, encode, Tokens, Wrote, flat};
