@@ -1,5 +1,6 @@
 // The checks that calls on a lent ring or rack share: 1, 15, 2 and 3 on its node table and its book. Those on a node table load the tree.
 #![tactic(auto)]
+
 ghost use Rattle.std.specs.Prelude.{◌≡◌, ◌≤◌, length};
 ghost use Rattle.spec_orders.specs.declared.Layout.TheVariants.{Ring};
 ghost use Rattle.spec_calls.specs.Tables.{lent_nodes, lent_book};
