@@ -1,5 +1,6 @@
 // Where a scan of the ring file stands, and what one byte more leads to.
 #![tactic(auto)]
+
 ghost use Rattle.std.specs.Prelude.{◌≡◌, List, ◌++◌, ℕ, ◌+◌, ◌≤◌, ◌<◌, length, take, get_or};
 ghost use Rattle.file_syntax.specs.RingFile.{Value};
 ghost use Rattle.file_syntax.specs.Words.{spaced};
@@ -8,7 +9,7 @@ ghost use Rattle.file_cursor.specs.Cursors.{CursorStands, Stepped, Advances, Cur
 
 // Where the scanner stands. phase: 0 in the names line, 1 a value is due, 2 after a value, 3 refused. names: whole names.
 // start: where the begun name starts; after the names line, its length. got: whole values of the line. lines: whole value lines.
-#[derive(Drop)]
+#[derive(Clone, Copy)]
 pub struct Cursor {
     pub phase: u8,
     pub names: usize,
