@@ -1,5 +1,6 @@
 // A node table that was swept, updated: what the sweep keeps has the state of every node, so the tree's tokens are labelled without judging it again.
 #![tactic(auto)]
+
 ghost use Rattle.std.specs.Prelude.{◌≡◌, ◌≤◌, length};
 ghost use Rattle.spec_orders.specs.CircularOrder.{Restriction};
 ghost use Rattle.spec_orders.specs.Tree.{Forest};
