@@ -1,6 +1,6 @@
 -- The leaves of a sequence marked in words, and a group in four words that joins.
 use mathlib.Core.Path.{◌≡◌, refl, sym, ap, ◌∙◌}
-use mathlib.Core.Bool.{Bool, true, false, cond, ◌||◌, or_false}
+use mathlib.Core.Bool.{Bool, true, false, cond, ◌||◌, or-false}
 use mathlib.Core.List.{List, ◌∷◌}
 use Prim.Native.Nat.{ℕ, ◌≤◌}
 use native.Mathlib.Omega.{arith}
@@ -41,4 +41,4 @@ list_joins {n} {t} l ws f h e =
     at : (b : ℕ) → 1 ≤ b → b ≤ 256 → marked ws b ≡ elem l b
     at b p q =
         ap (λ (vs : List ℕ). marked vs b) e ∙ marked_words 4 (either (elem l) (marked (replicate 4 0))) b p q
-        ∙ ap (λ (x : Bool). elem l b || x) (none b p q) ∙ or_false (elem l b)
+        ∙ ap (λ (x : Bool). elem l b || x) (none b p q) ∙ or-false (elem l b)

@@ -1,5 +1,6 @@
 // The intersection of two trees in tokens: the characteristic groups of the one join the other, in one walk over its tokens.
 #![tactic(auto)]
+
 ghost use Rattle.std.specs.Prelude.{◌≡◌, map, ◌<◌, ◌≤◌, length, take};
 ghost use Rattle.spec_orders.specs.Lists.{elem};
 ghost use Rattle.spec_orders.specs.Tree.{Forest, frontier};
