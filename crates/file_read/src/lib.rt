@@ -1,5 +1,6 @@
 // The ring file: whether it is accepted, and its names and groups, read where they stand.
 #![tactic(auto)]
+
 ghost use Rattle.std.specs.Prelude.{◌≡◌, ◌+◌, ◌≤◌, length};
 ghost use Rattle.tree_tokens.specs.Tokens.{Wrote};
 ghost use Rattle.file_read.specs.RingFile.{name_in, name_start, line_in, value_in, group_for, Says, told};
