@@ -1,6 +1,7 @@
 // The trial in two steps, for a node table of rows and for one of records, with which joining begins too: the checks that need no node table, and
 // the answer when the table was swept. Between them the table is read once, and none of its records is written anywhere.
 #![tactic(auto)]
+
 ghost use Rattle.std.specs.Prelude.{◌≡◌, List, ℕ, ◌≤◌, length};
 ghost use Rattle.std.proofs.Math.Option.{none};
 ghost use Rattle.spec_orders.specs.Layout.{leaf_count};
