@@ -1,13 +1,13 @@
 -- The lines of a load's file, from the first word on: the names, and the values of a group with no bin.
-use mathlib.Core.Path.{◌≡◌, refl, sym, ap, ◌∙◌}
+use mathlib.Core.Path.{◌≡◌, refl, sym, ap}
 use mathlib.Core.List.{List, [], ◌∷◌, ◌++◌, map, append_assoc}
-use Prim.Native.Nat.{ℕ, zero, suc, ◌+◌, ◌-◌, ◌*◌, ◌≤◌, ◌<◌}
+use Prim.Native.Nat.{ℕ, zero, suc, ◌+◌, ◌-◌, ◌*◌, ◌≤◌}
 use native.Mathlib.Omega.{arith}
 use lib.ListN.{length, length-append}
 use Rattle.spec_orders.specs.Lists.{numbers_from}
 use Rattle.spec_orders.specs.TreeText.{digits}
 use Rattle.file_syntax.specs.RingFile.{Value, off, value_word, further, line}
-use Rattle.spec_load.specs.TestLoad.{state_after, next_state, drawn, run, runs, values, bin_names, load, circle, load_file}
+use Rattle.spec_load.specs.TestLoad.{state_after, next_state, drawn, run, runs, values}
 use Rattle.spec_load.proofs.File.{values_length}
 use Rattle.load_file.specs.Lines.{name_line, group_line, group_lines}
 

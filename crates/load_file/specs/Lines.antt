@@ -1,5 +1,5 @@
 -- The lines of a test load's file, as its writers take them.
-use Rattle.std.specs.Prelude.{◌≡◌, List, ◌++◌, map, ℕ, ◌*◌, ◌≤◌, length}
+use Rattle.std.specs.Prelude.{◌≡◌, List, ◌++◌, map, ℕ, ◌≤◌, length}
 use Rattle.spec_orders.specs.Lists.{All, numbers_from}
 use Rattle.spec_orders.specs.TreeText.{digits}
 use Rattle.file_syntax.specs.RingFile.{value_word, line, value_lines}

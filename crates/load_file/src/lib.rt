@@ -1,5 +1,6 @@
 // The file of a test load, written to lent bytes.
 #![tactic(auto)]
+
 ghost use Rattle.std.specs.Prelude.{[], ℕ, ◌+◌, ◌*◌, ◌≤◌, length};
 ghost use Rattle.spec_orders.specs.Lists.{All};
 ghost use Rattle.spec_load.specs.TestLoad.{run, load_file};
