@@ -11,7 +11,7 @@ use lib.Dec.{eqb}
 use lib.ListN.{length, get_or, take, drop}
 use Rattle.spec_orders.specs.CircularOrder.{Restriction}
 use Rattle.mark_words.specs.Marks.{marked, word_of, words_of, with_leaf, either}
-use Rattle.mark_words.proofs.Word.{word_is, bit_or}
+use Rattle.mark_words.proofs.Word.{word_is, bit_of_or}
 use Rattle.mark_words.proofs.Words.{marked_at, marked_words}
 use Rattle.mark_words.proofs.Leaves.{marked_range}
 use Rattle.spec_calls.specs.Calls.{group_numbered}
@@ -24,7 +24,7 @@ pub either_word : (vs ws : List ℕ) (i : ℕ) → get_or vs i 0 < 2 ^ 64 → ge
     → bit_or (get_or vs i 0) (get_or ws i 0) ≡ word_of (either (marked vs) (marked ws)) (64 * i) 64
 either_word vs ws i v w =
     word_is (either (marked vs) (marked ws)) (64 * i) (bit_or (get_or vs i 0) (get_or ws i 0)) 64 (or_lt 64 (get_or vs i 0) (get_or ws i 0) v w)
-    (λ j h. bit_or (get_or vs i 0) (get_or ws i 0) j ∙ ap₂ (λ (a b : Bool). a || b) (sym (marked_at vs i j h)) (sym (marked_at ws i j h)))
+    (λ j h. bit_of_or (get_or vs i 0) (get_or ws i 0) j ∙ ap₂ (λ (a b : Bool). a || b) (sym (marked_at vs i j h)) (sym (marked_at ws i j h)))
 
 -- The leaves of either words are in what unites them.
 module _ (vs ws us : List ℕ) (h : length vs ≡ length ws) (u : us ≡ words_of (length vs) (either (marked vs) (marked ws))) where

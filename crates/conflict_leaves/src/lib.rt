@@ -1,5 +1,6 @@
 // The leaves that the conflict call goes by: those of the groups, and one of the others for all of them; and the tree to start from.
 #![tactic(auto)]
+
 ghost use Rattle.std.specs.Prelude.{◌≡◌, ℕ, ◌≤◌, length};
 ghost use Rattle.spec_orders.specs.Lists.{those_of};
 ghost use Rattle.spec_orders.specs.CircularOrder.{others};
