@@ -1,5 +1,6 @@
 // Bytes appended to a lent slice: each function writes from a place on and returns the place after what it wrote.
 #![tactic(auto)]
+
 ghost use Rattle.std.specs.Prelude.{◌≡◌, ◌+◌, ◌≤◌, length};
 ghost use Rattle.spec_orders.specs.TreeText.{digits, tree_text};
 ghost use Rattle.tree_tokens.specs.Tokens.{Judged, tree, encode, Wrote};
