@@ -1,6 +1,7 @@
 // The calls that make and change the lent tables of a ring or a rack: opening it, joining a group, trying one. A node table is lent as rows of 257
 // numbers, with the number of records that they are.
 #![tactic(auto)]
+
 ghost use Rattle.std.specs.Prelude.{◌≡◌, length};
 ghost use Rattle.spec_calls.specs.Tables.{lent_nodes, lent_book};
 ghost use Rattle.spec_calls.specs.Refusals.{report};
