@@ -38,7 +38,7 @@ pub walk_node-header-requires : goal.walk_node-header-requires
 walk_node-header-requires t c = omega (arith, (c.walk_items-m.ensures _ _ (inner_there c.args.table.now c.args.r c.args.out.now c.requires.2)).many, (node_record c.requires.2).3)
 
 pub walk_node-bounds-out-0 : goal.walk_node-bounds-out-0
-walk_node-bounds-out-0 t c = omega (arith, c.out-1.given.1, (node_record c.requires.2).2)
+walk_node-bounds-out-0 t c = omega (arith, (node_record c.requires.2).2)
 
 pub walk_node-overflow_add-result : goal.walk_node-overflow_add-result
 walk_node-overflow_add-result t c = omega (arith, (c.walk_items-m.ensures _ _ (inner_there c.args.table.now c.args.r c.args.out.now c.requires.2)).many, (node_record c.requires.2).3)
