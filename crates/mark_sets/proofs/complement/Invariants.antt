@@ -1,3 +1,4 @@
+-- The first i words are those of the leaves outside, the others are as they were, and n - 64 * i leaves are left for them; all words fit.
 use Prim.Native.Nat.{◌-◌, ◌*◌}
 use mathlib.Core.Path.{◌≡◌}
 use lib.ListN.{length}
