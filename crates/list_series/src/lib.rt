@@ -1,5 +1,6 @@
 // Names with spaces between and line numbers with commas between, appended to lent bytes.
 #![tactic(auto)]
+
 ghost use Rattle.std.specs.Prelude.{◌+◌, ◌*◌, ◌≤◌, length};
 ghost use Rattle.spec_orders.specs.Lists.{All};
 ghost use Rattle.list_bytes.specs.Appends.{Appends};
