@@ -1,5 +1,6 @@
 // The leaving-out rule over the groups of a book: which of them are needed for an impossibility, none of them needlessly.
 #![tactic(auto)]
+
 ghost use Rattle.std.specs.Prelude.{◌≡◌, List, ◌+◌, ◌≤◌, length, take};
 ghost use Rattle.spec_orders.specs.declared.Layout.TheVariants.{Ring};
 ghost use Rattle.spec_orders.specs.CircularOrder.{Restriction};
