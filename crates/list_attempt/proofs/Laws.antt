@@ -48,6 +48,7 @@ module _ (t : Forest) (n count : ℕ) (list : List ℕ) where
     none_joined words old new h w q a = judged q ∙ go (join (group_of n list) t) (subst (λ G. Answers (join G t) old new Impossible) (marks_are words h w) a)
       where
         go : (o : Option Forest) → Answers o old new Impossible → first_refusal (refuse (is_none o) Not-possible ∷ []) ≡ some Not-possible
+        go (some _) a = elim a [ ]
         go none a = refl
 
     pub one-joined : (words old new : List ℕ) (k : ℕ) → n ≤ 256 → words ≡ words_of 4 (group_of n list) → (count ≡ 96 → ⊥) → Answers (join (marked words) t) old new (Tokens k)
@@ -55,4 +56,5 @@ module _ (t : Forest) (n count : ℕ) (list : List ℕ) where
     one-joined words old new k h w q a = go (join (group_of n list) t) refl (subst (λ G. Answers (join G t) old new (Tokens k)) (marks_are words h w) a)
       where
         go : (o : Option Forest) → join (group_of n list) t ≡ o → Answers o old new (Tokens k) → JoinedTree t n count list words old new k
+        go none p x'' = elim x'' [ ]
         go (some u) p (written x) = record { passes = judged q ∙ ap (λ o. first_refusal (refuse (is_none o) Not-possible ∷ [])) p; not_full = q; group = w; tree = u; is = p; wrote = x }

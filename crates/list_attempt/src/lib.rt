@@ -1,5 +1,6 @@
 // The attempt to join a line's group: checks 5 to 8 on a tree in tokens, and the tree with the group joined to it.
 #![tactic(auto)]
+
 ghost use Rattle.std.specs.Prelude.{◌≡◌, ◌≤◌, length};
 ghost use Rattle.tree_tokens.specs.Tokens.{flat, TreeTokens};
 ghost use Rattle.spec_orders.specs.Tree.{Forest};
