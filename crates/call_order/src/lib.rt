@@ -1,6 +1,7 @@
 // The calls that read the order of a ring's or a rack's tree: the standard order, and the aim of a book's group in it. A node table is lent as
 // rows of 257 numbers, with the number of records that they are.
 #![tactic(auto)]
+
 ghost use Rattle.std.specs.Prelude.{◌≡◌, ◌+◌, ◌≤◌, ◌<◌, length};
 ghost use Rattle.tree_tokens.specs.Tokens.{flat};
 ghost use Rattle.spec_orders.specs.Tree.{Forest};
