@@ -1,5 +1,6 @@
 // The ring of a ring file as its group lines join it, one after another, in lent tables.
 #![tactic(auto)]
+
 ghost use Rattle.std.specs.Prelude.{List, ℕ, ◌+◌, ◌≤◌, ◌<◌, length};
 ghost use Rattle.file_read.specs.RingFile.{FileHolds};
 ghost use Rattle.spec_listing.specs.Listing.{RingState, opened, outcome, next};
