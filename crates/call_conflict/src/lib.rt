@@ -1,5 +1,6 @@
 // The conflict call: which groups of the book are impossible together with a new one, none of them needlessly.
 #![tactic(auto)]
+
 ghost use Rattle.std.specs.Prelude.{◌≡◌, ◌≤◌, length};
 ghost use Rattle.spec_orders.specs.declared.Layout.TheVariants.{Ring};
 ghost use Rattle.spec_orders.specs.Lists.{numbers_from};
