@@ -36,11 +36,11 @@ put_names-requires t c =
     let first : (1 ≤ get_or c.args.order.now 0 0) × (get_or c.args.order.now 0 0 ≤ c.args.names) = (all_first (λ b. (1 ≤ b) × (b ≤ c.args.names)) c.args.order.now c.requires.1 c.if-order-eq0.false) in
     let named : (f : FileHolds c.args.file.now c.args.names c.args.head c.args.lines) → c.name_of.result.now ≡ get_or f.ns (get_or c.args.order.now 0 0 - 1) [] = (λ f. c.name_of.ensures.result_value ∙ name_held f (get_or c.args.order.now 0 0 - 1)) in
     let few : length c.name_of.result.now ≤ 8 = (rw (named c.requires.0) (name-few c.requires.0 (get_or c.args.order.now 0 0 - 1) (omega (arith, first)))) in (
-      omega (arith, c.requires.0, c.put_names-arg-1.given, c.if-order-eq0.false),
+      omega (arith, c.requires.0, c.if-order-eq0.false),
       (
         c.requires.0,
         all_tail (λ b. (1 ≤ b) × (b ≤ c.args.names)) c.args.order.now c.requires.1 c.if-order-eq0.false,
-        omega (arith, c.requires.2, c.put_names-arg-1.given, c.if-order-eq0.false, few, c.put-b.ensures.past, c.put-b.auto.out, c.put-a.ensures.past, c.put-a.auto.out),
+        omega (arith, c.requires.2, c.if-order-eq0.false, few, c.put-b.ensures.past, c.put-b.auto.out, c.put-a.ensures.past, c.put-a.auto.out),
       ),
     )
 
@@ -49,7 +49,7 @@ returns t c =
     let named : (f : FileHolds c.args.file.now c.args.names c.args.head c.args.lines) → c.name_of.result.now ≡ get_or f.ns (get_or c.args.order.now 0 0 - 1) [] = (λ f. c.name_of.ensures.result_value ∙ name_held f (get_or c.args.order.now 0 0 - 1)) in
     let first : (1 ≤ get_or c.args.order.now 0 0) × (get_or c.args.order.now 0 0 ≤ c.args.names) = (all_first (λ b. (1 ≤ b) × (b ≤ c.args.names)) c.args.order.now c.requires.1 c.if-order-eq0.false) in
     let few : length c.name_of.result.now ≤ 8 = (rw (named c.requires.0) (name-few c.requires.0 (get_or c.args.order.now 0 0 - 1) (omega (arith, first)))) in (
-      omega (arith, c.put_names.ensures.0, c.put_names-arg-1.given, c.if-order-eq0.false, c.put-b.ensures.past, c.put-a.ensures.past, few),
+      omega (arith, c.put_names.ensures.0, c.if-order-eq0.false, c.put-b.ensures.past, c.put-a.ensures.past, few),
       λ f.
           rw (words_more 32 (name f.ns) c.args.order.now c.if-order-eq0.false c.if-order-eq1.false)
           (appends_then (appends_then (appends_as (named f) c.put-a.ensures) c.put-b.ensures) (c.put_names.ensures.1 f)),

@@ -23,7 +23,7 @@ pub slice_bounds-write_names-start : goal.slice_bounds-write_names-start
 slice_bounds-write_names-start t c = simp length-set (omega (arith, name-first c.args.b c.args.many c.requires.0, c.requires.2, c.write_number-k.ensures.many, c.write_number-k.auto.out))
 
 pub write_names-requires : goal.write_names-requires
-write_names-requires t c = (omega (arith, c.requires.0, c.requires.0), (omega (arith, c.requires.0, c.if-many-eq1.false), omega (arith, c.requires.1, c.requires.0), omega (arith, name_more_length c.args.b c.args.many c.requires.0 c.if-many-eq1.false, c.requires.2, c.write_number-k.ensures.many, c.write_number-k.auto.out, c.write_names-arg-1.given, length-set c.write_number-k.new.out c.write_number-k.result 32)))
+write_names-requires t c = (omega (arith, c.requires.0, c.requires.0), (omega (arith, c.requires.0, c.if-many-eq1.false), omega (arith, c.requires.1, c.requires.0), omega (arith, name_more_length c.args.b c.args.many c.requires.0 c.if-many-eq1.false, c.requires.2, c.write_number-k.ensures.many, c.write_number-k.auto.out, length-set c.write_number-k.new.out c.write_number-k.result 32)))
 
 pub returns : goal.returns
 returns t c = rw (name_more c.args.b c.args.many c.requires.0 c.if-many-eq1.false) (wrote_then (wrote_byte 32 c.write_number-k.ensures (omega (arith, name-first c.args.b c.args.many c.requires.0, c.requires.2))) c.write_names.ensures)

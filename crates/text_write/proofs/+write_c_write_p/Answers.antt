@@ -13,7 +13,7 @@ use Rattle.text_write.proofs.Spelled.{Spelled, whole, inside, behind, same_place
 use Rattle.text_write.proofs.+write_c_write_p.Goals as goal
 
 pub write_c-write_opening-k-requires : goal.write_c-write_opening-k-requires
-write_c-write_opening-k-requires t c = let q = opening-room c.requires c.loop-i.invariant.1 c.loop-i-test.true in ((q.0, q.1, omega (arith, q.2, c.write_opening-arg-1.given)), omega arith)
+write_c-write_opening-k-requires t c = let q = opening-room c.requires c.loop-i.invariant.1 c.loop-i-test.true in ((q.0, q.1, omega (arith, q.2)), omega arith)
 
 pub write_c-overflow_add-k : goal.write_c-overflow_add-k
 write_c-overflow_add-k t c =
@@ -33,7 +33,7 @@ write_c-slice_bounds-write_p-start t c =
 pub write_c-write_p-k-requires : goal.write_c-write_p-k-requires
 write_c-write_p-k-requires t c =
     let write-c-opened : Left c.args.toks.now c.loop-i.i (Spelled inside c.args.out.now (put_mid c.loop-i.k (length c.loop-i.out - c.loop-i.k) c.loop-i.out c.write_opening-k.new.out) (c.loop-i.k + c.write_opening-k.result)) = (same_place c.loop-i.invariant.1 c.loop-i-test.true (λ j h p g. written_then (inside h) (text_split h) (c.write_opening-k.ensures h p.part) g)) in
-    let q = items-room c.requires write-c-opened c.loop-i-test.true c.items.ensures.1 in (omega (arith, unvisited_fall (c.requires.0, c.requires.1) c.loop-i.invariant.1 c.loop-i-test.true (λ z. omega (arith, z, c.if-kind-eq1.true)) c.items.ensures.1), (q.0, q.1, omega (arith, q.2, c.write_p-arg-1.given)))
+    let q = items-room c.requires write-c-opened c.loop-i-test.true c.items.ensures.1 in (omega (arith, unvisited_fall (c.requires.0, c.requires.1) c.loop-i.invariant.1 c.loop-i-test.true (λ z. omega (arith, z, c.if-kind-eq1.true)) c.items.ensures.1), (q.0, q.1, omega (arith, q.2)))
 
 pub write_c-overflow_add-k-then-kind-eq1 : goal.write_c-overflow_add-k-then-kind-eq1
 write_c-overflow_add-k-then-kind-eq1 t c =
@@ -53,7 +53,7 @@ write_c-slice_bounds-write_c-start t c =
 pub write_c-write_c-k-requires : goal.write_c-write_c-k-requires
 write_c-write_c-k-requires t c =
     let write-c-opened : Left c.args.toks.now c.loop-i.i (Spelled inside c.args.out.now (put_mid c.loop-i.k (length c.loop-i.out - c.loop-i.k) c.loop-i.out c.write_opening-k.new.out) (c.loop-i.k + c.write_opening-k.result)) = (same_place c.loop-i.invariant.1 c.loop-i-test.true (λ j h p g. written_then (inside h) (text_split h) (c.write_opening-k.ensures h p.part) g)) in
-    let q = items-room c.requires write-c-opened c.loop-i-test.true c.items-then-kind-eq3.ensures.1 in (omega (arith, unvisited_fall (c.requires.0, c.requires.1) c.loop-i.invariant.1 c.loop-i-test.true (λ z. omega (arith, z, c.if-kind-eq3.true)) c.items-then-kind-eq3.ensures.1), (q.0, q.1, omega (arith, q.2, c.write_c-arg-1.given)))
+    let q = items-room c.requires write-c-opened c.loop-i-test.true c.items-then-kind-eq3.ensures.1 in (omega (arith, unvisited_fall (c.requires.0, c.requires.1) c.loop-i.invariant.1 c.loop-i-test.true (λ z. omega (arith, z, c.if-kind-eq3.true)) c.items-then-kind-eq3.ensures.1), (q.0, q.1, omega (arith, q.2)))
 
 pub write_c-overflow_add-k-then-kind-eq3 : goal.write_c-overflow_add-k-then-kind-eq3
 write_c-overflow_add-k-then-kind-eq3 t c =
@@ -92,7 +92,7 @@ write_c-write_closing-k-requires t c =
       | write_c-else-kind-eq1+then-kind-eq3 w ↦ rw (w.out-is, w.k-is) (same_place o c.loop-i-test.true (λ j h p g. written_then (behind h) refl (w.write_c-k.ensures _ (w.items-then-kind-eq3.ensures.1 h p.part)) g))
       | write_c-else-kind-eq1+else-kind-eq3 w ↦ rw (w.out-is, w.k-is) (same_place o c.loop-i-test.true (λ j h p g. written_same (behind h) (inside_leaf p w.if-kind-eq1.false w.if-kind-eq3.false) g))
     ]) in
-    let q = closing-room c.requires write-c-inner c.loop-i-test.true in ((q.0, q.1, omega (arith, q.2, c.write_closing-arg-1.given)), omega arith)
+    let q = closing-room c.requires write-c-inner c.loop-i-test.true in ((q.0, q.1, omega (arith, q.2)), omega arith)
 
 pub write_c-overflow_add-k-in-loop-i : goal.write_c-overflow_add-k-in-loop-i
 write_c-overflow_add-k-in-loop-i t c =
@@ -120,7 +120,7 @@ pub write_c-returns : goal.write_c-returns
 write_c-returns t c = λ j e. written_end (at_last c.loop-i.invariant.1 (omega arith) j e)
 
 pub write_p-write_opening-k-requires : goal.write_p-write_opening-k-requires
-write_p-write_opening-k-requires t c = let q = opening-room c.requires c.loop-i.invariant.1 c.loop-i-test.true in ((q.0, q.1, omega (arith, q.2, c.write_opening-arg-1.given)), omega arith)
+write_p-write_opening-k-requires t c = let q = opening-room c.requires c.loop-i.invariant.1 c.loop-i-test.true in ((q.0, q.1, omega (arith, q.2)), omega arith)
 
 pub write_p-overflow_add-k : goal.write_p-overflow_add-k
 write_p-overflow_add-k t c =
@@ -140,7 +140,7 @@ write_p-slice_bounds-write_c-start t c =
 pub write_p-write_c-k-requires : goal.write_p-write_c-k-requires
 write_p-write_c-k-requires t c =
     let write-p-opened : Left c.args.toks.now c.loop-i.i (Spelled inside c.args.out.now (put_mid c.loop-i.k (length c.loop-i.out - c.loop-i.k) c.loop-i.out c.write_opening-k.new.out) (c.loop-i.k + c.write_opening-k.result)) = (same_place c.loop-i.invariant.1 c.loop-i-test.true (λ j h p g. written_then (inside h) (text_split h) (c.write_opening-k.ensures h p.part) g)) in
-    let q = items-room c.requires write-p-opened c.loop-i-test.true c.items.ensures.1 in (omega (arith, unvisited_fall (c.requires.0, c.requires.1) c.loop-i.invariant.1 c.loop-i-test.true (λ z. omega (arith, z, c.if-kind-eq3.true)) c.items.ensures.1), (q.0, q.1, omega (arith, q.2, c.write_c-arg-1.given)))
+    let q = items-room c.requires write-p-opened c.loop-i-test.true c.items.ensures.1 in (omega (arith, unvisited_fall (c.requires.0, c.requires.1) c.loop-i.invariant.1 c.loop-i-test.true (λ z. omega (arith, z, c.if-kind-eq3.true)) c.items.ensures.1), (q.0, q.1, omega (arith, q.2)))
 
 pub write_p-overflow_add-k-then-kind-eq3 : goal.write_p-overflow_add-k-then-kind-eq3
 write_p-overflow_add-k-then-kind-eq3 t c =
@@ -160,7 +160,7 @@ write_p-slice_bounds-write_p-start t c =
 pub write_p-write_p-k-requires : goal.write_p-write_p-k-requires
 write_p-write_p-k-requires t c =
     let write-p-opened : Left c.args.toks.now c.loop-i.i (Spelled inside c.args.out.now (put_mid c.loop-i.k (length c.loop-i.out - c.loop-i.k) c.loop-i.out c.write_opening-k.new.out) (c.loop-i.k + c.write_opening-k.result)) = (same_place c.loop-i.invariant.1 c.loop-i-test.true (λ j h p g. written_then (inside h) (text_split h) (c.write_opening-k.ensures h p.part) g)) in
-    let q = items-room c.requires write-p-opened c.loop-i-test.true c.items-then-kind-eq1.ensures.1 in (omega (arith, unvisited_fall (c.requires.0, c.requires.1) c.loop-i.invariant.1 c.loop-i-test.true (λ z. omega (arith, z, c.if-kind-eq1.true)) c.items-then-kind-eq1.ensures.1), (q.0, q.1, omega (arith, q.2, c.write_p-arg-1.given)))
+    let q = items-room c.requires write-p-opened c.loop-i-test.true c.items-then-kind-eq1.ensures.1 in (omega (arith, unvisited_fall (c.requires.0, c.requires.1) c.loop-i.invariant.1 c.loop-i-test.true (λ z. omega (arith, z, c.if-kind-eq1.true)) c.items-then-kind-eq1.ensures.1), (q.0, q.1, omega (arith, q.2)))
 
 pub write_p-overflow_add-k-then-kind-eq1 : goal.write_p-overflow_add-k-then-kind-eq1
 write_p-overflow_add-k-then-kind-eq1 t c =
@@ -198,7 +198,7 @@ write_p-write_closing-k-requires t c =
       | write_p-else-kind-eq3+then-kind-eq1 w ↦ rw (w.out-is, w.k-is) (same_place o c.loop-i-test.true (λ j h p g. written_then (behind h) refl (w.write_p-k.ensures _ (w.items-then-kind-eq1.ensures.1 h p.part)) g))
       | write_p-else-kind-eq3+else-kind-eq1 w ↦ rw (w.out-is, w.k-is) (same_place o c.loop-i-test.true (λ j h p g. written_same (behind h) (inside_leaf p w.if-kind-eq1.false w.if-kind-eq3.false) g))
     ]) in
-    let q = closing-room c.requires write-p-inner c.loop-i-test.true in ((q.0, q.1, omega (arith, q.2, c.write_closing-arg-1.given)), omega arith)
+    let q = closing-room c.requires write-p-inner c.loop-i-test.true in ((q.0, q.1, omega (arith, q.2)), omega arith)
 
 pub write_p-overflow_add-k-in-loop-i : goal.write_p-overflow_add-k-in-loop-i
 write_p-overflow_add-k-in-loop-i t c =

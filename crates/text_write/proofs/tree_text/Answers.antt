@@ -48,7 +48,7 @@ write_p-requires c =
     let room : 1 + c.write_gap-k.result + length (text (tree c.requires.0)) ≤ length (put_mid 1 (length (set c.args.out.now 0 49) - 1) (set c.args.out.now 0 49) c.write_gap-k.new.out) = (let w = begun c.requires.0 c.requires.1 in
     let r = tree_text-room c.requires.0 c.requires.2 in
     omega (arith, w.many, wrote_length w (omega (arith, r)), r)) in
-    (c.requires.0, c.requires.1, omega (arith, room, c.write_p-arg-1.given))
+    (c.requires.0, c.requires.1, omega (arith, room))
 
 pub returns : goal.returns
 returns c =
