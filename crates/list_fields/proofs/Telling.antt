@@ -13,7 +13,7 @@ use Rattle.spec_orders.specs.Circles.{bytes}
 use Rattle.spec_calls.specs.Tables.{lent_book}
 use Rattle.spec_calls.specs.Book.{groups}
 use Rattle.spec_calls.specs.Calls.{conflicts_of}
-use Rattle.spec_listing.specs.Listing.{Outcome, kept, refused, RingState, joined, outcome, next, commas, aim_field, fields}
+use Rattle.spec_listing.specs.Listing.{Outcome, RingState, joined, outcome, next, commas, aim_field, fields}
 use Rattle.list_ring.specs.Stands.{RingStands}
 use Rattle.list_ring.proofs.Outcomes.{outcome_full, outcome-joined}
 use Rattle.list_fields.proofs.Conflicting.{conflicts_listed}

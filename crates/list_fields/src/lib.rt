@@ -1,5 +1,6 @@
 // The fields of a group line, appended to lent bytes.
 #![tactic(auto)]
+
 ghost use Rattle.std.specs.Prelude.{◌≡◌, List, ◌++◌, ℕ, ◌+◌, ◌-◌, ◌≤◌, length, take, drop};
 ghost use Rattle.spec_orders.specs.declared.Layout.TheVariants.{Ring};
 ghost use Rattle.spec_orders.specs.Lists.{elem};
