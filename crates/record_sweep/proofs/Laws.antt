@@ -11,10 +11,13 @@ use Rattle.spec_orders.specs.CircularOrder.{Restriction}
 use Rattle.spec_orders.proofs.ListLaws.{drop_zeros}
 use Rattle.record_copy.specs.declared.Node.{Node}
 use Rattle.record_copy.specs.Rows.{zero_node, row_of, rows_of, zero_rows, node_rows, Sound}
-use Rattle.record_copy.proofs.Whole.{Whole}
 use Rattle.record_copy.proofs.Laws.{Capped, cap_length}
 use Rattle.table_reading.specs.Reading.{row_at}
 use Rattle.table_sweep.specs.Kept.{Blank, Started, Swept}
+
+-- What its type says of a record.
+abbrev pub Whole : Node → Type 0
+Whole n = (n.kind < 256) × (length n.items ≡ 255)
 
 sound_all : (xs : List Node) → ((j : ℕ) → j < length xs → Whole (get_or xs j zero_node)) → Sound xs
 unfolding Sound

@@ -1,5 +1,6 @@
 // The calls that write and read the tree text, on a node table of records. Written by tools/outer.py.
 #![tactic(auto)]
+
 ghost use Rattle.spec_calls.specs.Tables.{lent_book};
 ghost use Rattle.spec_calls.specs.Refusals.{report};
 ghost use Rattle.spec_calls.specs.Promises.{WritePromise, ReadPromise};

@@ -1,6 +1,7 @@
 // The calls that open a ring or a rack, join a group and try one, on a node table of records, but for `trial`, which stands in record_trial. Written
 // by tools/outer.py.
 #![tactic(auto)]
+
 ghost use Rattle.spec_calls.specs.Tables.{lent_book};
 ghost use Rattle.spec_calls.specs.Refusals.{report};
 ghost use Rattle.spec_calls.specs.Promises.{OpenPromise, JoinPromise};
