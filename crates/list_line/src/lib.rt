@@ -1,5 +1,6 @@
 // One line of a ring file's listing, printed to lent bytes.
 #![tactic(auto)]
+
 ghost use Rattle.std.specs.Prelude.{◌≡◌, [], ◌+◌, ◌-◌, ◌≤◌, ◌<◌, length, get_or};
 ghost use Rattle.tree_tokens.specs.Tokens.{flat, TreeTokens};
 ghost use Rattle.spec_orders.specs.Tree.{Forest};
