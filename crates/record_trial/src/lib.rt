@@ -1,5 +1,6 @@
 // The call that tries a group, on a node table of records, which are only read.
 #![tactic(auto)]
+
 ghost use Rattle.spec_calls.specs.Tables.{lent_book};
 ghost use Rattle.spec_calls.specs.Refusals.{report};
 ghost use Rattle.spec_calls.specs.Promises.{TrialPromise};
