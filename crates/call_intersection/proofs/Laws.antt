@@ -52,12 +52,14 @@ module _ (nodes other : Nodes) where
       not_met {old} {new} a = rw (h, g, common_is) (go (intersection t u) a)
         where
           go : (o : Option Forest) → Answers o old new Not-possible → first_refusal (refuse (is_none o) Impossible ∷ []) ≡ some Impossible
+          go (some _) a = elim a [ ]
           go none a = refl
 
       pub met : {old new : List ℕ} {k : ℕ} → Answers (intersection t u) old new (Tokens k) → CommonLent nodes other old new k
       met {old} {new} {k} a = go (intersection t u) refl a
         where
           go : (o : Option Forest) → intersection t u ≡ o → Answers o old new (Tokens k) → CommonLent nodes other old new k
+          go none i x'' = elim x'' [ ]
           go (some v) i (written w) = record {
             passes = rw (h, g, common_is, i);
             tree = v;

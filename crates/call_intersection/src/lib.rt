@@ -1,6 +1,7 @@
 // The call of document 02's No. 1: two trees, one ring. A node table is lent as rows of 257 numbers, with the number of records that they are:
 // `have`, `had` and `room`.
 #![tactic(auto)]
+
 ghost use Rattle.std.specs.Prelude.{◌≡◌, ◌&&◌, ℕ, ◌≤◌, eqb, length};
 ghost use Rattle.spec_orders.specs.Layout.{leaf_count};
 ghost use Rattle.spec_calls.specs.Tables.{lent_nodes};
