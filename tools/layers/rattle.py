@@ -1,4 +1,4 @@
-"""The Rattle functions of the outer layers; and the proofs of those for C and Rust."""
+"""The Rattle functions of the outer layers."""
 import calls
 from layers.table import (
     coded,
@@ -18,7 +18,7 @@ from layers.table import (
 )
 from layers.text import CODED, MADE, comment, signature
 
-TACTIC = "#![tactic(auto)]"
+TACTIC = "#![tactic(auto)]\n"  # and a blank line
 REPLY = "(reply result value.new)"
 
 
@@ -104,64 +104,6 @@ def called(head, xs):
 def file_heads():
     """The head of each function of crate c_file."""
     return [head(f'pub extern "C" fn tokuwhape_{call.name}', coded(call.lent), call.result, "u16") for call in calls.FILE]
-
-
-def paired(xs, pair):
-    """These, each put to the rest behind it by `pair`."""
-    *before, rest = xs
-    for x in reversed(before):
-        rest = pair(x, rest)
-    return rest
-
-
-def c_proof(call):
-    crate, name = f"c_{call.crate}", f"tokuwhape_{call.name}"
-    dashed, field = name.replace("_", "-"), {"open": "«open»"}.get(call.name, call.name.replace("_", "-"))
-    tables, values = [p for p in params(call.lent) if p.table], enums(call)
-    nodes = [p for p in tables if p.nodes]
-    passed = counted(call)
-    # how many facts lie between the function's end and its call, its counts of records, its enums' values, and its start
-    many = len(written(call))
-    to_call = 2 + 2 * many
-    to_records = [to_call + many + 1 + sum(1 + p.written for p in nodes[i + 1 :]) for i in range(len(nodes))]
-    to_values = to_call + many + 1 + sum(1 + p.written for p in nodes)
-    to_start = to_values + len(values) + len(tables)
-    back = lambda k: "c" + " .before" * k
-    numbered = lambda fact, i: fact + str(i + 1) * bool(i)
-    # what is a result of another call before it: its type, and what is ensured of it
-    results = {p.name: (p.type, f"({back(to_values + len(values) - 1 - i)} .{numbered(p.enum.definition, i)} .ensures)") for i, p in enumerate(values)}
-    results |= {calls.RECORDS[p.name]: ("ℕ", f"({back(to_records[i])} .{numbered('records', i)} .ensures)") for i, p in enumerate(nodes)}
-    types, ensured = zip(*results.values()) if results else ((), ())
-    result = {x: f"(z{' .1' * i}{' .0' * (i + 1 < len(results))})" for i, x in enumerate(results)} if len(results) > 1 else dict.fromkeys(results, "z")
-    entry = lambda p: result.get(p.name) or (f"(a .{p.name} .now)" if p.table else f"(a .{p.name})")
-    exit = lambda p: f"(x{' .1' * passed.index(p.name)} .0)"
-    said = promise(call, entry, exit, lambda of, p: f"(lent_nodes {of} {result[calls.RECORDS[p.name]]} {entry(p)})", "").rstrip()
-    yield f"-- The promise of `{call.rows}::{call.name}`, of the two numbers in which its answer is coded. {MADE}"
-    if nodes:
-        yield "use Prim.Native.Nat.{ℕ}"
-    yield "use borrow.Author.Needs.{needs}"
-    yield from sorted({f"use Rattle.{p.enum.crate}.specs.declared.{p.type}.{{{p.type}}}" for p in values})
-    lent = ["lent_nodes"] * bool(nodes) + lent_uses([call])
-    if lent:
-        yield f"use Rattle.spec_calls.specs.Tables.{{{', '.join(lent)}}}"
-    yield f"use Rattle.spec_calls.specs.Promises.{{{call.promise}}}"
-    yield f"use Rattle.c_rows.proofs.Coded.{{{'coded' if results else 'replied'}{', both' * (len(results) > 1)}}}"
-    yield f"use Rattle.{crate}·proofs.proofs.{name}.Statement.{{statement}}"
-    yield f"use Rattle.{crate}·proofs.proofs.{name}.Tie as tie\n"
-    yield "returns : tie.Need-returns"
-    yield f"returns c =\n    let a = {back(to_start)} .args in"
-    if many:
-        yield f"    let x = {back(to_call)} .{field} .last in"
-    if results:
-        of = paired(types, lambda x, rest: f"{x} × {f'({rest})' if '×' in rest else rest}")
-        are = paired(ensured, lambda x, rest: f"(both {x} {rest})")
-        carried = f"coded (λ (z : {of}). {said}) {are}"
-    else:
-        carried = f"replied ({said})"
-    yield f"    {carried} (c .code .ensures) ({back(to_call)} .{field} .ensures)\n"
-    needs = ["(λ c κs. search needs)"] * (2 + len(values) + len(nodes)) + ["(λ c. search needs)"] * many + ["returns"]
-    yield f"pub {dashed}-spec : {{M : Type 1}} → statement M"
-    yield f"{dashed}-spec =\n    tie.close\n    (tie.spec\n    " + "\n    ".join(needs) + ")"
 
 
 # ---- on node records

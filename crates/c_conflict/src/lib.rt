@@ -1,6 +1,7 @@
 // The call that lists the groups in conflict, for C and Rust. Each returns 0, or the number of its refusal, and writes one number through `value`:
 // its own answer; or the place or byte of the refusal, 0 where the table names none. Written by tools/outer.py.
 #![tactic(auto)]
+
 ghost use Rattle.spec_calls.specs.Tables.{layout_numbered, lent_book};
 ghost use Rattle.spec_calls.specs.Refusals.{reply};
 ghost use Rattle.spec_calls.specs.Promises.{ConflictPromise};

@@ -2,6 +2,7 @@
 // refusal, and writes one number through `value`: its own answer; or the place or byte of the refusal, 0 where the table names none. Written by
 // tools/outer.py.
 #![tactic(auto)]
+
 ghost use Rattle.spec_calls.specs.Tables.{lent_rows, layout_numbered};
 ghost use Rattle.spec_calls.specs.Refusals.{reply};
 ghost use Rattle.spec_calls.specs.Promises.{IntersectPromise};

@@ -1,5 +1,6 @@
 // The call that intersects two trees, on node tables of records. Written by tools/outer.py.
 #![tactic(auto)]
+
 ghost use Rattle.spec_calls.specs.Tables.{lent_nodes};
 ghost use Rattle.spec_calls.specs.Refusals.{report};
 ghost use Rattle.spec_calls.specs.Promises.{IntersectPromise};
