@@ -1,5 +1,6 @@
 // The listing of a ring file, printed line by line to lent bytes.
 #![tactic(auto)]
+
 ghost use Rattle.std.specs.Prelude.{◌≡◌, [], ◌∷◌, ◌+◌, ◌-◌, ◌≤◌, ◌<◌};
 ghost use Rattle.tree_tokens.specs.Tokens.{TreeTokens};
 ghost use Rattle.file_read.specs.RingFile.{FileHolds};
