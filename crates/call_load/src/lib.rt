@@ -1,5 +1,6 @@
 // The call that writes the file of a test load.
 #![tactic(auto)]
+
 ghost use Rattle.std.specs.Prelude.{◌≡◌};
 ghost use Rattle.spec_calls.specs.Refusals.{bad_count, report};
 ghost use Rattle.spec_calls.specs.Calls.{test_load_refusal};

@@ -1,0 +1,33 @@
+use Rattle.std.proofs.Common.{◌≤◌, length, sym, arith}
+use Rattle.std.proofs.lemmas.Grind.{common_steps}
+use Rattle.spec_load.proofs.File.{load_fits}
+use Rattle.spec_calls.proofs.TestLoads.{passes_given}
+use Rattle.tree_tokens.proofs.Writes.{wrote_then}
+use Rattle.byte_write.proofs.Padding.{wrote_padded}
+use Rattle.call_load.proofs.Calls.{refused_load, written_load}
+use Rattle.call_load.proofs.test_load.Goals as goal
+
+pub returns-in-Bad : goal.returns-in-Bad
+returns-in-Bad c = refused_load c.args.n c.args.seed c.args.groups c.args.bytes.now c.in-Bad.ensures
+
+pub write_load-k-requires : goal.write_load-k-requires
+write_load-k-requires c =
+    let g = passes_given c.args.n c.args.seed c.args.groups c.args.bytes.now (sym c.in_default.ensures) in
+    (g.some_bin, g.few_bins, g.few_groups, g.all_bytes)
+
+pub overflow_sub-k : goal.overflow_sub-k
+overflow_sub-k c =
+    let g = passes_given c.args.n c.args.seed c.args.groups c.args.bytes.now (sym c.in_default.ensures) in
+    omega (arith, c.write_load-k.ensures.many, load_fits c.args.n c.args.seed c.args.groups g.few_bins g.few_groups)
+
+pub zeros-requires : goal.zeros-requires
+zeros-requires c =
+    let g = passes_given c.args.n c.args.seed c.args.groups c.args.bytes.now (sym c.in_default.ensures) in
+    let few : c.write_load-k.result ≤ 65536 = omega (arith, c.write_load-k.ensures.many, load_fits c.args.n c.args.seed c.args.groups g.few_bins g.few_groups) in
+    let long : 65536 ≤ length c.write_load-k.new.out = omega (arith, g.all_bytes, c.write_load-k.auto.out) in
+    grind (arith, common_steps)
+
+pub returns : goal.returns
+returns c =
+    let w = c.write_load-k.ensures in
+    written_load c.args.n c.args.seed c.args.groups c.args.bytes.now c.in_default.ensures w.many (wrote_padded 65536 w (wrote_then w c.zeros.ensures))
