@@ -1,5 +1,6 @@
 // The ring file, read, for C and Rust, with the answers as numbers.
 #![tactic(auto)]
+
 ghost use Rattle.std.specs.Prelude.{◌≡◌, [], ◌∷◌, ◌≤◌, length};
 ghost use Rattle.tree_tokens.specs.Tokens.{Wrote};
 ghost use Rattle.file_read.specs.RingFile.{name_in, name_start, group_for, Says};
