@@ -6,7 +6,7 @@ use mathlib.Core.Path.{◌≡◌, refl, sym, ◌∙◌, ap, subst}
 use mathlib.Core.Logic.{◌⊎◌, inl, inr}
 use mathlib.Core.List.{List, [], ◌∷◌, ◌++◌, append_assoc, append-nil}
 use lib.ListN.{length, get_or, take, drop, set, length-set, length-append, length-drop, drop_of_length-le}
-use lib.Seq.{take_at, take-suc, drop-append-add, drop-drop, drop-cons, set_at, paste, paste-suc, take-suc-set, take_all, drop-set-lt, length-take-le}
+use lib.Seq.{take_at, take-suc, drop-append-add, drop-drop, drop-cons, set_at, paste, paste-suc, length-paste, take-suc-set, take_all, drop-set-lt, get_or-drop, length-take-le}
 use Rattle.record_copy.specs.declared.Node.{Node}
 use Rattle.record_copy.specs.Rows.{zero_node, row_of, rows_of, put_row, node_at, nodes_of, with_rows, node_rows, zero_rows, Sound}
 
@@ -139,6 +139,11 @@ put_row-next f items at k c j l fits e small is =
     let n : length (started f at k c) ≡ length f = length_started f at k c in
     ap (λ (m : List ℕ). set m (at * 257 + 2 + j) (get_or items j 0)) is ∙ paste-suc (started f at k c) (at * 257 + 2) items j 0 (omega (arith, n)) (omega arith) ∙ ap (paste (started f at k c) (at * 257 + 2) items) (sym (add-one j))
 
+pub put_row-length : (f items : List ℕ) (at k c j : ℕ) (l : List ℕ) → at * 257 + 257 ≤ length f → length items ≡ 255 → j ≤ 255 → l ≡ paste (started f at k c) (at * 257 + 2) items j → length l ≡ length f
+put_row-length f items at k c j l fits e small is =
+    let n : length (started f at k c) ≡ length f = length_started f at k c in
+    ap length is ∙ length-paste (started f at k c) (at * 257 + 2) items j (omega (arith, n)) (omega arith) ∙ n
+
 pub put_row_done : (f items : List ℕ) (at k c j : ℕ) (l : List ℕ) → at * 257 + 257 ≤ length f → length items ≡ 255 → j ≤ 255 → 255 ≤ j → l ≡ paste (started f at k c) (at * 257 + 2) items j
     → l ≡ put_row f at (k ∷ c ∷ items)
 unfolding put_row
@@ -162,6 +167,13 @@ put_row_done f items at k c j l fits e le ge is =
     ∙ simp append_assoc
 
 -- ---- one record: what `row_at` reads
+pub row_at-next : (f items : List ℕ) (at j : ℕ) → at * 257 + 257 ≤ length f → length items ≡ 255 → j < 255 → take j items ≡ take j (drop (at * 257 + 2) f)
+    → take (j + 1) (set items j (get_or f (at * 257 + 2 + j) 0)) ≡ take (j + 1) (drop (at * 257 + 2) f)
+row_at-next f items at j fits e small is =
+    let n : length (drop (at * 257 + 2) f) ≡ length f - (at * 257 + 2) = length-drop (at * 257 + 2) f in
+    ap (λ (m : ℕ). take m (set items j (get_or f (at * 257 + 2 + j) 0))) (add-one j) ∙ take-suc-set items j (get_or f (at * 257 + 2 + j) 0) (omega arith)
+    ∙ ap (λ (l : List ℕ). l ++ (get_or f (at * 257 + 2 + j) 0 ∷ [])) is ∙ ap (λ (m : ℕ). take j (drop (at * 257 + 2) f) ++ (m ∷ [])) (sym (get_or-drop (at * 257 + 2) f j 0))
+    ∙ sym (take-suc (drop (at * 257 + 2) f) j 0 (omega (arith, n))) ∙ ap (λ (m : ℕ). take m (drop (at * 257 + 2) f)) (sym (add-one j))
 
 pub row_at_done : (f items : List ℕ) (at j : ℕ) → length items ≡ 255 → j ≤ 255 → 255 ≤ j → take j items ≡ take j (drop (at * 257 + 2) f)
     → ◌≡◌ {A = Node} (record { kind = get_or f (at * 257) 0 % 256; count = get_or f (at * 257 + 1) 0; items = items }) (node_at f at)
