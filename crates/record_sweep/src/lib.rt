@@ -1,5 +1,6 @@
 // The sweep of a node table of records, which are only read.
 #![tactic(auto)]
+
 ghost use Rattle.std.specs.Prelude.{◌≡◌, length};
 ghost use Rattle.spec_orders.specs.CircularOrder.{Restriction};
 ghost use Rattle.record_copy.specs.Rows.{node_rows};
