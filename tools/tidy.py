@@ -19,8 +19,8 @@ def stands(word, text):
 
 
 def mentioned(name, text):
-    """Whether the text has the name; of an operator `_x_`, by itself or between its arguments."""
-    parts = [p for p in name.split("_") if p] if name.startswith("_") or name.endswith("_") else [name]
+    """Whether the text has the name; of an operator `◌x◌`, by itself or between its arguments."""
+    parts = [p for p in name.split("◌") if p] if "◌" in name else [name]
     return stands(name, text) or all(stands(p, text) for p in parts)
 
 
