@@ -7,7 +7,7 @@ import sys
 from pathlib import Path
 
 LINE = re.compile(r"^rt: must-fail (\S+)\.edit: (.*)$", re.M)
-NO_FACT = ("can be named from here", "is not in scope", "names what the edit took away", "BAD EDIT", "NOT REFUSED", "NOT TRIED")
+NO_FACT = ("can be named from here", "is not in scope", "names what the edit took away", "BAD EDIT", "NOT REFUSED", "NOT TRIED", "only by a limit of the prover")
 
 
 def main(words):

@@ -1,6 +1,6 @@
-//! Every call on the deepest trees, in a thread with the stack that include/tokuwhape.h asks for.
+//! Every call on the deepest trees, and the largest test load, in a thread with the stack that include/tokuwhape.h asks for.
 use std::thread;
-use tokuwhape::{Bins, Circular, Orders, Refusal, Straight};
+use tokuwhape::{test_load, Bins, Circular, Orders, Refusal, Straight, FILE, GROUPS, LEAVES};
 
 const STACK: usize = 1 << 20;
 
@@ -40,6 +40,7 @@ fn a_mebibyte_of_stack_is_enough() {
             every_call::<Circular>(256, &text);
             every_call::<Straight>(255, &text);
         }
+        assert_eq!(test_load(LEAVES, 1, GROUPS, &mut vec![0; FILE]), Ok(50_068));
     };
     thread::Builder::new().stack_size(STACK).spawn(calls).expect("a thread").join().expect("every call");
 }

@@ -107,7 +107,7 @@ module _ (n : ℕ) (s : RingState) (line : ℕ) (list : List ℕ) {toks book tab
     pub kept_stands : {toks' book' : List ℕ} {j : ℕ} → n ≤ 256 → Wrote (take (k - 0) (drop 0 tree)) toks toks' j
         → book' ≡ booked book count (group_of n list) → 384 ≤ length book → 96 ≤ length table
         → RingStands n (next s line list (outcome n s list)) toks' k book' (set table count line) (count + 1)
-    kept_stands {toks'} {book'} {j} l w b All-words all-places =
+    kept_stands {toks'} {book'} {j} l w b all_words all_places =
         let v : Wrote (flat a.tree) toks toks' j = subst (λ (u : List ℕ). Wrote u toks toks' j) (read_part a.wrote) w in
         let q : j ≡ k = v.many ∙ sym a.wrote.many in
         rw is_kept

@@ -104,15 +104,15 @@ module _ (table : List ℕ) (r : ℕ) (k : Kind) (es more : List ℕ) (at : drop
   spelled_node d i h = rw (at_kind, at_count, at_places, kind_back, h)
 
 -- An entry of a node is above 256, and tells its record.
-node_entry : (Node-at : ℕ → Forest) (r : ℕ) (es : List ℕ) (f g : Forest) → 1 ≤ r → Node-at r ≡ f → spelled_items Node-at es ≡ g
-    → spelled_items Node-at ((256 + r) ∷ es) ≡ append f g
-node_entry Node-at r es f g l p q =
+node_entry : (node_at : ℕ → Forest) (r : ℕ) (es : List ℕ) (f g : Forest) → 1 ≤ r → node_at r ≡ f → spelled_items node_at es ≡ g
+    → spelled_items node_at ((256 + r) ∷ es) ≡ append f g
+node_entry node_at r es f g l p q =
     let e : 256 + r - 256 ≡ r = omega arith in
     rw (lt-leb (256 + r) 256 (omega arith), e, p, q)
 
-leaf_entry : (Node-at : ℕ → Forest) (b : ℕ) (es : List ℕ) (g : Forest) → b ≤ 256 → spelled_items Node-at es ≡ g
-    → spelled_items Node-at (b ∷ es) ≡ leaf b g
-leaf_entry Node-at b es g l q = rw (le-leb b 256 l, q)
+leaf_entry : (node_at : ℕ → Forest) (b : ℕ) (es : List ℕ) (g : Forest) → b ≤ 256 → spelled_items node_at es ≡ g
+    → spelled_items node_at (b ∷ es) ≡ leaf b g
+leaf_entry node_at b es g l q = rw (le-leb b 256 l, q)
 
 -- All leaves are at most 256.
 abbrev pub Leaves : Forest → Type 0

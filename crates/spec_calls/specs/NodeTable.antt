@@ -41,8 +41,8 @@ abbrev pub kind_of : ℕ → Kind
 kind_of k = cond (eqb k 2) C P
 
 abbrev pub spelled_items : (ℕ → Forest) → List ℕ → Forest
-spelled_items Node-at [] = nil
-spelled_items Node-at (v ∷ vs) = cond (leb v 256) (leaf v (spelled_items Node-at vs)) (append (Node-at (v - 256)) (spelled_items Node-at vs))
+spelled_items node_at [] = nil
+spelled_items node_at (v ∷ vs) = cond (leb v 256) (leaf v (spelled_items node_at vs)) (append (node_at (v - 256)) (spelled_items node_at vs))
 
 unfoldable pub spelled : ℕ → List ℕ → ℕ → Forest
 spelled zero table r = nil

@@ -12,8 +12,10 @@ use Rattle.file_syntax.specs.RingFile.{hyphen, FileHolds, leaves_on}
 use Rattle.spec_load.specs.TestLoad.{state_after, load_file}
 use Rattle.spec_calls.specs.Tables.{padded}
 use Rattle.spec_calls.specs.Refusals.{Reply, reply}
+use Rattle.spec_calls.specs.Calls.{test_load_refusal}
 use Rattle.spec_calls.specs.Demands.{LoadGiven}
 use Rattle.spec_calls.specs.Promises.{TestLoadPromise}
+use Rattle.spec_demands.specs.Demands.{ByTheTable}
 
 -- The numbers and the bytes that are given are 1 to 256 bins, a seed that is not 0, 1 to 96 groups and 65,536 bytes (`LoadGiven`). The four refusals,
 -- "in that order right after 1; fewer lent bytes meet 2".
@@ -44,6 +46,9 @@ pub record LoadWritten (n seed groups : ℕ) (bytes bytes' : List ℕ) (said : R
   pub is_file : LoadFile n groups (take said.value bytes')
 
 pub record TestLoads : Type 0 where
+  -- The first demand, of this call.
+  pub refused_by_the_table : (n seed groups : ℕ) (bytes bytes' : List ℕ) (said : Reply) → TestLoadPromise n seed groups bytes bytes' said
+      → ByTheTable (test_load_refusal n seed groups bytes) said (bytes' ≡ bytes)
   -- The load itself, state, draws, places, groups and bytes, is `load_file` (spec_load/specs/TestLoad). A 32-bit state stays one.
   pub state : (draws seed : ℕ) → seed < 2 ^ 32 → state_after draws seed < 2 ^ 32
   pub refusing : (n seed groups : ℕ) (bytes bytes' : List ℕ) (said : Reply) → TestLoadPromise n seed groups bytes bytes' said

@@ -29,7 +29,7 @@ fn get(sums: &[u64], i: usize) -> u64
     s
 }
 
-// Prints a line for each n that has cases, and one for all.
+// Prints a line for each n that has cases, and one for all. Fails where a write fails.
 pub fn print(rt: &impl Print, sums: &[u64]) -> io::Result<()> {
     let mut n = 0;
     let mut kept: u64 = 0;

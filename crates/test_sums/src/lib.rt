@@ -29,7 +29,7 @@ fn sums(rt: &impl Print, first: u64, second: u64) -> io::Result<()> {
     println!(rt; " : {first} {second}")
 }
 
-// Prints a space and a number.
+// Prints a space and a number. Fails where a write fails.
 pub fn number(rt: &impl Print, x: u64) -> io::Result<()> {
     print!(rt; " {x}")
 }

@@ -1,10 +1,11 @@
-//! The proved planner and the independent one of crate `plain`, side by side on random rings and racks, lists, tables, texts, pairs of trees and
-//! files. A case is one call whose answer and every lent table, whole, is compared.
+//! The proved planner and the independent one of crate `plain`, side by side on random rings and racks, lists, tables, texts, pairs of trees, files
+//! and test loads. A case is one call whose answer and every lent table, whole, is compared.
 mod brute;
 mod damage;
 mod damaged;
 mod draw;
 mod files;
+mod load;
 mod pairs;
 mod rings;
 mod tables;
@@ -126,6 +127,14 @@ fn files(tally: &mut Tally, draw: &mut Draw) {
     files::long(tally, draw);
 }
 
+/// Test loads.
+fn loads(tally: &mut Tally, draw: &mut Draw) {
+    for _ in 0..4_000 {
+        load::any(tally, draw);
+    }
+    load::joined(tally, draw);
+}
+
 /// Checks that a call gave each of these answers, and no other. Returns how often it was made.
 fn checked(tally: &Tally, call: &str, layout: Layout, answers: &[u8]) -> usize {
     let given = tally.given(call, layout);
@@ -149,7 +158,8 @@ fn both_planners_answer_alike() {
     long(&mut tally, &mut draw, &mut kept);
     intersections(&mut tally, &mut draw);
     files(&mut tally, &mut draw);
-    let mut cases = checked(&tally, "scan", Ring, &[0, 11]);
+    loads(&mut tally, &mut draw);
+    let mut cases = checked(&tally, "scan", Ring, &[0, 11]) + checked(&tally, "test load", Ring, &[0, 1, 2, 16, 17]);
     for (call, answers) in ANSWERS {
         cases += checked(&tally, call, Rack, answers);
         // a ring has no 15, but it may meet a rack that has
