@@ -1,5 +1,4 @@
 """Text in the layouts of the files that are written."""
-import re
 import textwrap
 
 MADE = "Written by tools/outer.py."
@@ -30,25 +29,3 @@ def listed(head, xs, tail, width, indent=""):
 def signature(head, lent, result, width, indent="", end=""):
     """A function's head."""
     return listed(head, lent, f" -> {result}{end}", width, indent)
-
-
-LETTER = r"[^\s(){}\[\],;.:=⌜⌝λ`@]"
-
-
-def mentions(text, name):
-    """Whether antt text has this name, an infix one by its sign."""
-    sign = name.strip("_") if name.startswith("_") else name
-    return sign == "[]" and "[]" in text or re.search(f"(?<!{LETTER}){re.escape(sign)}(?!{LETTER})", text)
-
-
-def imported(uses, body):
-    """The lines of `uses` with only the names that the body mentions."""
-    text = re.sub(r"(?m)^ *--.*$", "", "\n".join(body))
-    for line in "\n".join(uses).splitlines():
-        listed = re.fullmatch(r"(use \S+\.)\{(.*)\}", line)
-        if listed:
-            kept = [x for x in listed[2].split(", ") if mentions(text, x.split(" as ")[-1])]
-            if kept:
-                yield f"{listed[1]}{{{', '.join(kept)}}}"
-        elif mentions(text, line.split(" as ")[-1]):
-            yield line
