@@ -22,7 +22,7 @@ use Rattle.spec_calls.specs.Demands.{LentWhole, LentBook}
 use Rattle.spec_calls.proofs.NodeTables.{tree_in_holds}
 use Rattle.spec_calls.proofs.Checks.{first_refusal_some, first_refusal_none, first_refusal_passed}
 use Rattle.spec_calls.proofs.Demands.{few_bins, size_whole, tables_whole}
-use Rattle.table_walk.specs.declared.Loaded.TheVariants.{Tree}
+use Rattle.std.specs.Prelude.{Some}
 use Rattle.table_walk.specs.Walks.{Loads}
 use Rattle.call_checks.specs.declared.Lent.{Lent}
 use Rattle.call_checks.specs.declared.Lent.TheVariants.{Refused}
@@ -73,7 +73,7 @@ module _ (nodes : Nodes) (other : Bool) where
     pub no_tree : held_tree nodes ≡ none → first_refusal (tree_checks nodes other) ≡ some NotInForm
     no_tree t = first_refusal_none (table_checks nodes other) of_tree e ∙ rw t
 
-    pub tree_lent : {old new : List ℕ} {k : ℕ} → Loads (leaves nodes) nodes.rows old new (Tree k) → TreeLent nodes other old new k
+    pub tree_lent : {old new : List ℕ} {k : ℕ} → Loads (leaves nodes) nodes.rows old new (Some k) → TreeLent nodes other old new k
     tree_lent h =
         let w = tables_whole nodes other e in
         record {

@@ -12,7 +12,6 @@ ghost use Rattle.call_checks.specs.Lent.{book_checks, LendsTree, LendsRing};
 use spec_calls::Refusal;
 use spec_orders::Layout;
 use table_book::Checked;
-use table_walk::Loaded;
 
 // The lent tree, in this many tokens; or why the call is refused.
 #[derive(Drop)]
@@ -96,7 +95,7 @@ pub fn lent_tree(
         return Lent::Refused(refusal);
     }
     let leaves = spec_orders::leaf_count(layout, n);
-    let Loaded::Tree(k) = table_walk::load(nodes, leaves, toks) else {
+    let Some(k) = table_walk::load(nodes, leaves, toks) else {
         return Lent::Refused(Refusal::NotInForm);
     };
     Lent::Tree(k)

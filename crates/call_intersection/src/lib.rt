@@ -15,7 +15,6 @@ use call_checks::Lent;
 use spec_calls::{Answer, Refusal};
 use spec_orders::Layout;
 use table_book::Checked;
-use table_walk::Loaded;
 use tree_update::Updated;
 
 // Whether both are rings, or both racks, of as many bins.
@@ -94,11 +93,11 @@ fn common(leaves: usize, nodes: &[u16], other: &[u16], out: &mut [u16]) -> Lent
         → LendsCommon (lent_nodes layout n have nodes.now) (lent_nodes layout n had other.now) out.old out.new result }
 {
     let mut first = [0u16; 512];
-    let Loaded::Tree(j) = table_walk::load(nodes, leaves, &mut first) else {
+    let Some(j) = table_walk::load(nodes, leaves, &mut first) else {
         return Lent::Refused(Refusal::NotInForm);
     };
     let mut second = [0u16; 512];
-    let Loaded::Tree(k) = table_walk::load(other, leaves, &mut second) else {
+    let Some(k) = table_walk::load(other, leaves, &mut second) else {
         return Lent::Refused(Refusal::NotInForm);
     };
     let found = tree_intersection::intersect(&first[0..j], &second[0..k], leaves, out);

@@ -1,13 +1,11 @@
 -- The tree that a table holds, loaded into tokens.
-use Rattle.std.specs.Prelude.{◌≡◌, List, ◌++◌, ℕ, ◌*◌, ◌≤◌, length, drop}
+use Rattle.std.specs.Prelude.{◌≡◌, Option, Some, None, List, ◌++◌, ℕ, ◌*◌, ◌≤◌, length, drop}
 use Rattle.std.proofs.Math.Option.{none, some}
 use Rattle.spec_orders.specs.Lists.{All}
 use Rattle.spec_orders.specs.Tree.{Kind, Forest, nil, node, items, frontier}
 use Rattle.spec_orders.specs.Form.{Every}
 use Rattle.spec_calls.specs.NodeTable.{entries, rows, tree_in}
 use Rattle.tree_tokens.specs.Tokens.{Wrote, flat}
-use Rattle.table_walk.specs.declared.Loaded.{Loaded}
-use Rattle.table_walk.specs.declared.Loaded.TheVariants.{Tree, NoTree}
 
 -- The rows of a sequence stand in the table from record r on, and its tokens, at most 512, go into `room` numbers.
 pub record RowsStand (table : List ℕ) (r : ℕ) (f : Forest) (room : ℕ) : Type 0 where
@@ -39,6 +37,6 @@ abbrev pub ItemsWritten : List ℕ → List ℕ → List ℕ → List ℕ → �
 ItemsWritten table places old new m = (r : ℕ) (f : Forest) → PlacesStand table places r f (length old) → Wrote (flat f) old new m
 
 -- What `load` answers.
-abbrev pub Loads : ℕ → List ℕ → List ℕ → List ℕ → Loaded → Type 0
-Loads n table old new (Tree k) = (t : Forest) × (tree_in n table ≡ some t) × Wrote (flat t) old new k
-Loads n table old new NoTree = tree_in n table ≡ none
+abbrev pub Loads : ℕ → List ℕ → List ℕ → List ℕ → Option ℕ → Type 0
+Loads n table old new (Some k) = (t : Forest) × (tree_in n table ≡ some t) × Wrote (flat t) old new k
+Loads n table old new None = tree_in n table ≡ none

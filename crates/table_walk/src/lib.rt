@@ -8,13 +8,6 @@ ghost use Rattle.spec_calls.specs.NodeTable.{kind_of, tree_in};
 ghost use Rattle.tree_tokens.specs.Tokens.{E, node_token, Wrote, flat};
 ghost use Rattle.table_walk.specs.Walks.{NodeThere, ItemsThere, NodeWritten, ItemsWritten, Loads};
 
-// What a table holds: the tree in so many tokens; or no tree.
-#[derive(Drop)]
-pub enum Loaded {
-    Tree(usize),
-    NoTree,
-}
-
 // The token of a node whose items have m tokens; `kind` is the number of its kind.
 fn header(kind: u16, m: usize) -> u16
     requires { m ≤ 512 }
@@ -71,13 +64,13 @@ pub fn walk(table: &[u16], n: usize, out: &mut [u16]) -> usize
     walk_node(table, 0, out)
 }
 
-// Writes the tokens of the tree of n leaves that the table holds to the start of out, and says how many; or that it holds none.
-pub fn load(table: &[u16], n: usize, out: &mut [u16]) -> Loaded
+// Writes the tokens of the tree of n leaves that the table holds to the start of out, and says how many; None where it holds no tree.
+pub fn load(table: &[u16], n: usize, out: &mut [u16]) -> Option<usize>
     requires { (1 ≤ n) × (n ≤ 256) × (65792 ≤ length table.now) × (512 ≤ length out.old) }
     ensures { Loads n table.now out.old out.new result }
 {
     if !table_sweep::holds(table, n) {
-        return Loaded::NoTree;
+        return None;
     }
-    Loaded::Tree(walk(table, n, out))
+    Some(walk(table, n, out))
 }

@@ -1,8 +1,7 @@
 use mathlib.Core.Path.{◌≡◌, sym, ◌∙◌, ap, subst}
 use mathlib.Core.Option.{none}
+use Rattle.std.specs.Prelude.{Some}
 use Prim.Native.Nat.{ℕ}
-use Rattle.spec_orders.specs.Layout.{leaf_count}
-use Rattle.table_walk.specs.declared.Loaded.{Loaded}
 use Rattle.spec_calls.specs.Tables.{lent_nodes}
 use Rattle.spec_calls.specs.Refusals.{first_refusal}
 use Rattle.spec_calls.specs.Calls.{table_checks}
@@ -15,9 +14,6 @@ use Rattle.call_checks.proofs.lent_tree.Goals as goal
 pub returns : goal.returns
 returns c =
     let pass : first_refusal (table_checks (lent_nodes c.args.layout c.args.n c.args.have c.args.nodes.now) c.args.other) ≡ none = (sym c.check_tables.ensures ∙ ap refusal_in c.in_default.is) in
-    let loads : (x : Loaded) → c.load.result ≡ x
-    → Loads (leaf_count c.args.layout c.args.n) c.args.nodes.now c.args.toks.now c.load.new.out x = (λ x e.
     let l = tables_whole (lent_nodes c.args.layout c.args.n c.args.have c.args.nodes.now) c.args.other pass in
-    subst (λ (k : ℕ). Loads k c.args.nodes.now c.args.toks.now c.load.new.out x) (leaves_are l.0 c.leaf_count-leaves.ensures)
-    (subst (Loads c.leaf_count-leaves.result c.args.nodes.now c.args.toks.now c.load.new.out) e c.load.ensures)) in
-    tree_lent (lent_nodes c.args.layout c.args.n c.args.have c.args.nodes.now) c.args.other pass (loads _ c.in-Tree.is)
+    tree_lent (lent_nodes c.args.layout c.args.n c.args.have c.args.nodes.now) c.args.other pass
+    (subst (λ (k : ℕ). Loads k c.args.nodes.now c.args.toks.now c.load.new.out (Some c.in-Some.k)) (leaves_are l.0 c.leaf_count-leaves.ensures) c.in-Some.ensures)

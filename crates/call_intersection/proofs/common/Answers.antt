@@ -10,7 +10,7 @@ use Rattle.spec_intersection.specs.Intersection.{intersection}
 use Rattle.tree_tokens.proofs.Writes.{read_part}
 use Rattle.spec_calls.specs.Tables.{lent_nodes}
 use Rattle.spec_calls.proofs.NodeTables.{tree_in_holds}
-use Rattle.table_walk.specs.declared.Loaded.TheVariants.{Tree}
+use Rattle.std.specs.Prelude.{Some}
 use Rattle.table_walk.specs.Walks.{Loads}
 use Rattle.tree_update.specs.Update.{Answers}
 use Rattle.call_intersection.proofs.Laws.{not_met, met}
@@ -22,9 +22,9 @@ as-held rows {o = o} e h = subst (λ (j : ℕ). tree_in j rows ≡ o) e h
 
 pub intersect-found-requires : goal.intersect-found-requires
 intersect-found-requires c =
-    let first : Loads c.args.leaves c.args.nodes.now (replicate 512 0) c.load.new.out (Tree c.in-Tree.j) = (subst (Loads c.args.leaves c.args.nodes.now (replicate 512 0) c.load.new.out) c.in-Tree.is c.load.ensures) in
+    let first : Loads c.args.leaves c.args.nodes.now (replicate 512 0) c.load.new.out (Some c.in-Some.j) = c.in-Some.ensures in
     let first-form : InForm c.args.leaves first.0 = (((tree_in_holds c.args.leaves c.args.nodes.now first.0 c.requires.1).0 first.1).in_form) in
-    let second : Loads c.args.leaves c.args.other.now (replicate 512 0) c.load-2.new.out (Tree c.in-Tree-load.k) = (subst (Loads c.args.leaves c.args.other.now (replicate 512 0) c.load-2.new.out) c.in-Tree-load.is c.load-2.ensures) in
+    let second : Loads c.args.leaves c.args.other.now (replicate 512 0) c.load-2.new.out (Some c.in-Some-load.k) = c.in-Some-load.ensures in
     let second-form : InForm c.args.leaves second.0 = (((tree_in_holds c.args.leaves c.args.other.now second.0 c.requires.1).0 second.1).in_form) in
     let t = first in
     let u = second in (
@@ -35,8 +35,8 @@ intersect-found-requires c =
 
 pub returns-in_default-found : goal.returns-in_default-found
 returns-in_default-found c =
-    let first : Loads c.args.leaves c.args.nodes.now (replicate 512 0) c.load.new.out (Tree c.in-Tree.j) = (subst (Loads c.args.leaves c.args.nodes.now (replicate 512 0) c.load.new.out) c.in-Tree.is c.load.ensures) in
-    let second : Loads c.args.leaves c.args.other.now (replicate 512 0) c.load-2.new.out (Tree c.in-Tree-load.k) = (subst (Loads c.args.leaves c.args.other.now (replicate 512 0) c.load-2.new.out) c.in-Tree-load.is c.load-2.ensures) in
+    let first : Loads c.args.leaves c.args.nodes.now (replicate 512 0) c.load.new.out (Some c.in-Some.j) = c.in-Some.ensures in
+    let second : Loads c.args.leaves c.args.other.now (replicate 512 0) c.load-2.new.out (Some c.in-Some-load.k) = c.in-Some-load.ensures in
     λ l n have had e.
     let t = first in
     let u = second in
@@ -45,8 +45,8 @@ returns-in_default-found c =
 
 pub returns : goal.returns
 returns c =
-    let first : Loads c.args.leaves c.args.nodes.now (replicate 512 0) c.load.new.out (Tree c.in-Tree.j) = (subst (Loads c.args.leaves c.args.nodes.now (replicate 512 0) c.load.new.out) c.in-Tree.is c.load.ensures) in
-    let second : Loads c.args.leaves c.args.other.now (replicate 512 0) c.load-2.new.out (Tree c.in-Tree-load.k) = (subst (Loads c.args.leaves c.args.other.now (replicate 512 0) c.load-2.new.out) c.in-Tree-load.is c.load-2.ensures) in
+    let first : Loads c.args.leaves c.args.nodes.now (replicate 512 0) c.load.new.out (Some c.in-Some.j) = c.in-Some.ensures in
+    let second : Loads c.args.leaves c.args.other.now (replicate 512 0) c.load-2.new.out (Some c.in-Some-load.k) = c.in-Some-load.ensures in
     λ l n have had e.
     let t = first in
     let u = second in
