@@ -14,7 +14,6 @@ ghost use Rattle.spec_calls.specs.Promises.{ConflictPromise};
 use spec_calls::Answer;
 use spec_orders::Layout;
 use table_book::Checked;
-use tree_update::Updated;
 
 // Writes the numbers 1 to count, and says how many.
 fn rising(count: usize, out: &mut [u16]) -> usize
@@ -41,7 +40,7 @@ pub fn find(n: usize, book: &[u64], count: usize, group: &[u64], out: &mut [u16]
     let mut toks = [0u16; 512];
     let got = tree_update::join(&start[0..m], group, n, &mut toks);
     // One group by itself always joins.
-    let Updated::Tokens(k) = got else {
+    let Some(k) = got else {
         return 0;
     };
     let mut numbers = [0u16; 96];

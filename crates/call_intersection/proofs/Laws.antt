@@ -6,7 +6,7 @@ use mathlib.Core.List.{List, [], ◌∷◌}
 use Prim.Native.Nat.{ℕ}
 use Rattle.spec_orders.specs.Tree.{Forest}
 use Rattle.spec_intersection.specs.Intersection.{intersection}
-use Rattle.tree_update.specs.declared.Updated.TheVariants.{Impossible as Not-possible, Tokens}
+use Rattle.std.specs.Prelude.{Some, None}
 use Rattle.tree_update.specs.Update.{Answers, written}
 use Rattle.spec_calls.specs.declared.Refusal.{Refusal}
 use Rattle.spec_calls.specs.declared.Refusal.TheVariants.{ShortTable, NotInForm, Impossible, BinCounts}
@@ -48,17 +48,17 @@ module _ (nodes other : Nodes) where
       common_is : common_tree nodes other ≡ intersection t u
       common_is = common_of nodes other h g
 
-      pub not_met : {old new : List ℕ} → Answers (intersection t u) old new Not-possible → first_refusal (common_checks nodes other) ≡ some Impossible
+      pub not_met : {old new : List ℕ} → Answers (intersection t u) old new None → first_refusal (common_checks nodes other) ≡ some Impossible
       not_met {old} {new} a = rw (h, g, common_is) (go (intersection t u) a)
         where
-          go : (o : Option Forest) → Answers o old new Not-possible → first_refusal (refuse (is_none o) Impossible ∷ []) ≡ some Impossible
+          go : (o : Option Forest) → Answers o old new None → first_refusal (refuse (is_none o) Impossible ∷ []) ≡ some Impossible
           go (some _) a = elim a [ ]
           go none a = refl
 
-      pub met : {old new : List ℕ} {k : ℕ} → Answers (intersection t u) old new (Tokens k) → CommonLent nodes other old new k
+      pub met : {old new : List ℕ} {k : ℕ} → Answers (intersection t u) old new (Some k) → CommonLent nodes other old new k
       met {old} {new} {k} a = go (intersection t u) refl a
         where
-          go : (o : Option Forest) → intersection t u ≡ o → Answers o old new (Tokens k) → CommonLent nodes other old new k
+          go : (o : Option Forest) → intersection t u ≡ o → Answers o old new (Some k) → CommonLent nodes other old new k
           go none i x'' = elim x'' [ ]
           go (some v) i (written w) = record {
             passes = rw (h, g, common_is, i);

@@ -15,7 +15,6 @@ use call_checks::Lent;
 use spec_calls::{Answer, Refusal};
 use spec_orders::Layout;
 use table_book::Checked;
-use tree_update::Updated;
 
 // Whether both are rings, or both racks, of as many bins.
 fn same_bins(layout: Layout, n: usize, layout2: Layout, m: usize) -> bool
@@ -101,7 +100,7 @@ fn common(leaves: usize, nodes: &[u16], other: &[u16], out: &mut [u16]) -> Lent
         return Lent::Refused(Refusal::NotInForm);
     };
     let found = tree_intersection::intersect(&first[0..j], &second[0..k], leaves, out);
-    let Updated::Tokens(size) = found else {
+    let Some(size) = found else {
         return Lent::Refused(Refusal::Impossible);
     };
     Lent::Tree(size)

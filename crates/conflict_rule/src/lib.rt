@@ -10,8 +10,6 @@ ghost use Rattle.spec_calls.specs.Calls.{group_numbered};
 ghost use Rattle.tree_tokens.specs.Tokens.{Wrote, flat};
 ghost use Rattle.conflict_rule.specs.LeavingOut.{InBook, Represents, TokensRepresent, Walked, Stops, goes_on};
 
-use tree_update::Updated;
-
 // Where a walk ended: how many numbers are left, and how many tokens its tree has.
 #[derive(Drop)]
 pub struct Reached {
@@ -34,7 +32,7 @@ fn walk(toks: &[u16], book: &[u64], n: usize, numbers: &[u16], out: &mut [u16]) 
         let end = at + 4;
         let mut next = [0u16; 512];
         let got = tree_update::join(&out[0..m], &book[at..end], n, &mut next);
-        let Updated::Tokens(k) = got else {
+        let Some(k) = got else {
             return Reached {
                 left: left,
                 tokens: m,

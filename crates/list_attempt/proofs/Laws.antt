@@ -9,10 +9,10 @@ use Rattle.spec_orders.specs.CircularOrder.{group_of}
 use Rattle.spec_orders.specs.Tree.{Forest}
 use Rattle.spec_orders.specs.Join.{join}
 use Rattle.mark_words.specs.Marks.{marked, words_of}
-use Rattle.tree_update.specs.declared.Updated.TheVariants.{Impossible, Tokens}
+use Rattle.std.specs.Prelude.{Some, None}
 use Rattle.tree_update.specs.Update.{Answers, written}
 use Rattle.spec_calls.specs.declared.Refusal.{Refusal}
-use Rattle.spec_calls.specs.declared.Refusal.TheVariants.{BookFull, Impossible as Not-possible}
+use Rattle.spec_calls.specs.declared.Refusal.TheVariants.{BookFull, Impossible}
 use Rattle.spec_calls.specs.Refusals.{refuse, first_refusal, bad_list}
 use Rattle.spec_calls.specs.Calls.{is_none}
 use Rattle.table_book.proofs.Lists.{group_held}
@@ -24,7 +24,7 @@ module _ (t : Forest) (n count : ℕ) (list : List ℕ) where
   unfolding group_refusal
   list_passed e =
       sym (first_refusal-one (bad_list n list))
-      ∙ first_refusal-left (bad_list n list ∷ []) (refuse (eqb count 96) BookFull ∷ refuse (is_none (join (group_of n list) t)) Not-possible ∷ []) e
+      ∙ first_refusal-left (bad_list n list ∷ []) (refuse (eqb count 96) BookFull ∷ refuse (is_none (join (group_of n list) t)) Impossible ∷ []) e
 
   pub list_refused : (r : Refusal) → bad_list n list ≡ some r → group_refusal t n count list ≡ some r
   unfolding group_refusal
@@ -35,7 +35,7 @@ module _ (t : Forest) (n count : ℕ) (list : List ℕ) where
     unfolding group_refusal
     full_refused q = rw (e, eq-eqb count 96 q)
 
-    judged : (count ≡ 96 → ⊥) → group_refusal t n count list ≡ first_refusal (refuse (is_none (join (group_of n list) t)) Not-possible ∷ [])
+    judged : (count ≡ 96 → ⊥) → group_refusal t n count list ≡ first_refusal (refuse (is_none (join (group_of n list) t)) Impossible ∷ [])
     unfolding group_refusal
     judged q = rw (e, ne_eqb count 96 q)
 
@@ -43,18 +43,18 @@ module _ (t : Forest) (n count : ℕ) (list : List ℕ) where
     marks_are : (words : List ℕ) → n ≤ 256 → words ≡ words_of 4 (group_of n list) → marked words ≡ group_of n list
     marks_are words h w = ap marked w ∙ group_held n list h e
 
-    pub none_joined : (words old new : List ℕ) → n ≤ 256 → words ≡ words_of 4 (group_of n list) → (count ≡ 96 → ⊥) → Answers (join (marked words) t) old new Impossible
-        → group_refusal t n count list ≡ some Not-possible
-    none_joined words old new h w q a = judged q ∙ go (join (group_of n list) t) (subst (λ G. Answers (join G t) old new Impossible) (marks_are words h w) a)
+    pub none_joined : (words old new : List ℕ) → n ≤ 256 → words ≡ words_of 4 (group_of n list) → (count ≡ 96 → ⊥) → Answers (join (marked words) t) old new None
+        → group_refusal t n count list ≡ some Impossible
+    none_joined words old new h w q a = judged q ∙ go (join (group_of n list) t) (subst (λ G. Answers (join G t) old new None) (marks_are words h w) a)
       where
-        go : (o : Option Forest) → Answers o old new Impossible → first_refusal (refuse (is_none o) Not-possible ∷ []) ≡ some Not-possible
+        go : (o : Option Forest) → Answers o old new None → first_refusal (refuse (is_none o) Impossible ∷ []) ≡ some Impossible
         go (some _) a = elim a [ ]
         go none a = refl
 
-    pub one-joined : (words old new : List ℕ) (k : ℕ) → n ≤ 256 → words ≡ words_of 4 (group_of n list) → (count ≡ 96 → ⊥) → Answers (join (marked words) t) old new (Tokens k)
+    pub one-joined : (words old new : List ℕ) (k : ℕ) → n ≤ 256 → words ≡ words_of 4 (group_of n list) → (count ≡ 96 → ⊥) → Answers (join (marked words) t) old new (Some k)
         → JoinedTree t n count list words old new k
-    one-joined words old new k h w q a = go (join (group_of n list) t) refl (subst (λ G. Answers (join G t) old new (Tokens k)) (marks_are words h w) a)
+    one-joined words old new k h w q a = go (join (group_of n list) t) refl (subst (λ G. Answers (join G t) old new (Some k)) (marks_are words h w) a)
       where
-        go : (o : Option Forest) → join (group_of n list) t ≡ o → Answers o old new (Tokens k) → JoinedTree t n count list words old new k
+        go : (o : Option Forest) → join (group_of n list) t ≡ o → Answers o old new (Some k) → JoinedTree t n count list words old new k
         go none p x'' = elim x'' [ ]
-        go (some u) p (written x) = record { passes = judged q ∙ ap (λ o. first_refusal (refuse (is_none o) Not-possible ∷ [])) p; not_full = q; group = w; tree = u; is = p; wrote = x }
+        go (some u) p (written x) = record { passes = judged q ∙ ap (λ o. first_refusal (refuse (is_none o) Impossible ∷ [])) p; not_full = q; group = w; tree = u; is = p; wrote = x }

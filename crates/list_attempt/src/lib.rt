@@ -8,7 +8,6 @@ ghost use Rattle.list_attempt.specs.Attempts.{Attempts};
 
 use spec_calls::Refusal;
 use table_book::Checked;
-use tree_update::Updated;
 
 // What an attempt to join a group comes to: the tree with it, in this many tokens; or why it is refused.
 #[derive(Drop)]
@@ -37,7 +36,7 @@ pub fn attempt(
     if count == 96 {
         return Tried::Refused(Refusal::BookFull);
     }
-    let Updated::Tokens(m) = tree_update::join(toks, marks, n, out) else {
+    let Some(m) = tree_update::join(toks, marks, n, out) else {
         return Tried::Refused(Refusal::Impossible);
     };
     Tried::Joined(m)

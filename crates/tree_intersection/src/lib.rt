@@ -11,8 +11,6 @@ ghost use Rattle.tree_tokens.specs.Tokens.{Judged, tree, encode, Tokens, flat, T
 ghost use Rattle.tree_update.specs.Update.{Answers};
 ghost use Rattle.tree_intersection.specs.Intersect.{Growing, Grows, first_groups};
 
-use tree_update::Updated;
-
 // Marks the leaves of the items, and keeps the other marks.
 fn mark_leaves(toks: &[u16], words: &mut [u64])
     requires { Tokens toks.now }
@@ -32,7 +30,7 @@ fn mark_leaves(toks: &[u16], words: &mut [u64])
 
 // Joins the leaves of these items, as one group, to the tree of `many` tokens at the start of `into`. Answers how many tokens the new tree there has;
 // or that it is impossible. So do the four below.
-fn join_leaves(toks: &[u16], n: usize, into: &mut [u16], many: usize) -> Updated
+fn join_leaves(toks: &[u16], n: usize, into: &mut [u16], many: usize) -> Option<usize>
     requires { (Tokens toks.now) × (Growing n into.old many) }
     ensures { (j : Judged) (t : Forest) → toks.now ≡ encode j → take many into.old ≡ flat t
         → Grows (join (elem (frontier (tree j))) t) into.new result }
@@ -40,14 +38,12 @@ fn join_leaves(toks: &[u16], n: usize, into: &mut [u16], many: usize) -> Updated
     let mut words = [0u64; 4];
     mark_leaves(toks, &mut words);
     let mut next = [0u16; 512];
-    let Updated::Tokens(m) = tree_update::join(&into[0..many], &words, n, &mut next) else {
-        return Updated::Impossible;
-    };
-    Updated::Tokens(tree_tokens::copy(&next[0..m], into))
+    let m = tree_update::join(&into[0..many], &words, n, &mut next)?;
+    Some(tree_tokens::copy(&next[0..m], into))
 }
 
 // Joins the leaves of each two neighbouring items.
-fn join_pairs(toks: &[u16], n: usize, into: &mut [u16], many: usize) -> Updated
+fn join_pairs(toks: &[u16], n: usize, into: &mut [u16], many: usize) -> Option<usize>
     requires { (Tokens toks.now) × (Growing n into.old many) }
     ensures { (j : Judged) (t : Forest) → toks.now ≡ encode j → take many into.old ≡ flat t
         → Grows (joins (map elem (item_pairs (tree j))) t) into.new result }
@@ -57,20 +53,17 @@ fn join_pairs(toks: &[u16], n: usize, into: &mut [u16], many: usize) -> Updated
     while i < toks.len() {
         let j = i + tree_tokens::size(&toks[i..]);
         if j == toks.len() {
-            return Updated::Tokens(k);
+            return Some(k);
         }
         let end = j + tree_tokens::size(&toks[j..]);
-        let Updated::Tokens(m) = join_leaves(&toks[i..end], n, into, k) else {
-            return Updated::Impossible;
-        };
-        k = m;
+        k = join_leaves(&toks[i..end], n, into, k)?;
         i = j;
     }
-    Updated::Tokens(k)
+    Some(k)
 }
 
 // Joins the leaves of each item that is a P-node.
-fn join_p_items(toks: &[u16], n: usize, into: &mut [u16], many: usize) -> Updated
+fn join_p_items(toks: &[u16], n: usize, into: &mut [u16], many: usize) -> Option<usize>
     requires { (Tokens toks.now) × (Growing n into.old many) }
     ensures { (j : Judged) (t : Forest) → toks.now ≡ encode j → take many into.old ≡ flat t
         → Grows (joins (map elem (p_items (tree j))) t) into.new result }
@@ -83,16 +76,13 @@ fn join_p_items(toks: &[u16], n: usize, into: &mut [u16], many: usize) -> Update
         if tree_tokens::shape(y) != 2 {
             continue;
         }
-        let Updated::Tokens(m) = join_leaves(tree_tokens::items(y), n, into, k) else {
-            return Updated::Impossible;
-        };
-        k = m;
+        k = join_leaves(tree_tokens::items(y), n, into, k)?;
     }
-    Updated::Tokens(k)
+    Some(k)
 }
 
 // Joins the groups of the first item, if it is a node.
-fn join_node(toks: &[u16], n: usize, into: &mut [u16], many: usize) -> Updated
+fn join_node(toks: &[u16], n: usize, into: &mut [u16], many: usize) -> Option<usize>
     requires { (Tokens toks.now) × (0 < length toks.now) × (Growing n into.old many) }
     ensures { (j : Judged) (t : Forest) → toks.now ≡ encode j → take many into.old ≡ flat t
         → Grows (joins (map elem (first_groups (tree j))) t) into.new result }
@@ -100,12 +90,12 @@ fn join_node(toks: &[u16], n: usize, into: &mut [u16], many: usize) -> Updated
     match tree_tokens::shape(toks) {
         3 => join_pairs(tree_tokens::items(toks), n, into, many),
         2 => join_p_items(tree_tokens::items(toks), n, into, many),
-        _ => Updated::Tokens(many),
+        _ => Some(many),
     }
 }
 
 // Joins the groups of every node.
-fn join_groups(toks: &[u16], n: usize, into: &mut [u16], many: usize) -> Updated
+fn join_groups(toks: &[u16], n: usize, into: &mut [u16], many: usize) -> Option<usize>
     requires { (Tokens toks.now) × (Growing n into.old many) }
     ensures { (j : Judged) (t : Forest) → toks.now ≡ encode j → take many into.old ≡ flat t
         → Grows (joins (map elem (characteristic (tree j))) t) into.new result }
@@ -113,25 +103,20 @@ fn join_groups(toks: &[u16], n: usize, into: &mut [u16], many: usize) -> Updated
     let mut k = many;
     let mut i = 0;
     while i < toks.len() {
-        let Updated::Tokens(m) = join_node(&toks[i..], n, into, k) else {
-            return Updated::Impossible;
-        };
-        k = m;
+        k = join_node(&toks[i..], n, into, k)?;
         i += 1;
     }
-    Updated::Tokens(k)
+    Some(k)
 }
 
 // Writes the intersection of the two trees to the start of out. Answers how many tokens it has; or that they allow no order in common.
-pub fn intersect(toks: &[u16], other: &[u16], n: usize, out: &mut [u16]) -> Updated
+pub fn intersect(toks: &[u16], other: &[u16], n: usize, out: &mut [u16]) -> Option<usize>
     requires { (TreeTokens n toks.now) × (TreeTokens n other.now) × (512 ≤ length out.old) }
     ensures { (t u : Forest) → toks.now ≡ flat t → other.now ≡ flat u
         → Answers (intersection t u) out.old out.new result }
 {
     let mut tree = [0u16; 512];
     let many = tree_tokens::copy(toks, &mut tree);
-    let Updated::Tokens(k) = join_groups(other, n, &mut tree, many) else {
-        return Updated::Impossible;
-    };
-    Updated::Tokens(tree_tokens::copy(&tree[0..k], out))
+    let k = join_groups(other, n, &mut tree, many)?;
+    Some(tree_tokens::copy(&tree[0..k], out))
 }

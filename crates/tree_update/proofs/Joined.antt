@@ -10,8 +10,7 @@ use Rattle.spec_orders.specs.Tree.{Forest}
 use Rattle.spec_orders.specs.Join.{join}
 use Rattle.tree_tokens.specs.Tokens.{Wrote, flat}
 use Rattle.tree_tokens.proofs.Writes.{read_part}
-use Rattle.tree_update.specs.declared.Updated.{Updated}
-use Rattle.tree_update.specs.declared.Updated.TheVariants.{Impossible, Tokens}
+use Rattle.std.specs.Prelude.{Option as CodeOption, Some, None}
 use Rattle.tree_update.specs.Update.{TokensWithin, Answers, impossible, written}
 use Rattle.tree_update.proofs.Updates.{join_form}
 
@@ -21,16 +20,16 @@ pub record Next (G : Restriction) (t : Forest) (new : List ℕ) (m : ℕ) : Type
   pub text : take (m - 0) (drop 0 new) ≡ flat tree
   pub room : m ≤ length new
 
-answers_tree : {o : Option Forest} {old new : List ℕ} {r : Updated} {m : ℕ} → r ≡ Tokens m → Answers o old new r
+answers_tree : {o : Option Forest} {old new : List ℕ} {r : CodeOption ℕ} {m : ℕ} → r ≡ Some m → Answers o old new r
     → (u : Forest) × (o ≡ some u) × Wrote (flat u) old new m
 answers_tree e (impossible q) = let z : ◌≡◌ {A = ℕ} 0 1 = cc in absurd (omega (arith, z))
 answers_tree {old = old} {new} {r} {m} e (written {t = t} {k = k} w) = let n : k ≡ m = cc in (t, refl, subst (Wrote (flat t) old new) n w)
 
-answers_none : {o : Option Forest} {old new : List ℕ} {r : Updated} → r ≡ Impossible → Answers o old new r → o ≡ none
+answers_none : {o : Option Forest} {old new : List ℕ} {r : CodeOption ℕ} → r ≡ None → Answers o old new r → o ≡ none
 answers_none e (impossible q) = refl
 answers_none e (written w) = let z : ◌≡◌ {A = ℕ} 0 1 = cc in absurd (omega (arith, z))
 
-pub next-tree : {H G : Restriction} (t : Forest) {old new : List ℕ} {r : Updated} {m : ℕ} → H ≡ G → r ≡ Tokens m → Answers (join H t) old new r → Next G t new m
+pub next-tree : {H G : Restriction} (t : Forest) {old new : List ℕ} {r : CodeOption ℕ} {m : ℕ} → H ≡ G → r ≡ Some m → Answers (join H t) old new r → Next G t new m
 next-tree t {old} {new} {r} {m} g e a =
     let x = answers_tree e (subst (λ H. Answers (join H t) old new r) g a) in
     let w = x.2 in
@@ -41,7 +40,7 @@ next-tree t {old} {new} {r} {m} g e a =
       room = omega (arith, w.many, ap length w.text, length-append (flat x.0) (drop (length (flat x.0)) old));
     }
 
-pub no_tree : {H G : Restriction} (t : Forest) {old new : List ℕ} {r : Updated} → H ≡ G → r ≡ Impossible → Answers (join H t) old new r → join G t ≡ none
+pub no_tree : {H G : Restriction} (t : Forest) {old new : List ℕ} {r : CodeOption ℕ} → H ≡ G → r ≡ None → Answers (join H t) old new r → join G t ≡ none
 no_tree t {old} {new} {r} g e a = answers_none e (subst (λ H. Answers (join H t) old new r) g a)
 
 -- The next tree is one of some of the leaves too.

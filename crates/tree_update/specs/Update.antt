@@ -1,5 +1,5 @@
 -- What the update reads, writes and answers.
-use Rattle.std.specs.Prelude.{◌≡◌, ◌≢◌, Bool, false, List, [], ◌∷◌, ℕ, ◌≤◌, ◌<◌, length, take}
+use Rattle.std.specs.Prelude.{◌≡◌, ◌≢◌, Bool, false, List, [], ◌∷◌, ℕ, ◌≤◌, ◌<◌, length, take, Option as CodeOption, Some, None}
 use Rattle.std.proofs.Math.Option.{Option, none, some}
 use Rattle.spec_orders.specs.Lists.{All, Distinct}
 use Rattle.spec_orders.specs.CircularOrder.{Restriction}
@@ -12,8 +12,6 @@ use Rattle.tree_spans.specs.Spans.{is, beyond}
 use Rattle.tree_judge.specs.Judge.{judge}
 use Rattle.tree_judge.specs.Total.{Total, whole_of, totals}
 use Rattle.tree_pieces.specs.Writers.{with_state, all_with_state, gathered}
-use Rattle.tree_update.specs.declared.Updated.{Updated}
-use Rattle.tree_update.specs.declared.Updated.TheVariants.{Impossible, Tokens}
 
 -- new begins with xs, and r says how many.
 pub record Begins (xs new : List ℕ) (r : ℕ) : Type 0 where
@@ -57,6 +55,6 @@ pub record JudgedTree (n : ℕ) (S : Restriction) (t : Forest) (toks judged : Li
   pub possible : reduce S t ≢ none
 
 -- The answer: there is no tree, and out stays as it was; or the tree is written to its start, and the answer says how many tokens.
-pub data Answers : Option Forest → List ℕ → List ℕ → Updated → Type 0 where
-  impossible : {old new : List ℕ} → new ≡ old → Answers none old new Impossible
-  written : {t : Forest} {old new : List ℕ} {k : ℕ} → Wrote (flat t) old new k → Answers (some t) old new (Tokens k)
+pub data Answers : Option Forest → List ℕ → List ℕ → CodeOption ℕ → Type 0 where
+  impossible : {old new : List ℕ} → new ≡ old → Answers none old new None
+  written : {t : Forest} {old new : List ℕ} {k : ℕ} → Wrote (flat t) old new k → Answers (some t) old new (Some k)

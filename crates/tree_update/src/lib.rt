@@ -161,33 +161,26 @@ pub fn rewrite(toks: &[u16], judged: &[u16], out: &mut [u16]) -> usize
     tree_tokens::copy(&buf[from..to], out)
 }
 
-// The answer to an update: there is no tree; or how many tokens it has.
-#[derive(Drop)]
-pub enum Updated {
-    Impossible,
-    Tokens(usize),
-}
-
-// Writes the tree with its marked leaves consecutive to the start of out.
-fn update(toks: &[u16], marks: &[u64], out: &mut [u16]) -> Updated
+// Writes the tree with its marked leaves consecutive to the start of out, and says how many tokens it has; or that there is none.
+fn update(toks: &[u16], marks: &[u64], out: &mut [u16]) -> Option<usize>
     requires { (n : ℕ) × (TokensWithin n toks.now) × (512 ≤ length out.old) }
     ensures { (t : Forest) → toks.now ≡ flat t
         → Answers (reduce (marked marks.now) t) out.old out.new result }
 {
     let m = toks.len();
     if m == 0 {
-        return Updated::Tokens(0);
+        return Some(0);
     }
     let mut judged = [0u16; 512];
     tree_judge::judge(toks, marks, &mut judged);
     if tree_tokens::state(&judged[0..m]) == 4 {
-        return Updated::Impossible;
+        return None;
     }
-    Updated::Tokens(rewrite(toks, &judged[0..m], out))
+    Some(rewrite(toks, &judged[0..m], out))
 }
 
 // A group joins: the same with the side of the group that leaf 1 is not in. group is four words.
-pub fn join(toks: &[u16], group: &[u64], n: usize, out: &mut [u16]) -> Updated
+pub fn join(toks: &[u16], group: &[u64], n: usize, out: &mut [u16]) -> Option<usize>
     requires { (TokensWithin n toks.now) × (length group.now ≡ 4) × (512 ≤ length out.old) }
     ensures { (t : Forest) → toks.now ≡ flat t
         → Answers (join (marked group.now) t) out.old out.new result }

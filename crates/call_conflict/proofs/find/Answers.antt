@@ -33,14 +33,14 @@ returns-in_default c =
 pub slice_bounds-leave_out-end : goal.slice_bounds-leave_out-end
 slice_bounds-leave_out-end c =
     let started : take (c.start_tree-m.result - 0) (drop 0 c.start_tree-m.new.out) ≡ flat (start c.args.n (marked c.choose.new.words)) = (read_part c.start_tree-m.ensures.1) in
-    let after : Next (marked c.args.group.now) (start c.args.n (marked c.choose.new.words)) c.join-got.new.out c.in-Tokens.k = (next-tree (start c.args.n (marked c.choose.new.words)) refl c.in-Tokens.is (c.join-got.ensures (start c.args.n (marked c.choose.new.words)) started)) in
+    let after : Next (marked c.args.group.now) (start c.args.n (marked c.choose.new.words)) c.join-got.new.out c.in-Some.k = (next-tree (start c.args.n (marked c.choose.new.words)) refl c.in-Some.is (c.join-got.ensures (start c.args.n (marked c.choose.new.words)) started)) in
     omega (arith, after.room)
 
 pub leave_out-requires : goal.leave_out-requires
 leave_out-requires c =
     let choice : Chosen c.args.n (marked c.args.group.now) (group_numbered c.args.book.now) (marked c.choose.new.words) = (subst (λ G. Chosen c.args.n G (group_numbered c.args.book.now) (marked c.choose.new.words)) (ap marked (four_words c.args.group.now c.requires.3)) c.choose.ensures) in
     let started : take (c.start_tree-m.result - 0) (drop 0 c.start_tree-m.new.out) ≡ flat (start c.args.n (marked c.choose.new.words)) = (read_part c.start_tree-m.ensures.1) in
-    let after : Next (marked c.args.group.now) (start c.args.n (marked c.choose.new.words)) c.join-got.new.out c.in-Tokens.k = (next-tree (start c.args.n (marked c.choose.new.words)) refl c.in-Tokens.is (c.join-got.ensures (start c.args.n (marked c.choose.new.words)) started)) in
+    let after : Next (marked c.args.group.now) (start c.args.n (marked c.choose.new.words)) c.join-got.new.out c.in-Some.k = (next-tree (start c.args.n (marked c.choose.new.words)) refl c.in-Some.is (c.join-got.ensures (start c.args.n (marked c.choose.new.words)) started)) in
     let x = after in
     let r = read_part c.rising-many.ensures in
     ((x.tree, marked c.args.group.now ∷ [], x.text, one_represented choice x.is, c.requires.0), c.requires.1, subst InBook (sym r) (numbers_in_book c.args.count c.requires.2), omega (arith, ap length r, numbers_length 1 c.args.count, c.requires.4))
@@ -50,7 +50,7 @@ unfolding conflicts_of
 returns c =
     let choice : Chosen c.args.n (marked c.args.group.now) (group_numbered c.args.book.now) (marked c.choose.new.words) = (subst (λ G. Chosen c.args.n G (group_numbered c.args.book.now) (marked c.choose.new.words)) (ap marked (four_words c.args.group.now c.requires.3)) c.choose.ensures) in
     let started : take (c.start_tree-m.result - 0) (drop 0 c.start_tree-m.new.out) ≡ flat (start c.args.n (marked c.choose.new.words)) = (read_part c.start_tree-m.ensures.1) in
-    let after : Next (marked c.args.group.now) (start c.args.n (marked c.choose.new.words)) c.join-got.new.out c.in-Tokens.k = (next-tree (start c.args.n (marked c.choose.new.words)) refl c.in-Tokens.is (c.join-got.ensures (start c.args.n (marked c.choose.new.words)) started)) in
+    let after : Next (marked c.args.group.now) (start c.args.n (marked c.choose.new.words)) c.join-got.new.out c.in-Some.k = (next-tree (start c.args.n (marked c.choose.new.words)) refl c.in-Some.is (c.join-got.ensures (start c.args.n (marked c.choose.new.words)) started)) in
     let x = after in
     subst (λ js. Wrote (conflict_list (possible? Ring c.args.n) (group_numbered c.args.book.now) (marked c.args.group.now ∷ []) js) c.args.out.now c.leave_out.new.out c.leave_out.result) (read_part c.rising-many.ensures)
     (c.leave_out.ensures x.tree (marked c.args.group.now ∷ []) x.text (one_represented choice x.is))

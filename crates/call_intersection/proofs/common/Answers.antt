@@ -51,4 +51,4 @@ returns c =
     let t = first in
     let u = second in
     met (lent_nodes l n have c.args.nodes.now) (lent_nodes l n had c.args.other.now) t.0 (as-held _ e t.1) u.0 (as-held _ e u.1)
-    (subst (Answers (intersection t.0 u.0) c.args.out.now c.intersect-found.new.out) c.in-Tokens.is (c.intersect-found.ensures t.0 u.0 (read_part t.2) (read_part u.2)))
+    (subst (Answers (intersection t.0 u.0) c.args.out.now c.intersect-found.new.out) c.in-Some-found.is (c.intersect-found.ensures t.0 u.0 (read_part t.2) (read_part u.2)))

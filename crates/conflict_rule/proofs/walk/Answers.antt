@@ -41,16 +41,16 @@ returns-in_default c = (
 pub slice_bounds-copy-end : goal.slice_bounds-copy-end
 slice_bounds-copy-end c =
     let after : (t : Forest) (Gs : List Restriction) (e : c.args.toks.now ≡ flat t) (rep : Represents c.args.n (group_numbered c.args.book.now) Gs t)
-    → Next (group_numbered c.args.book.now (get_or c.args.numbers.now (c.loop-left.left - 1) 0)) (c.loop-left.invariant.3 t Gs e rep).tree c.join-got.new.out c.in-Tokens.k = (λ t Gs e rep. let w = c.loop-left.invariant.3 t Gs e rep in
-    next-tree w.tree (part_group c.args.book.now (get_or c.args.numbers.now (c.loop-left.left - 1) 0)) c.in-Tokens.is (c.join-got.ensures w.tree (part_start c.loop-left.m c.loop-left.out ∙ w.text))) in
+    → Next (group_numbered c.args.book.now (get_or c.args.numbers.now (c.loop-left.left - 1) 0)) (c.loop-left.invariant.3 t Gs e rep).tree c.join-got.new.out c.in-Some.k = (λ t Gs e rep. let w = c.loop-left.invariant.3 t Gs e rep in
+    next-tree w.tree (part_group c.args.book.now (get_or c.args.numbers.now (c.loop-left.left - 1) 0)) c.in-Some.is (c.join-got.ensures w.tree (part_start c.loop-left.m c.loop-left.out ∙ w.text))) in
     let p = c.requires.0 in let x = after p.0 p.1 p.2 p.3 in omega (arith, x.room)
 
 pub loop-left-preserved : goal.loop-left-preserved
 loop-left-preserved c =
     let number : (1 ≤ get_or c.args.numbers.now (c.loop-left.left - 1) 0) × (get_or c.args.numbers.now (c.loop-left.left - 1) 0 ≤ 96) = (book_at c.args.numbers.now (c.loop-left.left - 1) (omega (arith, c.loop-left-test.true, c.loop-left.invariant.0)) c.requires.2) in
     let after : (t : Forest) (Gs : List Restriction) (e : c.args.toks.now ≡ flat t) (rep : Represents c.args.n (group_numbered c.args.book.now) Gs t)
-    → Next (group_numbered c.args.book.now (get_or c.args.numbers.now (c.loop-left.left - 1) 0)) (c.loop-left.invariant.3 t Gs e rep).tree c.join-got.new.out c.in-Tokens.k = (λ t Gs e rep. let w = c.loop-left.invariant.3 t Gs e rep in
-    next-tree w.tree (part_group c.args.book.now (get_or c.args.numbers.now (c.loop-left.left - 1) 0)) c.in-Tokens.is (c.join-got.ensures w.tree (part_start c.loop-left.m c.loop-left.out ∙ w.text))) in (
+    → Next (group_numbered c.args.book.now (get_or c.args.numbers.now (c.loop-left.left - 1) 0)) (c.loop-left.invariant.3 t Gs e rep).tree c.join-got.new.out c.in-Some.k = (λ t Gs e rep. let w = c.loop-left.invariant.3 t Gs e rep in
+    next-tree w.tree (part_group c.args.book.now (get_or c.args.numbers.now (c.loop-left.left - 1) 0)) c.in-Some.is (c.join-got.ensures w.tree (part_start c.loop-left.m c.loop-left.out ∙ w.text))) in (
       omega (arith, c.loop-left.invariant.0),
       c.copy-m-in-loop-left.auto.out ∙ c.loop-left.invariant.1,
       wrote_most c.copy-m-in-loop-left.ensures,

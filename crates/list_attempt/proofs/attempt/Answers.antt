@@ -29,5 +29,5 @@ returns-in_default-join c =
 pub returns : goal.returns
 returns c =
     let fine : ListChecked c.args.n c.args.list.now c.check_list.new.marks Fine = (subst (ListChecked c.args.n c.args.list.now c.check_list.new.marks) c.in_default.is c.check_list.ensures) in
-    λ t e. one-joined t c.args.n c.args.count c.args.list.now fine.0 c.check_list.new.marks c.args.out.now c.join.new.out c.in-Tokens.m c.requires.0.few_leaves fine.1 c.if-count-eq96.false
-    (subst (Answers (join (marked c.check_list.new.marks) t) c.args.out.now c.join.new.out) c.in-Tokens.is (c.join.ensures t e))
+    λ t e. one-joined t c.args.n c.args.count c.args.list.now fine.0 c.check_list.new.marks c.args.out.now c.join.new.out c.in-Some.m c.requires.0.few_leaves fine.1 c.if-count-eq96.false
+    (subst (Answers (join (marked c.check_list.new.marks) t) c.args.out.now c.join.new.out) c.in-Some.is (c.join.ensures t e))

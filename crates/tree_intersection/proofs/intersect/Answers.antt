@@ -24,11 +24,11 @@ join_groups-requires c =
     record { long = omega (arith, c.copy-many.auto.out); tree = (p.0, read_back c.copy-many.ensures ∙ p.1, p.2, p.3) }) in
     ((_, c.requires.1.is), start)
 
-pub returns-in_default : goal.returns-in_default
-returns-in_default c =
+pub returns-in_err-k : goal.returns-in_err-k
+returns-in_err-k c =
     let joined : (t u : Forest) → c.args.toks.now ≡ flat t → c.args.other.now ≡ flat u
     → Grows (joins (map elem (characteristic u)) t) c.join_groups.new.into c.join_groups.result = (λ t u e q. rw tree_plain at (c.join_groups.ensures (plain u) t q (read_back c.copy-many.ensures ∙ e))) in
-    λ t u e q. rw (common t u ∙ grows_none c.in_default.is (joined t u e q)) (impossible refl)
+    λ t u e q. rw (c.from_residual.ensures, common t u ∙ grows_none c.in_err-k.was (joined t u e q)) (impossible refl)
 
 pub slice_bounds-copy-end-2 : goal.slice_bounds-copy-end-2
 slice_bounds-copy-end-2 c =
@@ -36,7 +36,7 @@ slice_bounds-copy-end-2 c =
     record { long = omega (arith, c.copy-many.auto.out); tree = (p.0, read_back c.copy-many.ensures ∙ p.1, p.2, p.3) }) in
     let joined : (t u : Forest) → c.args.toks.now ≡ flat t → c.args.other.now ≡ flat u
     → Grows (joins (map elem (characteristic u)) t) c.join_groups.new.into c.join_groups.result = (λ t u e q. rw tree_plain at (c.join_groups.ensures (plain u) t q (read_back c.copy-many.ensures ∙ e))) in
-    let grew : Growing c.args.n c.join_groups.new.into c.in-Tokens.k = (growing_more (map elem (characteristic c.requires.1.shown)) c.requires.0.shown start (read_back c.copy-many.ensures ∙ c.requires.0.is) c.join_groups.auto.into c.in-Tokens.is
+    let grew : Growing c.args.n c.join_groups.new.into c.in_ok-k.k = (growing_more (map elem (characteristic c.requires.1.shown)) c.requires.0.shown start (read_back c.copy-many.ensures ∙ c.requires.0.is) c.join_groups.auto.into c.in_ok-k.was
     (joined c.requires.0.shown c.requires.1.shown c.requires.0.is c.requires.1.is)) in
     let g = grew in omega (arith, growing_few g, g.long)
 
@@ -45,5 +45,5 @@ returns c =
     let joined : (t u : Forest) → c.args.toks.now ≡ flat t → c.args.other.now ≡ flat u
     → Grows (joins (map elem (characteristic u)) t) c.join_groups.new.into c.join_groups.result = (λ t u e q. rw tree_plain at (c.join_groups.ensures (plain u) t q (read_back c.copy-many.ensures ∙ e))) in
     λ t u e q.
-    let x = grows_tree c.in-Tokens.is (joined t u e q) in
+    let x = grows_tree c.in_ok-k.was (joined t u e q) in
     rw (common t u ∙ x.1) (written (rw (read_part x.2) at c.copy.ensures))

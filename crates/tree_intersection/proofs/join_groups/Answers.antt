@@ -12,14 +12,14 @@ use Rattle.tree_intersection.proofs.Groups.{groups_split}
 use Rattle.tree_intersection.proofs.Growth.{growing_more, joining_more, joining_none, joining_end}
 use Rattle.tree_intersection.proofs.join_groups.Goals as goal
 
-pub returns-in_default : goal.returns-in_default
-returns-in_default c =
+pub returns-in_err-k : goal.returns-in_err-k
+returns-in_err-k c =
     let step : (k : Judged) → Here c.args.toks.now c.loop-i.i k → (u : Forest) → take c.loop-i.k c.loop-i.into ≡ flat u
     → Grows (joins (map elem (first_groups (tree k))) u) c.join_node.new.into c.join_node.result = (λ k p u q. c.join_node.ensures k u p.part q) in
-    λ j t e q.
+    rw c.from_residual.ensures (λ j t e q.
     let r = here c.loop-i.invariant.3 (omega arith) j e in
     let k = r.0 in
-    joining_none (first_groups (tree k)) (opened k) r.2 (groups_split k) (step k r.1) c.in_default.is t q
+    joining_none (first_groups (tree k)) (opened k) r.2 (groups_split k) (step k r.1) c.in_err-k.was t q)
 
 pub loop-i-preserved : goal.loop-i-preserved
 loop-i-preserved c =
@@ -29,9 +29,9 @@ loop-i-preserved c =
     let g = c.loop-i.invariant.2 in (
       omega arith,
       c.join_node.auto.into ∙ c.loop-i.invariant.1,
-      growing_more (map elem (first_groups (tree r.0))) g.tree.0 g g.tree.1 c.join_node.auto.into c.in-Tokens.is (step r.0 r.1 g.tree.0 g.tree.1),
+      growing_more (map elem (first_groups (tree r.0))) g.tree.0 g g.tree.1 c.join_node.auto.into c.in_ok-k.was (step r.0 r.1 g.tree.0 g.tree.1),
       next_token c.loop-i.invariant.3 (omega arith)
-          (λ j k p q. joining_more (first_groups (tree k)) (opened k) q (groups_split k) (step k p) c.in-Tokens.is),
+          (λ j k p q. joining_more (first_groups (tree k)) (opened k) q (groups_split k) (step k p) c.in_ok-k.was),
     )
 
 pub returns : goal.returns

@@ -17,18 +17,18 @@ use Rattle.tree_intersection.proofs.join_leaves.Goals as goal
 pub slice_bounds-join-end : goal.slice_bounds-join-end
 slice_bounds-join-end c = omega (arith, growing_few c.requires.1, c.requires.1.long)
 
-pub returns-in_default : goal.returns-in_default
-returns-in_default c =
+pub returns-in_err-m : goal.returns-in_err-m
+returns-in_err-m c =
     let same : (j : Judged) (t : Forest) → c.args.toks.now ≡ encode j → take c.args.many c.args.into.now ≡ flat t
     → join (elem (frontier (tree j))) t ≡ join (marked c.mark_leaves.new.words) t = (λ j t e q. sym (list_joins (frontier (tree j)) c.mark_leaves.new.words (the_form _ _ c.requires.1.tree t q) c.requires.1.tree.3 (c.mark_leaves.ensures j e))) in
-    λ j t e q.
-    grows_as (same j t e q ∙ no_tree t refl c.in_default.is (c.join.ensures t (read_part (growing_begins t c.requires.1 q)))) impossible
+    rw c.from_residual.ensures (λ j t e q.
+    grows_as (same j t e q ∙ no_tree t refl c.in_err-m.was (c.join.ensures t (read_part (growing_begins t c.requires.1 q)))) impossible)
 
 pub returns : goal.returns
 returns c =
     let same : (j : Judged) (t : Forest) → c.args.toks.now ≡ encode j → take c.args.many c.args.into.now ≡ flat t
     → join (elem (frontier (tree j))) t ≡ join (marked c.mark_leaves.new.words) t = (λ j t e q. sym (list_joins (frontier (tree j)) c.mark_leaves.new.words (the_form _ _ c.requires.1.tree t q) c.requires.1.tree.3 (c.mark_leaves.ensures j e))) in
-    let after : (t : Forest) → take c.args.many c.args.into.now ≡ flat t → Next (marked c.mark_leaves.new.words) t c.join.new.out c.in-Tokens.m = (λ t q. next-tree t refl c.in-Tokens.is (c.join.ensures t (read_part (growing_begins t c.requires.1 q)))) in
+    let after : (t : Forest) → take c.args.many c.args.into.now ≡ flat t → Next (marked c.mark_leaves.new.words) t c.join.new.out c.in_ok-m.m = (λ t q. next-tree t refl c.in_ok-m.was (c.join.ensures t (read_part (growing_begins t c.requires.1 q)))) in
     λ j t e q.
     let x = after t q in
     grows_as (same j t e q ∙ x.is) (grown (begins (wrote_as x.text c.copy.ensures)))

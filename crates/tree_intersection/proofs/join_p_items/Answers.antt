@@ -22,15 +22,15 @@ loop-i-preserved-then-shape-ne2 c = (
       (λ j k p q. joining_same (rest_of k) q (p_item_other k (λ h. c.if-shape-ne2.true (c.shape.ensures k p.part ∙ sym h)))),
 )
 
-pub returns-in_default : goal.returns-in_default
-returns-in_default c =
+pub returns-in_err-k : goal.returns-in_err-k
+returns-in_err-k c =
     let more : (k : Judged) → Here c.args.toks.now c.loop-i.i k → 2 ≡ shape_of k = (λ k p. sym c.if-shape-ne2.false ∙ c.shape.ensures k p.part) in
     let step : (k : Judged) → Here c.args.toks.now c.loop-i.i k → (u : Forest) → take c.loop-i.k c.loop-i.into ≡ flat u
     → Grows (joins (map elem (frontier (tree (items_of k)) ∷ [])) u) c.join_leaves.new.into c.join_leaves.result = (λ k p u q. grows_as (joins-one (elem (frontier (tree (items_of k)))) u) (c.join_leaves.ensures (items_of k) u (c.items.ensures.1 k p.part) q)) in
-    λ j t e q.
+    rw c.from_residual.ensures (λ j t e q.
     let r = here c.loop-i.invariant.3 (omega arith) j e in
     let k = r.0 in
-    joining_none (frontier (tree (items_of k)) ∷ []) (rest_of k) r.2 (p_item_more k (more k r.1)) (step k r.1) c.in_default.is t q
+    joining_none (frontier (tree (items_of k)) ∷ []) (rest_of k) r.2 (p_item_more k (more k r.1)) (step k r.1) c.in_err-k.was t q)
 
 pub loop-i-preserved : goal.loop-i-preserved
 loop-i-preserved c =
@@ -41,9 +41,9 @@ loop-i-preserved c =
     let g = c.loop-i.invariant.2 in (
       omega (arith, c.size-i.ensures.1),
       c.join_leaves.auto.into ∙ c.loop-i.invariant.1,
-      growing_more (map elem (frontier (tree (items_of r.0)) ∷ [])) g.tree.0 g g.tree.1 c.join_leaves.auto.into c.in-Tokens.is (step r.0 r.1 g.tree.0 g.tree.1),
+      growing_more (map elem (frontier (tree (items_of r.0)) ∷ [])) g.tree.0 g g.tree.1 c.join_leaves.auto.into c.in_ok-k.was (step r.0 r.1 g.tree.0 g.tree.1),
       next_item c.loop-i.invariant.3 (omega arith) c.size-i.ensures.2
-          (λ j k p q. joining_more (frontier (tree (items_of k)) ∷ []) (rest_of k) q (p_item_more k (more k p)) (step k p) c.in-Tokens.is),
+          (λ j k p q. joining_more (frontier (tree (items_of k)) ∷ []) (rest_of k) q (p_item_more k (more k p)) (step k p) c.in_ok-k.was),
     )
 
 pub returns : goal.returns
