@@ -1,6 +1,7 @@
 -- The entries of a record, read one after the other.
 use mathlib.Core.Path.{◌≡◌, refl, sym, ap, ◌∙◌, subst}
 use mathlib.Core.Logic.{inl, inr}
+use Rattle.std.specs.Prelude.{Option, Some, None}
 use mathlib.Core.List.{List, ◌∷◌}
 use Prim.Native.Nat.{ℕ, suc, ◌+◌, ◌≤◌, ◌<◌}
 use native.Mathlib.Omega.{arith}
@@ -13,21 +14,20 @@ use Rattle.spec_orders.specs.Form.{first, nodes}
 use Rattle.tree_tokens.specs.Tokens.{State, number}
 use Rattle.tree_judge.specs.Judge.{leaf_state, node_state, states, judge}
 use Rattle.tree_judge.specs.Automaton.{Run, start, step, code}
-use Rattle.table_sweep.specs.declared.Found.{Found}
-use Rattle.table_sweep.specs.declared.Found.TheVariants as found
+use Rattle.table_sweep.specs.declared.Item.{Item}
 use Rattle.table_reading.specs.Reading.{Within, least, head, known, at_record, after_leaf, after_root, ItemsRead, read_none, read_leaf, read_root}
-use Rattle.table_sweep.specs.Kept.{Labels, Roots, Inside, SameRecords, Small, LeafSays, RootSays, EntrySays, RowIs}
+use Rattle.table_sweep.specs.Kept.{Labels, Roots, Inside, SameRecords, LeafSays, RootSays, EntrySays, RowIs}
 use Rattle.table_reading.proofs.Same.{kind_first}
 use Rattle.table_sweep.proofs.Keeping.{roots_labels, labels_leaf, labels_root, labels_none, labels_on}
 
 -- An entry, from what a leaf and a root say.
-pub leaf_entry : (n : ℕ) (S : Restriction) (x : ℕ) (g : Forest) (ls : List ℕ) (v : ℕ) (work : List ℕ) (r : Found) → v ≤ 256 → LeafSays n S x g ls v work r → EntrySays n S x g ls v work r
-leaf_entry n S x g ls v work (found.Item c m s) l h = inl (l, h)
-leaf_entry n S x g ls v work found.Bad l h = ((λ a w. h w), (λ a e. absurd (omega arith)))
+pub leaf_entry : (n : ℕ) (S : Restriction) (x : ℕ) (g : Forest) (ls : List ℕ) (v : ℕ) (work : List ℕ) (r : Option Item) → v ≤ 256 → LeafSays n S x g ls v work r → EntrySays n S x g ls v work r
+leaf_entry n S x g ls v work (Some o) l h = inl (l, h)
+leaf_entry n S x g ls v work None l h = ((λ a w. h w), (λ a e. absurd (omega arith)))
 
-pub root_entry : (n : ℕ) (S : Restriction) (x : ℕ) (g : Forest) (ls : List ℕ) (v : ℕ) (work : List ℕ) (r : Found) → 256 < v → v ≡ 256 + x → Inside S work x g ls → RootSays S g r → EntrySays n S x g ls v work r
-root_entry n S x g ls v work (found.Item c m s) l e k h = inr (l, e, h, k)
-root_entry n S x g ls v work found.Bad l e k h = ((λ a w. absurd (omega arith)), (λ a q. h))
+pub root_entry : (n : ℕ) (S : Restriction) (x : ℕ) (g : Forest) (ls : List ℕ) (v : ℕ) (work : List ℕ) (r : Option Item) → 256 < v → v ≡ 256 + x → Inside S work x g ls → RootSays S g r → EntrySays n S x g ls v work r
+root_entry n S x g ls v work (Some o) l e k h = inr (l, e, h, k)
+root_entry n S x g ls v work None l e k h = ((λ a w. absurd (omega arith)), (λ a q. h))
 
 -- The first root is taken.
 root_taken : (S : Restriction) {new : List ℕ} {x y : ℕ} {ls : List ℕ} {w : Kind} {i f : Forest} → Inside S new x (node w i f) ls → x ≡ y → Inside S new (y + suc (nodes i)) f ls
@@ -98,7 +98,7 @@ module _ (n : ℕ) (S : Restriction) (k : Kind) where
       rest = drop-cons places j 0 l ∙ ap (λ (m : ℕ). v ∷ drop m places) (sym (add-one j))
 
       -- It can't stand there.
-      pub going_bad : EntrySays n S x h.here.roots h.here.leaves v work found.Bad → (i : Forest) (z : Within) → ItemsRead n S k places (at_record n S k r (known n S g ls)) i z → ⊥
+      pub going_bad : EntrySays n S x h.here.roots h.here.leaves v work None → (i : Forest) (z : Within) → ItemsRead n S k places (at_record n S k r (known n S g ls)) i z → ⊥
       going_bad b i z t = let u = h.off i z t in no u.0 (subst (λ (vs : List ℕ). ItemsRead n S k vs h.here u.0 z) rest u.1)
         where
           clash : {f : Forest} (y : Kind) (i p : Forest) → f ≡ nil → f ≡ node y i p → ⊥
@@ -108,15 +108,15 @@ module _ (n : ℕ) (S : Restriction) (k : Kind) where
           no i (read_leaf m w y t) = b.0 m w
           no i (read_root {h = y} {j = p} {f = f} m e q y' t) = clash y p f (b.1 m (e ∙ ap (λ (s : ℕ). 256 + s) (sym h.its_next))) q
 
-      module _ {new : List ℕ} {b m s : ℕ} (said : EntrySays n S x h.here.roots h.here.leaves v new (found.Item b m s)) where
+      module _ {new : List ℕ} {it : Item} (said : EntrySays n S x h.here.roots h.here.leaves v new (Some it)) where
         -- It is not above the item before it.
-        pub going_low : {y : ℕ} → y ≡ least k d → b ≤ y → (i : Forest) (z : Within) → ItemsRead n S k places (at_record n S k r (known n S g ls)) i z → ⊥
+        pub going_low : {y : ℕ} → y ≡ least k d → it.first ≤ y → (i : Forest) (z : Within) → ItemsRead n S k places (at_record n S k r (known n S g ls)) i z → ⊥
         going_low {y} e low i z t = let u = h.off i z t in no u.0 said (subst (λ (vs : List ℕ). ItemsRead n S k vs h.here u.0 z) rest u.1)
           where
             same-least : y ≡ least k h.here.last
             same-least = e ∙ ap (least k) h.its_last
 
-            no : (i : Forest) → EntrySays n S x h.here.roots h.here.leaves v new (found.Item b m s) → ItemsRead n S k (v ∷ drop (j + 1) places) h.here i z → ⊥
+            no : (i : Forest) → EntrySays n S x h.here.roots h.here.leaves v new (Some it) → ItemsRead n S k (v ∷ drop (j + 1) places) h.here i z → ⊥
             no i (inl p) (read_leaf a w y' t) = omega (arith, p.1.1, same-least)
             no i (inl p) (read_root a f q y' t) = omega (arith, p.0)
             no i (inr p) (read_leaf a w y' t) = omega (arith, p.0)
@@ -126,19 +126,19 @@ module _ (n : ℕ) (S : Restriction) (k : Kind) where
                 omega (arith, o.its_first, ap first w.1, same-least)
 
         -- It is read.
-        pub going_more : {y q' : ℕ} → SameRecords work new → y ≡ least k d → y < b → ((p : Run) (z : State) → q ≡ code p → s ≡ number z → q' ≡ code (step p z)) → Going r g ls places (j + 1) new (head c b) b (x + m) q'
+        pub going_more : {y q' : ℕ} → SameRecords work new → y ≡ least k d → y < it.first → ((p : Run) (z : State) → q ≡ code p → it.state ≡ number z → q' ≡ code (step p z)) → Going r g ls places (j + 1) new (head c it.first) it.first (x + it.records) q'
         going_more {y} {q'} same e high run = go said
           where
-            above : least k h.here.last < b
+            above : least k h.here.last < it.first
             above = omega (arith, e, ap (least k) h.its_last)
 
-            go : EntrySays n S x h.here.roots h.here.leaves v new (found.Item b m s) → Going r g ls places (j + 1) new (head c b) b (x + m) q'
+            go : EntrySays n S x h.here.roots h.here.leaves v new (Some it) → Going r g ls places (j + 1) new (head c it.first) it.first (x + it.records) q'
             go (inl (small, (w, is_b, is_m, is-s, kept))) =
                 let a = h.here in
                 let up : least k a.last < v = omega (arith, above, is_b) in
                 record {
                   here = after_leaf n S a v;
-                  its_first = ap (λ (t : ℕ). head t b) h.its_first ∙ ap (head a.first) is_b;
+                  its_first = ap (λ (t : ℕ). head t it.first) h.its_first ∙ ap (head a.first) is_b;
                   its_last = is_b;
                   its_next = omega (arith, h.its_next, is_m);
                   its_run = run a.run (leaf_state (S v)) h.its_run is-s;
@@ -152,12 +152,12 @@ module _ (n : ℕ) (S : Restriction) (k : Kind) where
                 let a = h.here in
                 let up : least k a.last < first o.items = omega (arith, above, o.its_first) in
                 let at : v ≡ 256 + a.next = place ∙ ap (λ (t : ℕ). 256 + t) h.its_next in
-                let next_is : x + m ≡ a.next + suc (nodes o.items) = omega (arith, h.its_next, o.its_records) in
+                let next_is : x + it.records ≡ a.next + suc (nodes o.items) = omega (arith, h.its_next, o.its_records) in
                 let here : Inside S new a.next a.roots a.leaves = subst (λ (y : ℕ). Inside S new y a.roots a.leaves) h.its_next kept in
                 let its : Labels S new a.next (node o.kind o.items o.rest) = subst (Labels S new a.next) o.is (roots_labels S new a.next a.roots here.kept.roots here.kept.low) in
                 record {
                   here = after_root n S a o.kind o.items o.rest;
-                  its_first = ap (λ (t : ℕ). head t b) h.its_first ∙ ap (head a.first) o.its_first;
+                  its_first = ap (λ (t : ℕ). head t it.first) h.its_first ∙ ap (head a.first) o.its_first;
                   its_last = o.its_first;
                   its_next = next_is;
                   its_run = run a.run (node_state o.kind (states (judge S o.items))) h.its_run o.its_state;
@@ -168,10 +168,8 @@ module _ (n : ℕ) (S : Restriction) (k : Kind) where
                   off = λ i z t. let u = h.off i z t in root_tail o.kind o.items o.rest large o.is (subst (λ (vs : List ℕ). ItemsRead n S k vs a u.0 z) rest u.1);
                 }
 
-pub entry_is : (n : ℕ) (S : Restriction) (k : Kind) (new : List ℕ) (v : ℕ) {r : ℕ} {g : Forest} {ls places : List ℕ} {j : ℕ} {work : List ℕ} {c d x q : ℕ} {a b : Found} (h : Going n S k r g ls places j work c d x q) → a ≡ b
-    → ((f : Forest) (us : List ℕ) → Inside S work x f us → EntrySays n S x f us v new a) → EntrySays n S x h.here.roots h.here.leaves v new b
-entry_is n S k new v {work = work} {x = x} h e said =
-    subst (EntrySays n S x h.here.roots h.here.leaves v new) e (said h.here.roots h.here.leaves (subst (λ (t : ℕ). Inside S work t h.here.roots h.here.leaves) (sym h.its_next) h.inside))
-
-pub small_item : {a : Found} {b m s : ℕ} → a ≡ found.Item b m s → Small a → (b ≤ 511) × (m ≤ 511) × (s ≤ 4)
-small_item e h = subst Small e h
+-- An entry of the record, from what reading it says whatever is known.
+pub entry_is : (n : ℕ) (S : Restriction) (k : Kind) (new : List ℕ) (v : ℕ) {r : ℕ} {g : Forest} {ls places : List ℕ} {j : ℕ} {work : List ℕ} {c d x q : ℕ} (a : Option Item) (h : Going n S k r g ls places j work c d x q)
+    → ((f : Forest) (us : List ℕ) → Inside S work x f us → EntrySays n S x f us v new a) → EntrySays n S x h.here.roots h.here.leaves v new a
+entry_is n S k new v {work = work} {x = x} a h said =
+    said h.here.roots h.here.leaves (subst (λ (t : ℕ). Inside S work t h.here.roots h.here.leaves) (sym h.its_next) h.inside)

@@ -1,6 +1,7 @@
 -- What `work` holds after each step.
 use mathlib.Core.Path.{◌≡◌, refl, sym, ap, ◌∙◌, subst}
-use mathlib.Core.Bool.{true, false}
+use mathlib.Core.Bool.{Bool, true, false}
+use mir.Val.{bool_byte as from_bool}
 use mathlib.Core.List.{List, ◌∷◌, ◌++◌}
 use Prim.Native.Nat.{ℕ, suc, ◌+◌, ◌-◌, ◌≤◌, ◌<◌, ◌/◌, ◌%◌}
 use native.Mathlib.Omega.{arith}
@@ -142,9 +143,11 @@ root_read {S} {w} {x} (node h i f) k l =
       its_state = omega (arith, r.0, r.1);
     }
 
--- The state of a leaf in the restriction; outside it.
-pub leaf_in : (S : Restriction) (b : ℕ) → S b ≡ true → 1 ≡ number (leaf_state (S b))
-leaf_in S b e = rw e
+-- The state of a leaf, from whether the restriction has it.
+pub leaf_number : (in_it : Bool) → from_bool in_it ≡ number (leaf_state in_it)
+leaf_number true = refl
+leaf_number false = refl
 
-pub leaf_out : (S : Restriction) (b : ℕ) → S b ≡ false → 0 ≡ number (leaf_state (S b))
-leaf_out S b e = rw e
+pub bit_small : (b : Bool) → from_bool b ≤ 4
+bit_small true = omega arith
+bit_small false = omega arith

@@ -1,16 +1,15 @@
 -- A node's record: what is refused, and what is kept of it.
 use mathlib.Core.Path.{◌≡◌, refl, sym, ap, ◌∙◌, subst}
-use mathlib.Core.Bool.{true}
+use Rattle.std.specs.Prelude.{Some, None, EachIndex}
 use mathlib.Core.List.{List, ◌++◌}
 use Prim.Native.Nat.{ℕ, zero, suc, ◌+◌, ◌-◌, ◌*◌, ◌≤◌, ◌<◌}
 use native.Mathlib.Omega.{arith}
-use lib.ListN.{length, take, drop, set, replicate, length-set, length-drop, length-replicate, take-append-drop}
-use lib.Seq.{take-append_seam, take_all, drop_at, take-set-le, drop-set-add, get_or-set_same, get_or-set_other, length-take-le}
-use Rattle.spec_orders.specs.Lists.{same}
+use lib.ListN.{length, get_or, take, drop, set, replicate, length-set, length-drop, take-append-drop}
+use lib.Seq.{take-append_seam, drop_at, take-set-le, drop-set-add, get_or-set_same, get_or-set_other, length-take-le}
 use Rattle.spec_orders.specs.CircularOrder.{Restriction}
 use Rattle.spec_orders.specs.Tree.{Kind, P, C, Forest, node}
 use Rattle.spec_orders.specs.Form.{first, fewest, nodes}
-use Rattle.spec_orders.proofs.FormTests.{same_decides}
+use Rattle.spec_orders.proofs.ListLaws.{part_to_end}
 use Rattle.spec_calls.specs.Tables.{padded}
 use Rattle.spec_calls.specs.NodeTable.{kind_number}
 use Rattle.mark_words.specs.Marks.{marked}
@@ -19,11 +18,11 @@ use Rattle.tree_judge.specs.Judge.{node_state, states, judge}
 use Rattle.tree_judge.specs.Automaton.{Run, verdict, code}
 use Rattle.tree_judge.proofs.Automaton.{judges}
 use Rattle.table_sweep.specs.declared.Row.{Row}
-use Rattle.table_sweep.specs.declared.Row.TheVariants as row
 use Rattle.table_reading.specs.Reading.{Within, known, at_record, ItemsRead}
-use Rattle.table_sweep.specs.Kept.{packed, Labels, Roots, Inside, RowIs, RowSays, RowSmall, NodeIs}
+use Rattle.table_sweep.specs.Kept.{packed, Labels, Roots, Inside, RowSays, RowSmall, NodeIs}
 use Rattle.table_reading.proofs.Reading.{reads-next, reads_first, reads-run}
 use Rattle.table_reading.proofs.Same.{reads_same}
+use Rattle.table_sweep.proofs.Zeros.{zeros_are, are_zeros}
 use Rattle.table_sweep.proofs.Keeping.{labels_same, roots_same}
 
 pub kind_range : (k : Kind) → (1 ≤ kind_number k) × (kind_number k ≤ 2)
@@ -41,38 +40,27 @@ kind_from (suc zero) h l = (P, refl)
 kind_from (suc (suc zero)) h l = (C, refl)
 kind_from (suc (suc (suc m))) h l = absurd (omega arith)
 
-pub small_row : {r : ℕ} {a : Row} {c d x q : ℕ} → a ≡ row.Read c d x q → RowSmall r a → (r < x) × (x ≤ 200000) × (q < 17) × (c ≤ 511)
-small_row {r} e h = subst (RowSmall r) e h
-
 -- The places of a node's entries.
 module _ (places vs : List ℕ) (count : ℕ) (e : count ≡ length vs) (p : places ≡ padded 255 vs) where
-  taken : take (count - 0) (drop 0 places) ≡ vs
-  taken = let m : count - 0 ≡ length vs = omega arith in ap (λ (k : ℕ). take k places) m ∙ ap (take (length vs)) p ∙ take-append_seam vs (replicate (255 - length vs) 0)
+  taken : take count places ≡ vs
+  taken = ap (λ (k : ℕ). take k places) e ∙ ap (take (length vs)) p ∙ take-append_seam vs (replicate (255 - length vs) 0)
 
-  left : take (255 - count) (drop count places) ≡ replicate (255 - count) 0
-  left =
-      ap (λ (l : List ℕ). take (255 - count) (drop count l)) p
-      ∙ ap (take (255 - count)) (drop_at vs (replicate (255 - length vs) 0) count (sym e))
-      ∙ ap (λ (k : ℕ). take (255 - count) (replicate (255 - k) 0)) (sym e)
-      ∙ take_all (255 - count) (replicate (255 - count) 0) (omega (arith, length-replicate {A = ℕ} (255 - count) 0))
-
-  pub zeros_left : same (take (255 - count) (drop count places)) (replicate (length (take (255 - count) (drop count places))) 0) ≡ true
+  pub zeros_left : EachIndex (take (length places - count) (drop count places)) (λ k. get_or (take (length places - count) (drop count places)) k 0 ≡ 0)
   zeros_left =
-      (same_decides (take (255 - count) (drop count places)) (replicate (length (take (255 - count) (drop count places))) 0)).1
-      (left ∙ ap (λ (k : ℕ). replicate k 0) (sym (ap length left ∙ length-replicate (255 - count) 0)))
+      are_zeros (255 - length vs)
+      (part_to_end places count ∙ ap (drop count) p ∙ drop_at vs (replicate (255 - length vs) 0) count (sym e))
 
 module _ (n : ℕ) (S : Restriction) (k : Kind) (r : ℕ) (g : Forest) (ls places new : List ℕ) (count : ℕ) where
   abbrev entries : List ℕ
-  entries = take (count - 0) (drop 0 places)
+  entries = take count places
 
-  pub row_bad : {a : Row} {vs : List ℕ} {i : Forest} {z : Within} → a ≡ row.Bad → RowSays n S k r g ls entries new a → count ≡ length vs → places ≡ padded 255 vs
+  pub row_bad : {vs : List ℕ} {i : Forest} {z : Within} → RowSays n S k r g ls entries new None → count ≡ length vs → places ≡ padded 255 vs
       → ItemsRead n S k vs (at_record n S k r (known n S g ls)) i z → ⊥
-  row_bad {vs = vs} {i} {z} e h c p t = subst (RowSays n S k r g ls entries new) e h i z (subst (λ (l : List ℕ). ItemsRead n S k l (at_record n S k r (known n S g ls)) i z) (sym (taken places vs count c p)) t)
+  row_bad {vs = vs} {i} {z} h c p t = h i z (subst (λ (l : List ℕ). ItemsRead n S k l (at_record n S k r (known n S g ls)) i z) (sym (taken places vs count c p)) t)
 
-  pub row_low : {a : Row} {b d x q : ℕ} {vs : List ℕ} {i : Forest} {z : Within} → a ≡ row.Read b d x q → RowSays n S k r g ls entries new a → d ≤ b → count ≡ length vs → places ≡ padded 255 vs
+  pub row_low : (o : Row) {vs : List ℕ} {i : Forest} {z : Within} → RowSays n S k r g ls entries new (Some o) → o.last ≤ o.first → count ≡ length vs → places ≡ padded 255 vs
       → ItemsRead n S k vs (at_record n S k r (known n S g ls)) i z → z.first < z.last → ⊥
-  row_low {vs = vs} {i} {z} e h l c p t m =
-      let o : RowIs n S k r g ls entries new _ _ _ _ = subst (RowSays n S k r g ls entries new) e h in
+  row_low q {vs = vs} {i} {z} o l c p t m =
       let u = subst (λ (l : List ℕ). ItemsRead n S k l (at_record n S k r (known n S g ls)) i z) (sym (taken places vs count c p)) t in
       let w = (reads_same n S u o.reads).1 in
       omega (arith, o.its_first, o.its_last, ap (λ (y : Within). y.first) w, ap (λ (y : Within). y.last) w)
@@ -102,21 +90,17 @@ node_inside S {new} {x} {f} k i r v h e q m n l =
     }
 
 module _ (n : ℕ) (S : Restriction) (r kind count : ℕ) (places : List ℕ) (g : Forest) (ls new : List ℕ) where
-  pub node_good : {a : Row} {c d x q : ℕ} (w : ℕ) (k : Kind) → kind ≡ kind_number k → a ≡ row.Read c d x q → RowSmall r a → RowSays n S k r g ls (take (count - 0) (drop 0 places)) new a → c < d
-      → same (take (255 - count) (drop count places)) (replicate (length (take (255 - count) (drop count places))) 0) ≡ true → kind < count → count ≤ 255 → length places ≡ 255 → r < 256
-      → ((p : Run) → q ≡ code p → w ≡ number (verdict p)) → NodeIs n S r kind count places g ls (set new (8 + r) (c + 512 * ((x - r) + 512 * w)))
+  pub node_good : (a : Row) (w : ℕ) (k : Kind) → kind ≡ kind_number k → RowSmall r (Some a) → RowSays n S k r g ls (take count places) new (Some a) → a.first < a.last
+      → EachIndex (take (length places - count) (drop count places)) (λ j. get_or (take (length places - count) (drop count places)) j 0 ≡ 0) → kind < count → count ≤ 255 → length places ≡ 255 → r < 256
+      → ((p : Run) → a.run ≡ code p → w ≡ number (verdict p)) → NodeIs n S r kind count places g ls (set new (8 + r) (a.first + 512 * ((a.next - r) + 512 * w)))
   unfolding packed
-  node_good {c = c} {d} {x} {q} w k e is small says rise none enough most long low told =
-      let o : RowIs n S k r g ls (take (count - 0) (drop 0 places)) new c d x q = subst (RowSays n S k r g ls (take (count - 0) (drop 0 places)) new) is says in
-      let vs : List ℕ = take (count - 0) (drop 0 places) in
-      let m : count - 0 ≡ count = omega arith in
-      let vs-is : vs ≡ take count places = ap (λ (y : ℕ). take y places) m in
-      let many : length vs ≡ count = ap length vs-is ∙ length-take-le count places (omega arith) in
-      let rest : take (255 - count) (drop count places) ≡ drop count places = take_all (255 - count) (drop count places) (omega (arith, length-drop count places)) in
+  node_good a w k e small o rise none enough most long low told =
+      let vs : List ℕ = take count places in
+      let many : length vs ≡ count = length-take-le count places (omega arith) in
       let zeros : drop count places ≡ replicate (255 - count) 0 =
-      sym rest ∙ (same_decides (take (255 - count) (drop count places)) (replicate (length (take (255 - count) (drop count places))) 0)).0 none
-      ∙ ap (λ (y : ℕ). replicate y 0) (ap length rest ∙ length-drop count places ∙ ap (λ (y : ℕ). y - count) long) in
-      let its : first o.items ≡ c = sym (reads_first n S o.reads refl) ∙ sym o.its_first in
+      sym (part_to_end places count) ∙ zeros_are (take (length places - count) (drop count places)) none
+      ∙ ap (λ (y : ℕ). replicate y 0) (ap length (part_to_end places count) ∙ length-drop count places ∙ ap (λ (y : ℕ). y - count) long) in
+      let its : first o.items ≡ a.first = sym (reads_first n S o.reads refl) ∙ sym o.its_first in
       let nexts = reads-next n S o.reads in
       let state : w ≡ number (node_state k (states (judge S o.items))) = told o.end.run o.its_run ∙ ap (λ (y : Run). number (verdict y)) (reads-run n S o.reads) ∙ ap number (judges k (states (judge S o.items))) in
       record {
@@ -126,10 +110,10 @@ module _ (n : ℕ) (S : Restriction) (r kind count : ℕ) (places : List ℕ) (g
         end = o.end;
         kind_is = e;
         count_is = sym many;
-        places_are = sym (take-append-drop count places) ∙ ap (λ (y : List ℕ). y ++ drop count places) (sym vs-is) ∙ ap (λ (y : List ℕ). vs ++ y) (zeros ∙ ap (λ (y : ℕ). replicate (255 - y) 0) (sym many));
+        places_are = sym (take-append-drop count places) ∙ ap (λ (y : List ℕ). vs ++ y) (zeros ∙ ap (λ (y : ℕ). replicate (255 - y) 0) (sym many));
         enough = omega (arith, kind_fewest k);
         most = omega arith;
         reads = o.reads;
         rises = omega (arith, o.its_first, o.its_last);
-        inside = node_inside S k o.items r (c + 512 * ((x - r) + 512 * w)) o.inside nexts (omega (arith, its, o.its_next, nexts, state)) (omega (arith, its, (small_row is small).3)) o.labels low;
+        inside = node_inside S k o.items r (a.first + 512 * ((a.next - r) + 512 * w)) o.inside nexts (omega (arith, its, o.its_next, nexts, state)) (omega (arith, its, small.3)) o.labels low;
       }

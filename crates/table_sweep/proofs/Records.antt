@@ -1,23 +1,20 @@
 -- One record more is read.
-use mathlib.Core.Path.{◌≡◌, refl, sym, ap, ◌∙◌, subst}
+use mathlib.Core.Path.{◌≡◌, sym, ap, ◌∙◌, subst}
 use mathlib.Core.Logic.{◌⊎◌, inl, inr}
-use mathlib.Core.Bool.{Bool, true, false}
+use Rattle.std.specs.Prelude.{◌↔◌, None, EachIndex}
 use mathlib.Core.List.{List, [], ◌∷◌}
-use Prim.Native.Nat.{ℕ, zero, suc, ◌+◌, ◌≤◌, ◌<◌}
+use Prim.Native.Nat.{ℕ, suc, ◌≤◌, ◌<◌}
 use native.Mathlib.Omega.{arith}
-use borrow.Author.Tests.{ne_eqb}
-use lib.Dec.{eqb}
-use lib.ListN.{length, get_or, take, drop, set, replicate, length-set}
+use lib.ListN.{length, get_or, take, drop, set, length-set}
 use lib.Seq.{take-set-le, drop-set-add, get_or-set_same}
-use Rattle.spec_orders.specs.Lists.{same}
 use Rattle.spec_orders.specs.CircularOrder.{Restriction}
 use Rattle.spec_orders.specs.Tree.{Kind, Forest, nil, node}
 use Rattle.spec_orders.specs.Form.{fewest}
-use Rattle.spec_orders.proofs.FormTests.{same_decides}
 use Rattle.spec_calls.specs.Tables.{padded}
 use Rattle.spec_calls.specs.NodeTable.{kind_number}
 use Rattle.mark_words.specs.Marks.{marked}
 use Rattle.table_reading.specs.Reading.{row_at, blanks, Known, Within, known, at_record, ItemsRead, Behind, none_read, blank, a_node}
+use Rattle.table_sweep.proofs.Zeros.{zeros_are, are_zeros}
 use Rattle.table_sweep.specs.Kept.{Roots, Kept, Inside, NodeIs, NodeSays, Finished, Swept, lost, all_blank, roots_known}
 use Rattle.table_reading.proofs.Same.{behind_same}
 
@@ -68,7 +65,7 @@ module _ (n : ℕ) (S : Restriction) (table : List ℕ) (r kind count : ℕ) (pl
       rest (a ∷ (b ∷ l)) = l
 
   -- It is no node's, and none behind was lost.
-  no_behind : {g : Forest} {ls : List ℕ} (work : List ℕ) → ((kind ∷ count ∷ places) ≡ blanks 257 → g ≡ nil → ⊥) → NodeSays n S r kind count places g ls work false → Behind n S table (suc r) (known n S g ls) → (s : Known) → Behind n S table r s → ⊥
+  no_behind : {g : Forest} {ls : List ℕ} (work : List ℕ) → ((kind ∷ count ∷ places) ≡ blanks 257 → g ≡ nil → ⊥) → NodeSays n S r kind count places g ls work None → Behind n S table (suc r) (known n S g ls) → (s : Known) → Behind n S table r s → ⊥
   no_behind {g} {ls} work nb h b s c = go (came_by n S c low)
     where
       go : ((row_at table r ≡ blanks 257) × Behind n S table (suc r) (known n S nil [])) ⊎ NodeRead n S table r → ⊥
@@ -127,26 +124,15 @@ module _ (n : ℕ) (S : Restriction) (table : List ℕ) (r kind count : ℕ) (pl
   first_used v w e z (all_blank k y b) f = finished (λ q x. z q) b (f nil [] (set_used S v k w))
   first_used v w e z (roots_known k b) f = absurd (omega (arith, k.used))
 
--- Zeros, by the test.
-pub blank_row : (kind count : ℕ) (places : List ℕ) → length places ≡ 255 → (same (kind ∷ count ∷ places) (replicate (2 + length places) 0) ≡ true → kind ∷ count ∷ places ≡ blanks 257) × (kind ∷ count ∷ places ≡ blanks 257 → same (kind ∷ count ∷ places) (replicate (2 + length places) 0) ≡ true)
+-- A blank record, by its numbers.
+pub blank_row : (kind count : ℕ) (places : List ℕ) → length places ≡ 255
+    → ((kind ≡ 0) × (count ≡ 0) × EachIndex places (λ k. get_or places k 0 ≡ 0)) ↔ (kind ∷ count ∷ places ≡ blanks 257)
 unfolding blanks
-blank_row kind count places e =
-    let m : 2 + length places ≡ 257 = omega arith in
-    let d = same_decides (kind ∷ count ∷ places) (replicate (2 + length places) 0) in
-    ((λ t. d.0 t ∙ ap (λ (k : ℕ). replicate k 0) m), (λ t. d.1 (t ∙ ap (λ (k : ℕ). replicate k 0) (sym m))))
-
-pub blank_kind_not : (kind count : ℕ) (places : List ℕ) → (kind ≡ 0 → ⊥) → false ≡ same (kind ∷ count ∷ places) (replicate (2 + length places) 0)
-blank_kind_not zero count places h = absurd (h refl)
-blank_kind_not (suc k) count places h = two_more (suc k) count places (sym (ne_eqb (suc k) 0 h))
-  where
-    two_more : (kind count : ℕ) (places : List ℕ) → false ≡ eqb kind 0 → false ≡ same (kind ∷ count ∷ places) (replicate (2 + length places) 0)
-    two_more kind count places e = let m : 2 + length places ≡ suc (suc (length places)) = omega arith in rw (m, ← e)
-
-pub blank_count_not : (kind count : ℕ) (places : List ℕ) → kind ≡ 0 → (count ≡ 0 → ⊥) → false ≡ same (kind ∷ count ∷ places) (replicate (2 + length places) 0)
-blank_count_not kind count places e h = let m : 2 + length places ≡ suc (suc (length places)) = omega arith in rw (m, e, ne_eqb count 0 h)
-
-pub blank_rest : (kind count : ℕ) (places : List ℕ) → kind ≡ 0 → count ≡ 0 → same places (replicate (length places) 0) ≡ same (kind ∷ count ∷ places) (replicate (2 + length places) 0)
-blank_rest kind count places e h = let m : 2 + length places ≡ suc (suc (length places)) = omega arith in rw (m, e, h)
-
-pub node_says : (n : ℕ) (S : Restriction) (r kind count : ℕ) (places : List ℕ) (g : Forest) (ls work : List ℕ) (b a : Bool) → a ≡ b → NodeSays n S r kind count places g ls work a → NodeSays n S r kind count places g ls work b
-node_says n S r kind count places g ls work b a e h = subst (NodeSays n S r kind count places g ls work) e h
+blank_row kind count places e = (
+  (λ h. rw (h.0, h.1, zeros_are places h.2, e)),
+  (λ h. (
+    ap (λ (l : List ℕ). get_or l 0 0) h,
+    ap (λ (l : List ℕ). get_or l 1 0) h,
+    are_zeros 255 (ap (drop 2) h),
+  )),
+)

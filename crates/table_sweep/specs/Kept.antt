@@ -1,5 +1,5 @@
 -- What the 265 numbers of `work` hold, and what each step of the sweep says of them.
-use Rattle.std.specs.Prelude.{◌≡◌, ◌≢◌, ◌⊎◌, Bool, true, false, List, [], ◌∷◌, ℕ, suc, ◌+◌, ◌-◌, ◌*◌, ◌≤◌, ◌<◌, ◌/◌, ◌%◌, length, get_or, take, drop, replicate}
+use Rattle.std.specs.Prelude.{◌≡◌, ◌≢◌, ◌⊎◌, Option, Some, None, List, [], ◌∷◌, ℕ, suc, ◌+◌, ◌-◌, ◌*◌, ◌≤◌, ◌<◌, ◌/◌, ◌%◌, length, get_or, take, drop, set, replicate}
 use Rattle.std.proofs.Math.Option.{none, some}
 use Rattle.spec_orders.specs.Lists.{elem}
 use Rattle.spec_orders.specs.CircularOrder.{Restriction}
@@ -12,12 +12,10 @@ use Rattle.spec_calls.specs.NodeTable.{kind_number, tree_in}
 use Rattle.tree_tokens.specs.Tokens.{number}
 use Rattle.tree_judge.specs.Judge.{leaf_state, node_state, states, judge}
 use Rattle.tree_judge.specs.Automaton.{code}
-use Rattle.table_sweep.specs.declared.Found.{Found}
-use Rattle.table_sweep.specs.declared.Found.TheVariants as found
+use Rattle.table_sweep.specs.declared.Item.{Item}
 use Rattle.table_sweep.specs.declared.Row.{Row}
 use Rattle.table_sweep.specs.declared.Verdict.{Verdict}
 use Rattle.table_sweep.specs.declared.Verdict.TheVariants.{NoTree, Impossible, Possible}
-use Rattle.table_sweep.specs.declared.Row.TheVariants as row
 use Rattle.table_reading.specs.Reading.{Known, Within, New, known, at_record, ItemsRead, Behind}
 
 -- In what follows: S the restriction; work the 265 numbers; x the record of the next root, g the roots from there on, ls the leaves read, the last
@@ -65,14 +63,14 @@ abbrev pub SameRecords : List ℕ → List ℕ → Type 0
 SameRecords old new = (j : ℕ) → 8 ≤ j → get_or new j 0 ≡ get_or old j 0
 
 -- An item's numbers are small, whatever `work` holds.
-abbrev pub Small : Found → Type 0
-Small (found.Item b m s) = (b ≤ 511) × (m ≤ 511) × (s ≤ 4)
-Small found.Bad = Unit {0}
+abbrev pub Small : Option Item → Type 0
+Small (Some o) = (o.first ≤ 511) × (o.records ≤ 511) × (o.state ≤ 4)
+Small None = Unit {0}
 
--- What reading a leaf says; a root; an entry. Bad: there is nothing to be read.
-abbrev pub LeafSays : ℕ → Restriction → ℕ → Forest → List ℕ → ℕ → List ℕ → Found → Type 0
-LeafSays n S x g ls b work (found.Item c m s) = (New n ls b) × (c ≡ b) × (m ≡ 0) × (s ≡ number (leaf_state (S b))) × Inside S work x g (b ∷ ls)
-LeafSays n S x g ls b work found.Bad = New n ls b → ⊥
+-- What reading a leaf says; a root; an entry. None: there is nothing to be read.
+abbrev pub LeafSays : ℕ → Restriction → ℕ → Forest → List ℕ → ℕ → List ℕ → Option Item → Type 0
+LeafSays n S x g ls b work (Some o) = (New n ls b) × (o.first ≡ b) × (o.records ≡ 0) × (o.state ≡ number (leaf_state (S b))) × Inside S work x g (b ∷ ls)
+LeafSays n S x g ls b work None = New n ls b → ⊥
 
 pub record RootIs (S : Restriction) (g : Forest) (c m s : ℕ) : Type 0 where
   pub kind : Kind
@@ -83,14 +81,14 @@ pub record RootIs (S : Restriction) (g : Forest) (c m s : ℕ) : Type 0 where
   pub its_records : m ≡ suc (nodes items)
   pub its_state : s ≡ number (node_state kind (states (judge S items)))
 
-abbrev pub RootSays : Restriction → Forest → Found → Type 0
-RootSays S g (found.Item c m s) = RootIs S g c m s
-RootSays S g found.Bad = g ≡ nil
+abbrev pub RootSays : Restriction → Forest → Option Item → Type 0
+RootSays S g (Some o) = RootIs S g o.first o.records o.state
+RootSays S g None = g ≡ nil
 
-abbrev pub EntrySays : ℕ → Restriction → ℕ → Forest → List ℕ → ℕ → List ℕ → Found → Type 0
-EntrySays n S x g ls v work (found.Item c m s) =
-    ((v ≤ 256) × LeafSays n S x g ls v work (found.Item c m s)) ⊎ ((256 < v) × (v ≡ 256 + x) × RootIs S g c m s × Inside S work x g ls)
-EntrySays n S x g ls v work found.Bad = (v ≤ 256 → New n ls v → ⊥) × (256 < v → v ≡ 256 + x → g ≡ nil)
+abbrev pub EntrySays : ℕ → Restriction → ℕ → Forest → List ℕ → ℕ → List ℕ → Option Item → Type 0
+EntrySays n S x g ls v work (Some o) =
+    ((v ≤ 256) × LeafSays n S x g ls v work (Some o)) ⊎ ((256 < v) × (v ≡ 256 + x) × RootIs S g o.first o.records o.state × Inside S work x g ls)
+EntrySays n S x g ls v work None = (v ≤ 256 → New n ls v → ⊥) × (256 < v → v ≡ 256 + x → g ≡ nil)
 
 -- What reading the entries of a record says.
 pub record RowIs (n : ℕ) (S : Restriction) (k : Kind) (r : ℕ) (g : Forest) (ls places work : List ℕ) (c d x q : ℕ) : Type 0 where
@@ -104,16 +102,16 @@ pub record RowIs (n : ℕ) (S : Restriction) (k : Kind) (r : ℕ) (g : Forest) (
   pub labels : Labels S work (suc r) items
   pub inside : Inside S work end.next end.roots end.leaves
 
-abbrev pub RowSays : ℕ → Restriction → Kind → ℕ → Forest → List ℕ → List ℕ → List ℕ → Row → Type 0
-RowSays n S k r g ls places work (row.Read c d x q) = RowIs n S k r g ls places work c d x q
-RowSays n S k r g ls places work row.Bad = (i : Forest) (z : Within) → ItemsRead n S k places (at_record n S k r (known n S g ls)) i z → ⊥
+abbrev pub RowSays : ℕ → Restriction → Kind → ℕ → Forest → List ℕ → List ℕ → List ℕ → Option Row → Type 0
+RowSays n S k r g ls places work (Some o) = RowIs n S k r g ls places work o.first o.last o.next o.run
+RowSays n S k r g ls places work None = (i : Forest) (z : Within) → ItemsRead n S k places (at_record n S k r (known n S g ls)) i z → ⊥
 
 -- Its numbers are small: 255 items take at most 511 records each.
-abbrev pub RowSmall : ℕ → Row → Type 0
-RowSmall r (row.Read c d x q) = (r < x) × (x ≤ 200000) × (q < 17) × (c ≤ 511)
-RowSmall r row.Bad = Unit {0}
+abbrev pub RowSmall : ℕ → Option Row → Type 0
+RowSmall r (Some o) = (r < o.next) × (o.next ≤ 200000) × (o.run < 17) × (o.first ≤ 511)
+RowSmall r None = Unit {0}
 
--- What reading a node's record says.
+-- What reading a node's record says, once the number to keep is in its place.
 pub record NodeIs (n : ℕ) (S : Restriction) (r kind count : ℕ) (places : List ℕ) (g : Forest) (ls work : List ℕ) : Type 0 where
   pub its_kind : Kind
   pub entries : List ℕ
@@ -128,16 +126,16 @@ pub record NodeIs (n : ℕ) (S : Restriction) (r kind count : ℕ) (places : Lis
   pub rises : end.first < end.last
   pub inside : Inside S work r (node its_kind items end.roots) end.leaves
 
-abbrev pub NodeSays : ℕ → Restriction → ℕ → ℕ → ℕ → List ℕ → Forest → List ℕ → List ℕ → Bool → Type 0
-NodeSays n S r kind count places g ls work true = NodeIs n S r kind count places g ls work
-NodeSays n S r kind count places g ls work false =
+abbrev pub NodeSays : ℕ → Restriction → ℕ → ℕ → ℕ → List ℕ → Forest → List ℕ → List ℕ → Option ℕ → Type 0
+NodeSays n S r kind count places g ls work (Some w) = NodeIs n S r kind count places g ls (set work (8 + r) w)
+NodeSays n S r kind count places g ls work None =
     (k : Kind) (vs : List ℕ) (i : Forest) (z : Within) → kind ≡ kind_number k → count ≡ length vs → places ≡ padded 255 vs → fewest k ≤ length vs → length vs ≤ 255
     → ItemsRead n S k vs (at_record n S k r (known n S g ls)) i z → z.first < z.last → ⊥
 
 -- The record was no node's, and this is noted; or it is kept.
 abbrev pub Finished : ℕ → Restriction → ℕ → ℕ → ℕ → List ℕ → Forest → List ℕ → List ℕ → Type 0
 Finished n S r kind count places g ls work =
-    (NodeIs n S r kind count places g ls work) ⊎ ((length work ≡ 265) × (get_or work 264 0 ≡ 257) × NodeSays n S r kind count places g ls work false)
+    (NodeIs n S r kind count places g ls work) ⊎ ((length work ≡ 265) × (get_or work 264 0 ≡ 257) × NodeSays n S r kind count places g ls work None)
 
 -- The records from r on are read: they are those of no tree; all are blank; or roots are known.
 pub data Swept (n : ℕ) (S : Restriction) (table : List ℕ) (r : ℕ) (work : List ℕ) : Type 0 where

@@ -7,8 +7,7 @@
 //     264         0: all records so far are blank; else how many records are used, or 257: this is the table of no tree
 #![tactic(auto)]
 
-ghost use Rattle.std.specs.Prelude.{◌≡◌, not, List, ◌∷◌, ℕ, suc, ◌+◌, ◌≤◌, ◌<◌, length, replicate};
-ghost use Rattle.spec_orders.specs.Lists.{same};
+ghost use Rattle.std.specs.Prelude.{◌≡◌, ◌↔◌, not, IsTrue, EachIndex, List, ◌∷◌, ℕ, suc, ◌+◌, ◌≤◌, ◌<◌, length, slice_index};
 ghost use Rattle.spec_orders.specs.CircularOrder.{Restriction};
 ghost use Rattle.spec_orders.specs.Tree.{Kind, Forest};
 ghost use Rattle.spec_calls.specs.NodeTable.{kind_number, tree_in};
@@ -18,68 +17,52 @@ ghost use Rattle.table_reading.specs.Reading.{least, head, row_at};
 ghost use Rattle.mark_words.specs.Marks.{marked};
 ghost use Rattle.table_sweep.specs.Kept.{Inside, Small, SameRecords, LeafSays, RootSays, EntrySays, RowSays, RowSmall, NodeSays, Finished, Swept, Started, Told};
 
-// What an item comes to: its first leaf, how many records it takes, its state; or it can't stand there.
-#[derive(Drop)]
-pub enum Found {
-    Item {
-        first: u16,
-        records: usize,
-        state: u16,
-    },
-    Bad,
+// What an item comes to: its first leaf, how many records it takes, and its state.
+#[derive(Clone, Copy)]
+struct Item {
+    first: u16,
+    records: usize,
+    state: u16,
 }
 
-// The item that leaf b is; Bad where it is not from 2 to n, or was read before. Marks it as read.
-fn read_leaf(b: u16, n: usize, work: &mut [u64]) -> Found
+// The item that leaf b is; None where it is not from 2 to n, or was read before. Marks it as read.
+fn read_leaf(b: u16, n: usize, work: &mut [u64]) -> Option<Item>
     requires { (b ≤ 256) × (length work.old ≡ 265) }
     ensures { (Small result) × (SameRecords work.old work.new)
         × ((S : Restriction) (x : ℕ) (g : Forest) (ls : List ℕ) → Inside S work.old x g ls → LeafSays n S x g ls b work.new result) }
 {
-    if b < 2 {
-        return Found::Bad;
-    }
-    if b as usize > n {
-        return Found::Bad;
+    if b < 2 || b as usize > n {
+        return None;
     }
     if mark_words::test(&work[4..8], b) {
-        return Found::Bad;
+        return None;
     }
     mark_words::set(&mut work[4..8], b);
-    if mark_words::test(&work[0..4], b) {
-        return Found::Item {
-            first: b,
-            records: 0,
-            state: 1,
-        };
-    }
-    Found::Item {
+    Some(Item {
         first: b,
         records: 0,
-        state: 0,
-    }
+        state: u16::from(mark_words::test(&work[0..4], b)),
+    })
 }
 
-// The item that the root in record `next` is; Bad past the records that are used.
-fn read_root(next: usize, work: &[u64]) -> Found
+// The item that the root in record `next` is; None past the records that are used.
+fn read_root(next: usize, work: &[u64]) -> Option<Item>
     requires { length work.now ≡ 265 }
     ensures { (Small result) × ((S : Restriction) (g : Forest) (ls : List ℕ) → Inside S work.now next g ls → RootSays S g result) }
 {
-    if next > 255 {
-        return Found::Bad;
-    }
-    if work[264] <= next as u64 {
-        return Found::Bad;
+    if next > 255 || work[264] <= next as u64 {
+        return None;
     }
     let w = work[8 + next];
-    Found::Item {
+    Some(Item {
         first: (w % 512) as u16,
         records: (w / 512 % 512) as usize,
         state: (w / 262144 % 5) as u16,
-    }
+    })
 }
 
-// The item that an entry of a record names, where the next root is in record `next`; Bad where it names no leaf that is new, and not that root.
-fn read_entry(v: u16, next: usize, n: usize, work: &mut [u64]) -> Found
+// The item that an entry of a record names, where the next root is in record `next`; None where it names no leaf that is new, and not that root.
+fn read_entry(v: u16, next: usize, n: usize, work: &mut [u64]) -> Option<Item>
     requires { (next ≤ 200000) × (length work.old ≡ 265) }
     ensures { (Small result) × (SameRecords work.old work.new)
         × ((S : Restriction) (g : Forest) (ls : List ℕ) → Inside S work.old next g ls → EntrySays n S next g ls v work.new result) }
@@ -88,7 +71,7 @@ fn read_entry(v: u16, next: usize, n: usize, work: &mut [u64]) -> Found
         return read_leaf(v, n, work);
     }
     if v as usize != 256 + next {
-        return Found::Bad;
+        return None;
     }
     read_root(next, work)
 }
@@ -114,53 +97,41 @@ fn start(kind: u16) -> u8
 }
 
 // What a node's items come to: the first leaves of the first and the last item, the record after them, and where they take the automaton.
-#[derive(Drop)]
-pub enum Row {
-    Read {
-        first: u16,
-        last: u16,
-        next: usize,
-        run: u8,
-    },
-    Bad,
+#[derive(Clone, Copy)]
+struct Row {
+    first: u16,
+    last: u16,
+    next: usize,
+    run: u8,
 }
 
-// What the items in these places come to, of a node in record r; Bad where one of them can't stand there.
-fn read_entries(kind: u16, places: &[u16], r: usize, n: usize, work: &mut [u64]) -> Row
+// What the items in these places come to, of a node in record r; None where one of them can't stand there.
+fn read_entries(kind: u16, places: &[u16], r: usize, n: usize, work: &mut [u64]) -> Option<Row>
     requires { (r < 256) × (length places.now ≤ 255) × (length work.old ≡ 265) }
     ensures { (RowSmall r result) × ((S : Restriction) (k : Kind) (g : Forest) (ls : List ℕ) → kind ≡ kind_number k
         → Inside S work.old (suc r) g ls → RowSays n S k r g ls places.now work.new result) }
 {
-    let mut first: u16 = 0;
-    let mut last: u16 = 0;
+    let moves = tree_judge::MOVES;
+    let mut first = 0;
+    let mut last = 0;
     let mut next = r + 1;
     let mut run = start(kind);
-    let moves = tree_judge::MOVES;
-    let mut i = 0;
-    while i < places.len() {
-        let Found::Item {
-            first: b,
-            records,
-            state,
-        } = read_entry(places[i], next, n, work)
-        else {
-            return Row::Bad;
-        };
-        if b <= least(kind, last) {
-            return Row::Bad;
+    for &v in places {
+        let item = read_entry(v, next, n, work)?;
+        if item.first <= least(kind, last) {
+            return None;
         }
-        first = head(first, b);
-        last = b;
-        next += records;
-        run = tree_judge::moved(&moves, run, state);
-        i += 1;
+        first = head(first, item.first);
+        last = item.first;
+        next += item.records;
+        run = tree_judge::moved(&moves, run, item.state);
     }
-    Row::Read {
+    Some(Row {
         first,
         last,
         next,
         run,
-    }
+    })
 }
 
 // The first leaf so far (0: none), or else b.
@@ -173,81 +144,59 @@ fn head(first: u16, b: u16) -> u16
     first
 }
 
-// Whether all numbers are zero.
+// Whether all numbers are zero. Joined by `|`, with no test for each, they are read as vectors; `all` takes seven times as long.
 fn all_zero(part: &[u16]) -> bool
-    ensures { result ≡ same part.now (replicate (length part.now) 0) }
+    ensures { IsTrue result ↔ EachIndex part.now (λ k. slice_index part.now k ≡ 0) }
 {
-    let mut any = 0;
-    let mut i = 0;
-    while i < part.len() {
-        any = any | part[i];
-        i += 1;
-    }
-    any == 0
+    part.iter().fold(0, |any, x| any | *x) == 0
 }
 
-// Whether record r is a node's, with the records behind it as they are. It becomes the first root.
-fn read_node(r: usize, kind: u16, count: u16, places: &[u16], n: usize, work: &mut [u64]) -> bool
+// The number to keep of the node in record r, with the records behind it as they are; None where it is no node's record.
+fn read_node(
+    r: usize,
+    kind: u16,
+    count: u16,
+    places: &[u16],
+    n: usize,
+    work: &mut [u64],
+) -> Option<u64>
     requires { (r < 256) × (length places.now ≡ 255) × (length work.old ≡ 265) }
     ensures { (S : Restriction) (g : Forest) (ls : List ℕ) → Inside S work.old (suc r) g ls
         → NodeSays n S r kind count places.now g ls work.new result }
 {
-    if kind == 0 {
-        return false;
-    }
-    if kind > 2 {
-        return false;
+    if kind == 0 || kind > 2 {
+        return None;
     }
     // A P-node (1) has two items or more, a C-node (2) three.
-    if count <= kind {
-        return false;
-    }
-    if count > 255 {
-        return false;
+    if count <= kind || count > 255 {
+        return None;
     }
     let k = count as usize;
-    let Row::Read {
-        first,
-        last,
-        next,
-        run,
-    } = read_entries(kind, &places[0..k], r, n, work)
-    else {
-        return false;
-    };
-    if last <= first {
-        return false;
+    let row = read_entries(kind, &places[..k], r, n, work)?;
+    if row.last <= row.first || !all_zero(&places[k..]) {
+        return None;
     }
-    if !all_zero(&places[k..255]) {
-        return false;
-    }
-    work[8 + r] = first as u64 + 512 * ((next - r) as u64 + 512 * tree_judge::verdict(run) as u64);
-    true
+    let state = u64::from(tree_judge::verdict(row.run));
+    Some(u64::from(row.first) + 512 * ((row.next - r) as u64 + 512 * state))
 }
 
 // Whether the record is blank.
 fn blank(kind: u16, count: u16, places: &[u16]) -> bool
-    ensures { result ≡ same (kind ∷ count ∷ places.now) (replicate (2 + length places.now) 0) }
+    ensures { IsTrue result ↔ (kind ≡ 0) × (count ≡ 0) × EachIndex places.now (λ k. slice_index places.now k ≡ 0) }
 {
-    if kind != 0 {
-        return false;
-    }
-    if count != 0 {
-        return false;
-    }
-    all_zero(places)
+    kind == 0 && count == 0 && all_zero(places)
 }
 
-// Reads the record r, which is used; where it is no node's, this is noted.
+// Reads the record r, which is used: it becomes the first root; where it is no node's, this is noted.
 fn used_record(r: usize, kind: u16, count: u16, places: &[u16], n: usize, work: &mut [u64])
     requires { (r < 256) × (length places.now ≡ 255) × (length work.old ≡ 265) }
     ensures { (S : Restriction) (g : Forest) (ls : List ℕ) → Inside S work.old (suc r) g ls
         → Finished n S r kind count places.now g ls work.new }
 {
-    if read_node(r, kind, count, places, n, work) {
-        return;
+    match read_node(r, kind, count, places, n, work) {
+        Some(number) => work[8 + r] = number,
+        None => work[264] = 257,
     }
-    work[264] = 257;
 }
 
 // Reads the record r, those behind it being read. `places` are its 255 places for items.
@@ -289,9 +238,7 @@ pub fn sweep(table: &[u16], n: usize, work: &mut [u64])
     requires { (65792 ≤ length table.now) × (length work.old ≡ 265) }
     ensures { (S : Restriction) → Started n S work.old → Swept n S table.now 0 work.new }
 {
-    let mut r = 256;
-    while r > 0 {
-        r -= 1;
+    for r in (0..256).rev() {
         let at = 257 * r;
         record(
             r,
@@ -319,15 +266,13 @@ pub fn at_end(n: usize, work: &[u64]) -> Verdict
 {
     let used = work[264];
     if n <= 2 {
-        if used == 0 {
-            return Verdict::Possible;
-        }
-        return Verdict::NoTree;
+        return if used == 0 {
+            Verdict::Possible
+        } else {
+            Verdict::NoTree
+        };
     }
-    if used == 0 {
-        return Verdict::NoTree;
-    }
-    if used == 257 {
+    if used == 0 || used == 257 {
         return Verdict::NoTree;
     }
     if mark_sets::size(work[4], work[5], work[6], work[7]) != n - 1 {
@@ -352,9 +297,5 @@ pub fn holds(table: &[u16], n: usize) -> bool
     let mut work = [0u64; 265];
     begin(&marks, &mut work);
     sweep(table, n, &mut work);
-    match at_end(n, &work) {
-        Verdict::NoTree => false,
-        Verdict::Impossible => true,
-        Verdict::Possible => true,
-    }
+    !matches!(at_end(n, &work), Verdict::NoTree)
 }

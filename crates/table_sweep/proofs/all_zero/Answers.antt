@@ -1,7 +1,11 @@
-use mathlib.Core.Path.{◌∙◌}
-use native.Mathlib.Omega.{arith}
-use Rattle.table_sweep.proofs.Zeros.{zero_next}
+use mathlib.Core.Path.{◌≡◌}
+use lib.Bits.{bit_or}
+use Rattle.std.proofs.Common.{rules}
+use Rattle.std.specs.List.{fold}
+use Rattle.table_sweep.proofs.Zeros.{zero_bits}
 use Rattle.table_sweep.proofs.all_zero.Goals as goal
 
-pub loop-i-preserved : goal.loop-i-preserved
-loop-i-preserved c = (omega arith, c.loop-i.invariant.1 ∙ zero_next c.args.part.now c.loop-i.any c.loop-i.i (omega arith))
+pub returns : goal.returns
+returns c =
+    let e : c.fold.result ≡ fold bit_or 0 c.args.part.now = search rules in
+    rw e (zero_bits c.args.part.now)

@@ -1,5 +1,5 @@
-use mathlib.Core.Path.{◌≡◌, subst}
-use mathlib.Core.Bool.{Bool, true, false, not}
+use mathlib.Core.Path.{◌≡◌, refl}
+use mathlib.Core.Bool.{false}
 use mathlib.Core.List.{List}
 use Prim.Native.Nat.{ℕ}
 use Rattle.spec_orders.specs.CircularOrder.{Restriction}
@@ -11,25 +11,17 @@ use Rattle.table_sweep.specs.declared.Verdict.{Verdict}
 use Rattle.table_sweep.specs.declared.Verdict.TheVariants.{NoTree, Impossible, Possible}
 use Rattle.table_sweep.specs.Kept.{Told}
 use Rattle.table_sweep.proofs.holds.Goals as goal
+use Rattle.table_sweep.proofs.holds.Goals.{in-NoTree, in_default}
 
-abbrev some_tree : Verdict → Bool
-some_tree NoTree = false
-some_tree Impossible = true
-some_tree Possible = true
+some_tree : (n : ℕ) (S : Restriction) (table : List ℕ) (v : Verdict) → (v ≡ NoTree → ⊥) → Told n S table v → is_none (tree_in n table) ≡ false
+some_tree n S table NoTree h t = absurd (h refl)
+some_tree n S table Impossible h t = rw t.1
+some_tree n S table Possible h t = rw t.1
 
-told-holds : (n : ℕ) (S : Restriction) (table : List ℕ) {r v : Verdict} → r ≡ v → Told n S table r → some_tree v ≡ not (is_none (tree_in n table))
-told-holds n S table {v = v} e h = by v (subst (Told n S table) e h)
-  where
-    by : (v : Verdict) → Told n S table v → some_tree v ≡ not (is_none (tree_in n table))
-    by NoTree h = rw h
-    by Impossible h = rw h.1
-    by Possible h = rw h.1
-
-pub returns-in-NoTree : goal.returns-in-NoTree
-returns-in-NoTree c = told-holds c.args.n (marked (replicate 4 0)) c.args.table.now c.in-NoTree.is (c.at_end.ensures _ c.args.table.now c.requires.0 c.requires.1 c.requires.2 (c.sweep.ensures _ (c.begin.ensures c.args.n)))
-
-pub returns-in-Impossible : goal.returns-in-Impossible
-returns-in-Impossible c = told-holds c.args.n (marked (replicate 4 0)) c.args.table.now c.in-Impossible.is (c.at_end.ensures _ c.args.table.now c.requires.0 c.requires.1 c.requires.2 (c.sweep.ensures _ (c.begin.ensures c.args.n)))
-
-pub returns-in-Possible : goal.returns-in-Possible
-returns-in-Possible c = told-holds c.args.n (marked (replicate 4 0)) c.args.table.now c.in-Possible.is (c.at_end.ensures _ c.args.table.now c.requires.0 c.requires.1 c.requires.2 (c.sweep.ensures _ (c.begin.ensures c.args.n)))
+pub returns : goal.returns
+returns c =
+    let told : Told c.args.n (marked (replicate 4 0)) c.args.table.now c.at_end.result = c.at_end.ensures _ c.args.table.now c.requires.0 c.requires.1 c.requires.2 (c.sweep.ensures _ (c.begin.ensures c.args.n)) in
+    elim c.match-matches.branch [
+      | in-NoTree w ↦ rw (w.matches-is, w.in-NoTree.ensures (marked (replicate 4 0)) c.args.table.now c.requires.0 c.requires.1 c.requires.2 (c.sweep.ensures _ (c.begin.ensures c.args.n)))
+      | in_default w ↦ rw (w.matches-is, some_tree c.args.n (marked (replicate 4 0)) c.args.table.now c.at_end.result w.in_default.not-NoTree told)
+    ]
