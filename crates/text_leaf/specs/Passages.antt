@@ -1,5 +1,5 @@
 -- How the scanner goes through items and nodes.
-use Rattle.std.specs.Prelude.{◌≡◌, true, false, cond, List, ◌∷◌, ◌++◌, ℕ, ◌+◌, ◌*◌, ◌-◌, ◌≤◌, ◌<◌, eqb, length, drop, get_or}
+use Rattle.std.specs.Prelude.{◌≡◌, cond, List, ◌∷◌, ◌++◌, ℕ, ◌+◌, ◌*◌, ◌-◌, ◌≤◌, ◌<◌, eqb, length, drop, get_or, Result, Ok, Err, IfOk}
 use Rattle.spec_orders.specs.Tree.{Kind, P, C, Forest, items}
 use Rattle.spec_orders.specs.TreeText.{text}
 use Rattle.tree_tokens.specs.Tokens.{Wrote, flat}
@@ -28,14 +28,18 @@ pub record Passage (x : List ℕ) (at : ℕ) (spell : Forest → List ℕ) (star
   pub enough : kept ≤ r.left
   pub few : r.count + 2 * r.left + spared ≤ 2 * many
 
--- The passage; or the scanner refuses the text.
-pub record Passed (x : List ℕ) (at : ℕ) (spell : Forest → List ℕ) (start : List ℕ → TextState) (end : List ℕ → List ℕ → TextState) (want many kept spared : ℕ)
-    (used old new : List ℕ) (r : Reached) : Type 0 where
-  pub stops : r.ok ≡ false → (cs : List ℕ) → need cs ≡ want → run_at x at (start cs) ≡ refused r.at
-  pub goes : r.ok ≡ true → Passage x at spell start end want many kept spared used old new r
+-- From byte `at` on the scanner, led from `start`, refuses the text at byte p.
+abbrev pub Stops : List ℕ → ℕ → (List ℕ → TextState) → ℕ → ℕ → Type 0
+Stops x at start want p = (cs : List ℕ) → need cs ≡ want → run_at x at (start cs) ≡ refused p
+
+-- The passage; or the byte at which the text is refused.
+abbrev pub Passed : List ℕ → ℕ → (Forest → List ℕ) → (List ℕ → TextState) → (List ℕ → List ℕ → TextState) → ℕ → ℕ → ℕ → ℕ
+    → List ℕ → List ℕ → List ℕ → Result Reached ℕ → Type 0
+Passed x at spell start end want many kept spared used old new (Ok r) = Passage x at spell start end want many kept spared used old new r
+Passed x at spell start end want many kept spared used old new (Err p) = Stops x at start want p
 
 -- One item, in a node that wants c items, this one among them.
-abbrev pub ItemRead : List ℕ → ℕ → ℕ → ℕ → ℕ → List ℕ → List ℕ → List ℕ → List ℕ → Reached → Type 0
+abbrev pub ItemRead : List ℕ → ℕ → ℕ → ℕ → ℕ → List ℕ → List ℕ → List ℕ → List ℕ → Result Reached ℕ → Type 0
 ItemRead x at c want many before used =
     Passed x at text (λ cs. due c cs (unused 0 before)) (λ cs l. after ((c - 1) ∷ cs) l) want many (c - 1 + want) 1 used
 
@@ -44,14 +48,14 @@ pub record Closed (x : List ℕ) (r : Reached) : Type 0 where
   pub there : r.at < length x
   pub bracket : get_or x r.at 0 ≡ 41
 
-abbrev pub ItemsRead : List ℕ → ℕ → ℕ → ℕ → ℕ → List ℕ → List ℕ → List ℕ → List ℕ → Reached → Type 0
+abbrev pub ItemsRead : List ℕ → ℕ → ℕ → ℕ → ℕ → List ℕ → List ℕ → List ℕ → List ℕ → Result Reached ℕ → Type 0
 ItemsRead x at c want many before used old new r =
-    Passed x at text (λ cs. due c cs (unused 0 before)) (λ cs l. after (0 ∷ cs) l) want many want (1 + (c - 1)) used old new r × (r.ok ≡ true → Closed x r)
+    Passed x at text (λ cs. due c cs (unused 0 before)) (λ cs l. after (0 ∷ cs) l) want many want (1 + (c - 1)) used old new r × IfOk r (Closed x)
 
 -- The same from the opening bracket on.
-abbrev pub OpenedRead : List ℕ → ℕ → ℕ → ℕ → List ℕ → List ℕ → List ℕ → List ℕ → Reached → Type 0
+abbrev pub OpenedRead : List ℕ → ℕ → ℕ → ℕ → List ℕ → List ℕ → List ℕ → List ℕ → Result Reached ℕ → Type 0
 OpenedRead x at want many before used old new r =
-    Passed x at (λ f. 40 ∷ text f) (λ cs. open_due cs (unused 0 before)) (λ cs l. after (0 ∷ cs) l) want many want 2 used old new r × (r.ok ≡ true → Closed x r)
+    Passed x at (λ f. 40 ∷ text f) (λ cs. open_due cs (unused 0 before)) (λ cs l. after (0 ∷ cs) l) want many want 2 used old new r × IfOk r (Closed x)
 
 -- The kind that a letter names.
 abbrev pub kind_of_letter : ℕ → Kind

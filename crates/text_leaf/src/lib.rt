@@ -6,10 +6,9 @@ ghost use Rattle.tree_tokens.specs.Tokens.{E, node_token};
 ghost use Rattle.text_scanner.specs.Scan.{letter?};
 ghost use Rattle.text_leaf.specs.Passages.{Marks, ItemRead, kind_of_letter};
 
-// How far the text was read: up to the byte `at`, with `left` leaves unused and `count` tokens written; or, where not `ok`, the byte of the refusal.
-#[derive(Drop)]
+// How far the text was read: up to the byte `at`, with `left` leaves unused and `count` tokens written.
+#[derive(Clone, Copy)]
 pub struct Reached {
-    pub ok: bool,
     pub at: usize,
     pub left: usize,
     pub count: usize,
@@ -19,63 +18,37 @@ pub struct Reached {
 pub fn is_letter(b: u8) -> bool
     ensures { result ≡ letter? b }
 {
-    if b == 80 {
-        return true;
-    }
-    b == 67
+    b == b'P' || b == b'C'
 }
 
-// Reads the leaf at byte `at`, marks it as used and writes its token.
-pub fn leaf(text: &[u8], at: usize, many: usize, used: &mut [u8], out: &mut [u16]) -> Reached
+// Reads the leaf at byte `at`, marks it as used and writes its token; or answers the byte of the refusal.
+pub fn leaf(
+    text: &[u8],
+    at: usize,
+    many: usize,
+    used: &mut [u8],
+    out: &mut [u16],
+) -> Result<Reached, usize>
     requires { (at < length text.now) × (letter? (get_or text.now at 0) ≡ false) × (Marks many used.old) × (1 ≤ many)
         × (1 ≤ length out.old) }
     ensures { (c : ℕ) (want : ℕ) → c - 1 + want < many
         → ItemRead text.now at c want many used.old used.new out.old out.new result }
 {
-    let b = text[at];
-    if b <= 48 {
-        return Reached {
-            ok: false,
-            at: at,
-            left: 0,
-            count: 0,
-        };
-    }
-    if b > 57 {
-        return Reached {
-            ok: false,
-            at: at,
-            left: 0,
-            count: 0,
-        };
-    }
-    let v = (b - 48) as usize;
+    let digit @ b'1'..=b'9' = text[at] else {
+        return Err(at);
+    };
+    let v = (digit - b'0') as usize;
     if !text_number::any_start(used, v) {
-        return Reached {
-            ok: false,
-            at: at,
-            left: 0,
-            count: 0,
-        };
+        return Err(at);
     }
-    let r = text_number::number(text, at + 1, v, used);
-    if !r.ok {
-        return Reached {
-            ok: false,
-            at: r.at,
-            left: 0,
-            count: 0,
-        };
-    }
-    let leaf = r.leaf;
-    used[leaf] = 1;
-    out[0] = (16 * leaf) as u16;
-    Reached {
-        ok: true,
-        at: r.at,
+    let number = text_number::number(text, at + 1, v, used)?;
+    used[number.leaf] = 1;
+    out[0] = (16 * number.leaf) as u16;
+    Ok(Reached {
+        at: number.at,
         left: many - 1,
         count: 1,
-    }
+    })
 }
 
 // The token of a node whose items have m tokens; b is its letter.
@@ -83,18 +56,8 @@ pub fn header(b: u8, m: usize) -> u16
     requires { m ≤ 512 }
     ensures { result ≡ node_token E (kind_of_letter b) m }
 {
-    if b == 80 {
+    if b == b'P' {
         return (32 * m + 8) as u16;
     }
     (32 * m + 24) as u16
-}
-
-// One item less.
-pub fn less(few: usize) -> usize
-    ensures { result ≡ few - 1 }
-{
-    if few == 0 {
-        return 0;
-    }
-    few - 1
 }

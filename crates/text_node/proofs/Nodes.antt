@@ -20,10 +20,10 @@ use Rattle.text_scanner.specs.Scan.{open_due, due, after, need, letter?, run_at,
 use Rattle.text_scanner.specs.Unused.{unused}
 use Rattle.text_scanner.proofs.Language.{more_text}
 use Rattle.text_scanner.proofs.Moves.{at_end, due_node, due_few, open_byte, open_bad, after_space, after_few, after_other, after_short, close_inner}
+use Rattle.std.specs.Prelude.{Result, Ok, Err}
 use Rattle.text_leaf.specs.declared.Reached.{Reached}
-use Rattle.text_leaf.specs.Passages.{Marks, Passage, Closed, ItemRead, ItemsRead, OpenedRead, kind_of_letter}
+use Rattle.text_leaf.specs.Passages.{Marks, Stops, ItemRead, ItemsRead, OpenedRead, kind_of_letter}
 use Rattle.text_number.proofs.Numerals.{drop-step}
-use Rattle.text_leaf.proofs.Leaves.{refused_at}
 
 -- A small number fits.
 pub fits_small : (n : ℕ) → n ≤ 510 → Fits w64 n
@@ -58,6 +58,9 @@ letter_kind b e = go (eqb b 80) refl (eqb b 67) refl e
     go false h true g i = sym (eqb-true b 67 g)
     go false h false g i = absurd (true≢false (sym i))
 
+pub letter_there : {b e : ℕ} → b ≡ e → true ≡ letter? b → letter? e ≡ true
+letter_there e y = rw (sym e) (sym y)
+
 -- A node's tokens, from those of its items.
 pub node_wrote : {old part : List ℕ} {k t : ℕ} (j : Kind) (f : Forest) → 0 < length old → t ≡ node_token E j k
     → Wrote (flat f) (take (length old - 1) (drop 1 old)) part k
@@ -68,167 +71,139 @@ node_wrote {old} {part} {k} {t} j f h e w =
     rw (encode_node E j (plain f), e, w.many)
     (subst (λ n. Wrote (token ∷ flat f) old (set (put_mid 1 (length old - 1) old part) 0 token) (1 + n)) w.many (wrote_head token old h w))
 
+-- An item.
 module _ (x : List ℕ) (at c want many : ℕ) (used : List ℕ) (m : Marks many used) where
-  pub item_ends : {used' old new : List ℕ} → length x ≤ at → ItemRead x at c want many used used' old new (record { ok = false; at = at; left = 0; count = 0 })
-  item_ends h = refused_at at (λ cs w. at_end x at (due c cs (unused 0 used)) h refl)
+  abbrev NoItem : ℕ → Type 0
+  NoItem p = Stops x at (λ cs. due c cs (unused 0 used)) want p
+
+  pub item_ends : length x ≤ at → NoItem at
+  item_ends h cs w = at_end x at (due c cs (unused 0 used)) h refl
 
   module _ (h : at < length x) (y : letter? (get_or x at 0) ≡ true) (inner : ℕ) (n : inner ≡ c - 1 + want) where
-    pub item_few : {used' old new : List ℕ} → many < 2 + inner → ItemRead x at c want many used used' old new (record { ok = false; at = at; left = 0; count = 0 })
-    item_few l = refused_at at (λ cs w. due_few x at h c cs (unused 0 used) y (omega (arith, m.count)))
+    pub item_few : many < 2 + inner → NoItem at
+    item_few l cs w = due_few x at h c cs (unused 0 used) y (omega (arith, m.count))
 
     module _ (l : 2 + inner ≤ many) where
       entered : (cs : List ℕ) → need cs ≡ want → run_at x at (due c cs (unused 0 used)) ≡ run_at x (at + 1) (open_due ((c - 1) ∷ cs) (unused 0 used))
       entered cs w = due_node x at h c cs (unused 0 used) y (omega (arith, m.count))
 
-      pub item_stops : {used' old' new' old new : List ℕ} (r : Reached) → r.ok ≡ false → OpenedRead x (at + 1) inner many used used' old' new' r
-          → ItemRead x at c want many used used' old new r
-      item_stops r f o = record {
-        stops = λ e cs w. entered cs w ∙ o.0.stops e ((c - 1) ∷ cs) (omega arith);
-        goes = λ e. absurd (true≢false (sym e ∙ f));
-      }
+      pub item_stops : (p : ℕ) → Stops x (at + 1) (λ cs. open_due cs (unused 0 used)) inner p → NoItem p
+      item_stops p o cs w = entered cs w ∙ o ((c - 1) ∷ cs) (omega arith)
 
-      pub item_node : {used' old part : List ℕ} {t : ℕ} (r : Reached) → r.ok ≡ true → 0 < length old → t ≡ node_token E (kind_of_letter (get_or x at 0)) r.count
-          → OpenedRead x (at + 1) inner many used used' (take (length old - 1) (drop 1 old)) part r
+      pub item_node : {used' old part : List ℕ} {t : ℕ} (r : Reached) → 0 < length old → t ≡ node_token E (kind_of_letter (get_or x at 0)) r.count
+          → OpenedRead x (at + 1) inner many used used' (take (length old - 1) (drop 1 old)) part (Ok r)
           → ItemRead x at c want many used used' old (set (put_mid 1 (length old - 1) old part) 0 t)
-          (record { ok = true; at = r.at + 1; left = r.left; count = 1 + r.count })
-      item_node {used'} r f s t o = let p = o.0.goes f in let q = o.1 f in record {
-        stops = λ e. absurd (true≢false e);
-        goes = λ e. record {
-          forest = node (kind_of_letter (get_or x at 0)) p.forest nil;
-          some_item = omega arith;
-          wrote = node_wrote (kind_of_letter (get_or x at 0)) p.forest s t p.wrote;
-          bytes = drop-step x at h ∙ ap₂ ◌∷◌ (sym (letter_kind (get_or x at 0) y))
-              (p.bytes ∙ ap (λ l. 40 ∷ (text p.forest ++ l)) (drop-step x r.at q.there ∙ ap (λ b. b ∷ drop (r.at + 1) x) q.bracket)
-              ∙ ap (λ l. 40 ∷ l) (sym (append_assoc (text p.forest) (41 ∷ []) (drop (r.at + 1) x))));
-          moves = λ cs w. entered cs w ∙ p.moves ((c - 1) ∷ cs) (omega arith) ∙ close_inner x r.at q.there (c - 1) cs (unused 0 used') q.bracket;
-          marks = p.marks;
-          onward = omega (arith, p.onward);
-          within = omega (arith, q.there);
-          enough = omega (arith, p.enough);
-          few = omega (arith, p.few);
-        };
+          (Ok (record { at = r.at + 1; left = r.left; count = 1 + r.count }))
+      item_node {used'} r s t (p, q) = record {
+        forest = node (kind_of_letter (get_or x at 0)) p.forest nil;
+        some_item = omega arith;
+        wrote = node_wrote (kind_of_letter (get_or x at 0)) p.forest s t p.wrote;
+        bytes = drop-step x at h ∙ ap₂ ◌∷◌ (sym (letter_kind (get_or x at 0) y))
+            (p.bytes ∙ ap (λ l. 40 ∷ (text p.forest ++ l)) (drop-step x r.at q.there ∙ ap (λ b. b ∷ drop (r.at + 1) x) q.bracket)
+            ∙ ap (λ l. 40 ∷ l) (sym (append_assoc (text p.forest) (41 ∷ []) (drop (r.at + 1) x))));
+        moves = λ cs w. entered cs w ∙ p.moves ((c - 1) ∷ cs) (omega arith) ∙ close_inner x r.at q.there (c - 1) cs (unused 0 used') q.bracket;
+        marks = p.marks;
+        onward = omega (arith, p.onward);
+        within = omega (arith, q.there);
+        enough = omega (arith, p.enough);
+        few = omega (arith, p.few);
       }
 
 -- The node from its bracket on.
 module _ (x : List ℕ) (at want many : ℕ) (used : List ℕ) where
-  abbrev No : List ℕ → List ℕ → List ℕ → Type 0
-  No used' old new = OpenedRead x at want many used used' old new (record { ok = false; at = at; left = 0; count = 0 })
+  abbrev NotOpened : ℕ → Type 0
+  NotOpened p = Stops x at (λ cs. open_due cs (unused 0 used)) want p
 
-  not_closed : {p : ℕ} → false ≡ true → Closed x (record { ok = false; at = p; left = 0; count = 0 })
-  not_closed e = absurd (true≢false (sym e))
+  pub opened_ends : length x ≤ at → NotOpened at
+  opened_ends h cs w = at_end x at (open_due cs (unused 0 used)) h refl
 
-  pub opened_ends : {used' old new : List ℕ} → length x ≤ at → No used' old new
-  opened_ends h = (refused_at at (λ cs w. at_end x at (open_due cs (unused 0 used)) h refl), not_closed)
+  pub opened_bad : at < length x → (get_or x at 0 ≡ 40 → ⊥) → NotOpened at
+  opened_bad h n cs w = open_bad x at h cs (unused 0 used) n
 
-  pub opened_bad : {used' old new : List ℕ} → at < length x → (get_or x at 0 ≡ 40 → ⊥) → No used' old new
-  opened_bad h n = (refused_at at (λ cs w. open_bad x at h cs (unused 0 used) n), not_closed)
-
-  pub opened_read : {used' old new : List ℕ} (r : Reached) → at < length x → get_or x at 0 ≡ 40 → ItemsRead x (at + 1) 2 want many used used' old new r
+  pub opened_read : (used' old new : List ℕ) (r : Result Reached ℕ) → at < length x → get_or x at 0 ≡ 40 → ItemsRead x (at + 1) 2 want many used used' old new r
       → OpenedRead x at want many used used' old new r
-  opened_read r h y i = (
+  opened_read used' old new (Ok r) h y (p, q) = (
     record {
-      stops = λ e cs w. open_byte x at h cs (unused 0 used) y ∙ i.0.stops e cs w;
-      goes = λ e. let p = i.0.goes e in record {
-        forest = p.forest;
-        some_item = p.some_item;
-        wrote = p.wrote;
-        bytes = drop-step x at h ∙ ap₂ ◌∷◌ y p.bytes;
-        moves = λ cs w. open_byte x at h cs (unused 0 used) y ∙ p.moves cs w;
-        marks = p.marks;
-        onward = omega (arith, p.onward);
-        within = p.within;
-        enough = p.enough;
-        few = p.few;
-      };
+      forest = p.forest;
+      some_item = p.some_item;
+      wrote = p.wrote;
+      bytes = drop-step x at h ∙ ap₂ ◌∷◌ y p.bytes;
+      moves = λ cs w. open_byte x at h cs (unused 0 used) y ∙ p.moves cs w;
+      marks = p.marks;
+      onward = omega (arith, p.onward);
+      within = p.within;
+      enough = p.enough;
+      few = p.few;
     },
-    i.1,
+    q,
   )
+  opened_read used' old new (Err p) h y (s, q) = (λ cs w. open_byte x at h cs (unused 0 used) y ∙ s cs w, q)
 
 -- The items of a node: the first is read, and the byte after it tells how it goes on.
-module _ (x : List ℕ) (at c want many : ℕ) (used : List ℕ) where
-  pub items_stop : {used' old new used'' new'' : List ℕ} (r : Reached) → r.ok ≡ false → ItemRead x at c want many used used' old new r
-      → ItemsRead x at c want many used used'' old new'' r
-  items_stop r f i = (record { stops = i.stops; goes = λ e. absurd (true≢false (sym e ∙ f)) }, λ e. absurd (true≢false (sym e ∙ f)))
+module _ (x : List ℕ) (at c want many : ℕ) (used : List ℕ) {used' old mid : List ℕ} (r : Reached) (first : ItemRead x at c want many used used' old mid (Ok r)) where
+  abbrev NoItems : ℕ → Type 0
+  NoItems p = Stops x at (λ cs. due c cs (unused 0 used)) want p
 
-  module _ {used' old mid : List ℕ} (r : Reached) (o : r.ok ≡ true) (i : ItemRead x at c want many used used' old mid r) where
-    first : Passage x at text (λ cs. due c cs (unused 0 used)) (λ cs l. after ((c - 1) ∷ cs) l) want many (c - 1 + want) 1 used' old mid r
-    first = i.goes o
+  pub items_end : length x ≤ r.at → NoItems r.at
+  items_end h cs w = first.moves cs w ∙ at_end x r.at (after ((c - 1) ∷ cs) (unused 0 used')) h refl
 
-    stop_after : {used'' new : List ℕ} → ((cs : List ℕ) → need cs ≡ want → run_at x r.at (after ((c - 1) ∷ cs) (unused 0 used')) ≡ refused r.at)
-        → ItemsRead x at c want many used used'' old new (record { ok = false; at = r.at; left = 0; count = 0 })
-    stop_after h = (refused_at r.at (λ cs w. first.moves cs w ∙ h cs w), λ e. absurd (true≢false (sym e)))
+  module _ (h : r.at < length x) (rest : ℕ) (n : rest ≡ c - 1) where
+    pub items_other : (get_or x r.at 0 ≡ 32 → ⊥) → (get_or x r.at 0 ≡ 41 → ⊥) → NoItems r.at
+    items_other s b cs w = first.moves cs w ∙ after_other x r.at h (c - 1) cs (unused 0 used') s b
 
-    pub items_end : {used'' new : List ℕ} → length x ≤ r.at → ItemsRead x at c want many used used'' old new (record { ok = false; at = r.at; left = 0; count = 0 })
-    items_end h = stop_after (λ cs w. at_end x r.at (after ((c - 1) ∷ cs) (unused 0 used')) h refl)
+    pub items_short : get_or x r.at 0 ≡ 41 → (rest ≡ 0 → ⊥) → NoItems r.at
+    items_short b s cs w = first.moves cs w ∙ after_short x r.at h (c - 1) cs (unused 0 used') b (λ e. s (n ∙ e))
 
-    module _ (h : r.at < length x) (rest : ℕ) (n : rest ≡ c - 1) where
-      pub items_other : {used'' new : List ℕ} → (get_or x r.at 0 ≡ 32 → ⊥) → (get_or x r.at 0 ≡ 41 → ⊥)
-          → ItemsRead x at c want many used used'' old new (record { ok = false; at = r.at; left = 0; count = 0 })
-      items_other s b = stop_after (λ cs w. after_other x r.at h (c - 1) cs (unused 0 used') s b)
+    pub items_closed : get_or x r.at 0 ≡ 41 → rest ≡ 0 → ItemsRead x at c want many used used' old mid (Ok r)
+    items_closed b s = (
+      record {
+        forest = first.forest;
+        some_item = first.some_item;
+        wrote = first.wrote;
+        bytes = first.bytes;
+        moves = λ cs w. first.moves cs w ∙ ap (λ d. run_at x r.at (after (d ∷ cs) (unused 0 used'))) (sym n ∙ s);
+        marks = first.marks;
+        onward = first.onward;
+        within = first.within;
+        enough = omega (arith, first.enough);
+        few = omega (arith, first.few);
+      },
+      record { there = h; bracket = b },
+    )
 
-      pub items-short : {used'' new : List ℕ} → get_or x r.at 0 ≡ 41 → (rest ≡ 0 → ⊥)
-          → ItemsRead x at c want many used used'' old new (record { ok = false; at = r.at; left = 0; count = 0 })
-      items-short b s = stop_after (λ cs w. after_short x r.at h (c - 1) cs (unused 0 used') b (λ e. s (n ∙ e)))
+    module _ (s : get_or x r.at 0 ≡ 32) where
+      pub items_few : r.left < 1 + (rest - 1 + want) → NoItems r.at
+      items_few l cs w = first.moves cs w ∙ after_few x r.at h (c - 1) cs (unused 0 used') s (omega (arith, first.marks.count))
 
-      pub items_closed : get_or x r.at 0 ≡ 41 → rest ≡ 0 → ItemsRead x at c want many used used' old mid r
-      items_closed b s = (
-        record {
-          stops = λ e. absurd (true≢false (sym o ∙ e));
-          goes = λ e. record {
-            forest = first.forest;
-            some_item = first.some_item;
-            wrote = first.wrote;
-            bytes = first.bytes;
-            moves = λ cs w. first.moves cs w ∙ ap (λ d. run_at x r.at (after (d ∷ cs) (unused 0 used'))) (sym n ∙ s);
-            marks = first.marks;
-            onward = first.onward;
-            within = first.within;
-            enough = omega (arith, first.enough);
-            few = omega (arith, first.few);
-          };
-        },
-        λ e. record { there = h; bracket = b },
-      )
+      module _ (l : 1 + (rest - 1 + want) ≤ r.left) where
+        goes_on : (cs : List ℕ) → need cs ≡ want → run_at x at (due c cs (unused 0 used)) ≡ run_at x (r.at + 1) (due rest cs (unused 0 used'))
+        goes_on cs w =
+            first.moves cs w
+            ∙ after_space x r.at h (c - 1) cs (unused 0 used') s (omega (arith, first.marks.count))
+            ∙ ap (λ d. run_at x (r.at + 1) (due d cs (unused 0 used'))) (sym n)
 
-      module _ (s : get_or x r.at 0 ≡ 32) (inner : ℕ) (g : inner ≡ rest - 1) where
-        pub items-few : {used'' new : List ℕ} → r.left < 1 + (inner + want)
-            → ItemsRead x at c want many used used'' old new (record { ok = false; at = r.at; left = 0; count = 0 })
-        items-few l = stop_after (λ cs w. after_few x r.at h (c - 1) cs (unused 0 used') s (omega (arith, first.marks.count)))
+        pub items_stops : (p : ℕ) → Stops x (r.at + 1) (λ cs. due rest cs (unused 0 used')) want p → NoItems p
+        items_stops p j cs w = goes_on cs w ∙ j cs w
 
-        module _ (l : 1 + (inner + want) ≤ r.left) where
-          goes_on : (cs : List ℕ) → need cs ≡ want → run_at x at (due c cs (unused 0 used)) ≡ run_at x (r.at + 1) (due rest cs (unused 0 used'))
-          goes_on cs w =
-              first.moves cs w
-              ∙ after_space x r.at h (c - 1) cs (unused 0 used') s (omega (arith, first.marks.count))
-              ∙ ap (λ d. run_at x (r.at + 1) (due d cs (unused 0 used'))) (sym n)
-
-          pub items_stops : {used'' old' new' new : List ℕ} (q : Reached) → q.ok ≡ false → ItemsRead x (r.at + 1) rest want r.left used' used'' old' new' q
-              → ItemsRead x at c want many used used'' old new q
-          items_stops q f j =
-              (record { stops = λ e cs w. goes_on cs w ∙ j.0.stops e cs w; goes = λ e. absurd (true≢false (sym e ∙ f)) }, λ e. absurd (true≢false (sym e ∙ f)))
-
-          pub items_read : {used'' part : List ℕ} (q : Reached) → q.ok ≡ true
-              → ItemsRead x (r.at + 1) rest want r.left used' used'' (take (length mid - r.count) (drop r.count mid)) part q
-              → ItemsRead x at c want many used used'' old (put_mid r.count (length mid - r.count) mid part)
-              (record { ok = true; at = q.at; left = q.left; count = r.count + q.count })
-          items_read q f j = let p = j.0.goes f in (
-            record {
-              stops = λ e. absurd (true≢false e);
-              goes = λ e. record {
-                forest = append first.forest p.forest;
-                some_item = append_some first.forest p.forest first.some_item;
-                wrote = rw (plain-append first.forest p.forest, encode-append) (wrote_then first.wrote p.wrote);
-                bytes = first.bytes ∙ ap (λ l. text first.forest ++ l) (drop-step x r.at h ∙ ap₂ ◌∷◌ s p.bytes)
-                    ∙ sym (append_assoc (text first.forest) (32 ∷ text p.forest) (drop q.at x))
-                    ∙ ap (λ l. l ++ drop q.at x) (sym (text-append first.forest p.forest first.some_item
-                    ∙ ap (λ l. text first.forest ++ l) (more_text p.forest p.some_item)));
-                moves = λ cs w. goes_on cs w ∙ p.moves cs w;
-                marks = p.marks;
-                onward = omega (arith, first.onward, p.onward);
-                within = p.within;
-                enough = p.enough;
-                few = omega (arith, first.few, p.few);
-              };
-            },
-            λ e. record { there = (j.1 f).there; bracket = (j.1 f).bracket },
-          )
+        pub items_read : {used'' part : List ℕ} (q : Reached)
+            → ItemsRead x (r.at + 1) rest want r.left used' used'' (take (length mid - r.count) (drop r.count mid)) part (Ok q)
+            → ItemsRead x at c want many used used'' old (put_mid r.count (length mid - r.count) mid part)
+            (Ok (record { at = q.at; left = q.left; count = r.count + q.count }))
+        items_read q (p, z) = (
+          record {
+            forest = append first.forest p.forest;
+            some_item = append_some first.forest p.forest first.some_item;
+            wrote = rw (plain-append first.forest p.forest, encode-append) (wrote_then first.wrote p.wrote);
+            bytes = first.bytes ∙ ap (λ l. text first.forest ++ l) (drop-step x r.at h ∙ ap₂ ◌∷◌ s p.bytes)
+                ∙ sym (append_assoc (text first.forest) (32 ∷ text p.forest) (drop q.at x))
+                ∙ ap (λ l. l ++ drop q.at x) (sym (text-append first.forest p.forest first.some_item
+                ∙ ap (λ l. text first.forest ++ l) (more_text p.forest p.some_item)));
+            moves = λ cs w. goes_on cs w ∙ p.moves cs w;
+            marks = p.marks;
+            onward = omega (arith, first.onward, p.onward);
+            within = p.within;
+            enough = p.enough;
+            few = omega (arith, first.few, p.few);
+          },
+          record { there = z.there; bracket = z.bracket },
+        )

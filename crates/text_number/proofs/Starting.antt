@@ -1,14 +1,15 @@
 -- Which unused leaves begin with a number's digits.
-use mathlib.Core.Path.{◌≡◌, refl, sym, ◌∙◌}
+use mathlib.Core.Path.{◌≡◌, refl, sym, ◌∙◌, ap}
 use mathlib.Core.Logic.{◌↔◌, ◌⊎◌, inl, inr}
 use mathlib.Core.Bool.{Bool, true, false, cond, ◌||◌, true≢false}
 use mathlib.Core.List.{List, [], ◌∷◌}
-use Prim.Native.Nat.{ℕ, zero, suc, ◌+◌, ◌*◌, ◌/◌, ◌<◌}
+use Prim.Native.Nat.{ℕ, zero, suc, ◌+◌, ◌*◌, ◌/◌, ◌-◌, ◌≤◌, ◌<◌, min}
 use native.Mathlib.Omega.{arith}
-use native.Mathlib.Decide.{ℕ_discrete}
 use borrow.Author.Tests.{eq-eqb, eqb-true}
 use lib.Dec.{eqb}
-use lib.ListN.{length, get_or}
+use lib.ListN.{length, take, drop, get_or, length-drop}
+use Rattle.std.specs.List.{IsAnyAnswer}
+use Rattle.std.proofs.lemmas.List.{get_or-take, get_or-drop, length-take-le}
 use Rattle.text_scanner.specs.Unused.{starts, any_start}
 use Rattle.text_scanner.proofs.Numbers.{start_below}
 use Rattle.text_number.specs.Numbers.{FreeIn}
@@ -106,10 +107,26 @@ last_free v used false no_one no-ten h = sym (none_free v used no_one no-ten (λ
 pub not_free : {r : Bool} {Q : Type 0} → r ≡ false → ((r ≡ true) ↔ Q) → Q → ⊥
 not_free e h q = true≢false (sym (h.1 q) ∙ e)
 
--- A mark that is 0 is before one that is not, where it is not after it.
-pub before : (l : List ℕ) (a m : ℕ) → (get_or l a 0 ≡ 0 → ⊥) → get_or l m 0 ≡ 0 → m < a + 1 → m < a
-before l a m h z b = go (ℕ_discrete m a)
-  where
-    go : Dec (m ≡ a) → m < a
-    go (yes e) = absurd (h (rw e at z))
-    go (no d) = omega arith
+-- The marks from `from` on, m of them: where one is 0.
+module _ (used : List ℕ) (from k m : ℕ) (h : from ≤ length used) (e : m ≡ min k (length used - from)) where
+  abbrev marks : List ℕ
+  marks = take m (take (length used - from) (drop from used))
+
+  marks-length : length marks ≡ m
+  marks-length = length-take-le m _ (omega (arith, length-take-le (length used - from) (drop from used) (omega (arith, length-drop from used))))
+
+  mark_at : (i : ℕ) → i < m → get_or marks i 0 ≡ get_or used (from + i) 0
+  mark_at i l = get_or-take m _ i 0 l ∙ get_or-take (length used - from) _ i 0 (omega arith) ∙ get_or-drop from used i 0
+
+  pub zero_among : (r : Bool) → IsAnyAnswer (λ y b. eqb y 0 ≡ b) marks r → (r ≡ true) ↔ FreeIn used from (from + k)
+  zero_among true (i, l, s) =
+      let g : i < m = omega (arith, marks-length) in
+      (λ t. (from + i, omega arith, omega arith, omega arith, sym (mark_at i g) ∙ eqb-true (get_or marks i 0) 0 (s 0)), λ f. refl)
+  zero_among false s = (
+    λ t. absurd (true≢false (sym t)),
+    λ f.
+        let x : f.0 ≡ from + (f.0 - from) = omega (arith, f.1) in
+        let g : f.0 - from < m = omega (arith, f.1, f.2, f.3) in
+        let z : get_or marks (f.0 - from) 0 ≡ 0 = mark_at (f.0 - from) g ∙ ap (λ i. get_or used i 0) (sym x) ∙ f.4 in
+        absurd (true≢false (sym (eq-eqb (get_or marks (f.0 - from) 0) 0 z) ∙ s (f.0 - from) 0 (omega arith) (omega (arith, marks-length)))),
+  )

@@ -1,5 +1,5 @@
 -- Reading a number: how the scanner goes through the rest of its digits.
-use Rattle.std.specs.Prelude.{◌≡◌, true, false, List, ◌∷◌, ◌++◌, ℕ, ◌≤◌, ◌<◌, length, drop, get_or, set}
+use Rattle.std.specs.Prelude.{◌≡◌, List, ◌∷◌, ◌++◌, ℕ, ◌≤◌, ◌<◌, length, drop, get_or, set, Result, Ok, Err}
 use Rattle.spec_orders.specs.TreeText.{digits}
 use Rattle.text_scanner.specs.Scan.{num, after, run_at, refused}
 use Rattle.text_scanner.specs.Unused.{unused}
@@ -20,6 +20,6 @@ pub record LeafRead (x : List ℕ) (at v : ℕ) (used : List ℕ) (r : Numeral) 
   pub free : get_or used r.leaf 0 ≡ 0
   pub moves : (c : ℕ) (cs : List ℕ) → run_at x at (num (digits v) c cs (unused 0 used)) ≡ run_at x r.at (after (c ∷ cs) (unused 0 (set used r.leaf 1)))
 
-pub record NumberRead (x : List ℕ) (at v : ℕ) (used : List ℕ) (r : Numeral) : Type 0 where
-  pub stops : r.ok ≡ false → (c : ℕ) (cs : List ℕ) → run_at x at (num (digits v) c cs (unused 0 used)) ≡ refused r.at
-  pub goes : r.ok ≡ true → LeafRead x at v used r
+abbrev pub NumberRead : List ℕ → ℕ → ℕ → List ℕ → Result Numeral ℕ → Type 0
+NumberRead x at v used (Ok r) = LeafRead x at v used r
+NumberRead x at v used (Err p) = (c : ℕ) (cs : List ℕ) → run_at x at (num (digits v) c cs (unused 0 used)) ≡ refused p

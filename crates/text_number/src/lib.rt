@@ -6,32 +6,6 @@ ghost use Rattle.text_scanner.specs.Scan.{sep?};
 ghost use Rattle.text_scanner.specs.Unused.{any_start};
 ghost use Rattle.text_number.specs.Numbers.{FreeIn, NumberRead};
 
-// Whether the byte is a space or a closing bracket.
-fn is_separator(b: u8) -> bool
-    ensures { result ≡ sep? b }
-{
-    if b == 32 {
-        return true;
-    }
-    b == 41
-}
-
-// Whether a leaf from `from` on and below `to` is unused.
-fn unused_within(used: &[u8], from: usize, to: usize) -> bool
-    requires { to ≤ length used.now }
-    ensures { (result ≡ true) ↔ FreeIn used.now from to }
-{
-    let mut found = false;
-    let mut a = from;
-    while a < to {
-        if used[a] == 0 {
-            found = true;
-        }
-        a += 1;
-    }
-    found
-}
-
 // Whether one of the k leaves from `from` on is unused.
 fn unused_among(used: &[u8], from: usize, k: usize) -> bool
     ensures { (result ≡ true) ↔ FreeIn used.now from (from + k) }
@@ -40,10 +14,8 @@ fn unused_among(used: &[u8], from: usize, k: usize) -> bool
     if from > n {
         return false;
     }
-    if k > n - from {
-        return unused_within(used, from, n);
-    }
-    unused_within(used, from, from + k)
+    let marks = &used[from..];
+    marks[..k.min(n - from)].contains(&0)
 }
 
 // Whether the digits of some unused leaf begin with those of v: v itself, or v with one or two digits more.
@@ -66,65 +38,31 @@ pub fn any_start(used: &[u8], v: usize) -> bool
     unused_among(used, 100 * v, 100)
 }
 
-// A number that was read: the unused leaf with these digits, and the byte after them; or, where not `ok`, the byte of the refusal.
-#[derive(Drop)]
+// A number that was read: the unused leaf with these digits, and the byte after them.
+#[derive(Clone, Copy)]
 pub struct Numeral {
-    pub ok: bool,
     pub leaf: usize,
     pub at: usize,
 }
 
-// Reads on, at byte `at`, in a number whose digits so far are those of v.
-pub fn number(text: &[u8], at: usize, v: usize, used: &[u8]) -> Numeral
+// Reads on, at byte `at`, in a number whose digits so far are those of v; or answers the byte of the refusal.
+pub fn number(text: &[u8], at: usize, v: usize, used: &[u8]) -> Result<Numeral, usize>
     requires { (at ≤ length text.now) × (1 ≤ v) × (length used.now ≤ 257) × (any_start v 0 used.now ≡ true) }
     ensures { NumberRead text.now at v used.now result }
 {
-    let mut to = at;
-    let mut w = v;
-    while to < text.len() {
-        let b = text[to];
-        if is_separator(b) {
-            if used[w] != 0 {
-                return Numeral {
-                    ok: false,
-                    leaf: 0,
-                    at: to,
-                };
+    let mut leaf = v;
+    for to in at..text.len() {
+        match text[to] {
+            b' ' | b')' if used[leaf] == 0 => return Ok(Numeral { leaf, at: to }),
+            digit @ b'0'..=b'9' => {
+                let next = 10 * leaf + (digit - b'0') as usize;
+                if !any_start(used, next) {
+                    return Err(to);
+                }
+                leaf = next;
             }
-            return Numeral {
-                ok: true,
-                leaf: w,
-                at: to,
-            };
+            _ => return Err(to),
         }
-        if b < 48 {
-            return Numeral {
-                ok: false,
-                leaf: 0,
-                at: to,
-            };
-        }
-        if b > 57 {
-            return Numeral {
-                ok: false,
-                leaf: 0,
-                at: to,
-            };
-        }
-        let next = 10 * w + (b - 48) as usize;
-        if !any_start(used, next) {
-            return Numeral {
-                ok: false,
-                leaf: 0,
-                at: to,
-            };
-        }
-        w = next;
-        to += 1;
     }
-    Numeral {
-        ok: false,
-        leaf: 0,
-        at: to,
-    }
+    Err(text.len())
 }

@@ -1,6 +1,5 @@
 -- What the reader finds, from the scanner's answer and the byte of a broken rule.
 use mathlib.Core.Path.{◌≡◌, ◌∙◌, ap}
-use mathlib.Core.Bool.{true, false}
 use mathlib.Core.List.{List, [], ◌∷◌}
 use Prim.Native.Nat.{ℕ, ◌*◌, ◌-◌, ◌≤◌}
 use native.Mathlib.Omega.{arith}
@@ -13,40 +12,40 @@ use Rattle.spec_orders.proofs.Fresh.{fresh_form}
 use Rattle.spec_orders.proofs.TextOnce.{form_reads}
 use Rattle.tree_tokens.specs.Tokens.{Judged, tree as without, plain, encode, Tokens}
 use Rattle.tree_tokens.proofs.Sequences.{tree_plain}
-use Rattle.tree_tokens.proofs.Writes.{read_part}
-use Rattle.text_scanner.specs.Scan.{lit, text_start, run_at}
+use Rattle.tree_tokens.proofs.Writes.{read_back}
+use Rattle.text_scanner.specs.Scan.{lit, text_start, run_at, accepted}
 use Rattle.text_scanner.specs.Rule.{broken_at}
 use Rattle.text_scanner.proofs.Exact.{refused_shape, accepted_shape, start_word, short-tree}
 use Rattle.text_scanner.proofs.Rule.{broken_least}
 use Rattle.text_scanner.proofs.Outcomes.{ruled}
-use Rattle.text_leaf.specs.declared.Reached.{Reached}
+use Rattle.std.specs.Prelude.{Err}
 use Rattle.text_shape.specs.Texts.{WordRead, Spelled}
 
 -- One leaf or two.
-module _ (n : ℕ) (h : 1 ≤ n) (g : n ≤ 2) (x : List ℕ) (r : Reached) where
+module _ (n : ℕ) (h : 1 ≤ n) (g : n ≤ 2) (x : List ℕ) where
   abbrev word : List ℕ
   word = 49 ∷ 32 ∷ 50 ∷ []
 
-  begins : run_at x 0 (text_start n) ≡ run_at x 0 (lit (take (2 * n - 1 - 0) word))
-  begins = let z : 2 * n - 1 - 0 ≡ 2 * n - 1 = omega arith in rw z (ap (run_at x 0) (start_word n h g))
+  begins : run_at x 0 (text_start n) ≡ run_at x 0 (lit (take (2 * n - 1) word))
+  begins = ap (run_at x 0) (start_word n h g)
 
-  pub short_refused : WordRead x (take (2 * n - 1 - 0) word) r → r.ok ≡ false → Reads n x (refused r.at)
-  short_refused w f = no_shape (refused_shape n x r.at (begins ∙ w.stops f))
+  pub short_refused : (p : ℕ) → WordRead x (take (2 * n - 1) word) (Err p) → Reads n x (refused p)
+  short_refused p w = no_shape (refused_shape n x p (begins ∙ w))
 
-  pub short_read : WordRead x (take (2 * n - 1 - 0) word) r → r.ok ≡ true → Reads n x (tree (fresh n))
-  short_read w f =
-      let s = accepted_shape n x (begins ∙ w.goes f) in
+  pub short_read : run_at x 0 (lit (take (2 * n - 1) word)) ≡ accepted → Reads n x (tree (fresh n))
+  short_read w =
+      let s = accepted_shape n x (begins ∙ w) in
       rw (s.bytes ∙ ap tree_text (short-tree n h g s.tree s.shaped)) (form_reads (fresh_form n))
 
 -- From three leaves on: the tokens of the tree that the text spells, and the byte p of a broken rule that was found in them.
 module _ {n : ℕ} {x old new : List ℕ} {k : ℕ} (s : Spelled n x old new k) where
-  pub spelled_tokens : Tokens (take (k - 0) (drop 0 new)) × (length (take (k - 0) (drop 0 new)) ≤ 512)
-  spelled_tokens = let e = read_part s.wrote in ((_, e), omega (arith, s.few, s.wrote.many, ap length e))
+  pub spelled_tokens : Tokens (take k new) × (length (take k new) ≤ 512)
+  spelled_tokens = let e = read_back s.wrote in ((_, e), omega (arith, s.few, s.wrote.many, ap length e))
 
-  module _ {p : ℕ} (judged : (j : Judged) → take (k - 0) (drop 0 new) ≡ encode j → p ≡ broken_at C 0 2 (without j)) where
+  module _ {p : ℕ} (judged : (j : Judged) → take k new ≡ encode j → p ≡ broken_at C 0 2 (without j)) where
     found : ((p ≡ 0 → ⊥) → Reads n x (refused p)) × (p ≡ 0 → Reads n x (tree (relabel s.shown)))
     found =
-        let e = judged (plain s.shown) (read_part s.wrote) ∙ ap (broken_at C 0 2) (tree_plain s.shown) in
+        let e = judged (plain s.shown) (read_back s.wrote) ∙ ap (broken_at C 0 2) (tree_plain s.shown) in
         ruled n x s.shown s.shaped s.bytes p (rw e (broken_least s.shown C 0 2 (omega arith)))
 
     pub rule_broken : (p ≡ 0 → ⊥) → Reads n x (refused p)

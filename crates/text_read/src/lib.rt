@@ -7,13 +7,6 @@ ghost use Rattle.spec_orders.specs.ThreeNeighbours.{relabel};
 ghost use Rattle.tree_tokens.specs.Tokens.{Tokens, Wrote, flat};
 ghost use Rattle.text_read.specs.ReadText.{ReadText};
 
-// What the reader finds: a tree, in this many tokens; or the byte at which the text is refused.
-#[derive(Drop)]
-pub enum Read {
-    Tree(usize),
-    Refused(usize),
-}
-
 // The first token; of a P-node, which is 16 less, where it is of a C-node with two items.
 fn relabelled(toks: &[u16]) -> u16
     requires { (Tokens toks.now) × (0 < length toks.now) }
@@ -34,30 +27,25 @@ fn relabel(toks: &[u16], out: &mut [u16]) -> usize
     requires { (Tokens toks.now) × (length toks.now ≤ length out.old) }
     ensures { (t : Forest) → toks.now ≡ flat t → Wrote (flat (relabel t)) out.old out.new result }
 {
-    let mut i = 0;
-    while i < toks.len() {
+    for i in 0..toks.len() {
         out[i] = relabelled(&toks[i..]);
-        i += 1;
     }
-    i
+    toks.len()
 }
 
 // Reads the text for one or two leaves.
-fn short(text: &[u8], n: usize, out: &mut [u16]) -> Read
+fn short(text: &[u8], n: usize, out: &mut [u16]) -> Result<usize, usize>
     requires { (1 ≤ n) × (n ≤ 2) × (512 ≤ length out.old) }
     ensures { ReadText n text.now out.old out.new result }
 {
-    let word = [49u8, 32, 50];
-    let r = text_shape::word_read(text, &word[0..2 * n - 1]);
-    if !r.ok {
-        return Read::Refused(r.at);
-    }
-    Read::Tree(tree_tokens::fresh(n, out))
+    let word = [b'1', b' ', b'2'];
+    text_shape::word_read(text, &word[..2 * n - 1])?;
+    Ok(tree_tokens::fresh(n, out))
 }
 
 // Writes the tokens of the tree that is found in the text for n leaves, with a P-node for each C-node of two items, to the start of out. Answers how
 // many; or the byte at which the text is refused.
-pub fn read_text(text: &[u8], n: usize, out: &mut [u16]) -> Read
+pub fn read_text(text: &[u8], n: usize, out: &mut [u16]) -> Result<usize, usize>
     requires { (1 ≤ n) × (n ≤ 256) × (512 ≤ length out.old) }
     ensures { ReadText n text.now out.old out.new result }
 {
@@ -65,14 +53,10 @@ pub fn read_text(text: &[u8], n: usize, out: &mut [u16]) -> Read
         return short(text, n, out);
     }
     let mut spelled = [0u16; 512];
-    let r = text_shape::shape(text, n, &mut spelled);
-    if !r.ok {
-        return Read::Refused(r.at);
-    }
-    let k = r.count;
-    let p = text_rules::broken(&spelled[0..k]);
+    let k = text_shape::shape(text, n, &mut spelled)?;
+    let p = text_rules::broken(&spelled[..k]);
     if p != 0 {
-        return Read::Refused(p);
+        return Err(p);
     }
-    Read::Tree(relabel(&spelled[0..k], out))
+    Ok(relabel(&spelled[..k], out))
 }

@@ -6,7 +6,4 @@ use Rattle.text_read.proofs.Relabelling.{Relabelled}
 use Rattle.text_read.proofs.relabel.Given as goal
 
 abbrev pub invariant-loop-i : goal.invariant-loop-i
-invariant-loop-i l = (l.i ≤ length l.toks) × (length l.out ≡ length l.initial.out) × Left l.toks l.i (Relabelled l.initial.out l.out l.i)
-
-abbrev pub decreases-loop-i : goal.decreases-loop-i
-decreases-loop-i l = length l.toks - l.i
+invariant-loop-i l = Left l.toks l.i (Relabelled l.initial.out l.out l.i)

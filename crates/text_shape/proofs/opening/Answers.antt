@@ -1,22 +1,30 @@
-use mathlib.Core.Path.{sym, ◌∙◌}
-use native.Mathlib.Omega.{arith}
-use Rattle.text_shape.proofs.Wholes.{opening_0, not_one, opening_1, not_space, opening_2, not_letter}
+use Rattle.std.proofs.Common.{arith, sym, ◌∙◌}
+use Rattle.text_shape.proofs.Wholes.{not_one, not_space, not_letter}
 use Rattle.text_shape.proofs.opening.Goals as goal
 
-pub returns-then-text-eq0 : goal.returns-then-text-eq0
-returns-then-text-eq0 c = opening_0 _ (omega arith)
+pub returns-in-49-2 : goal.returns-in-49-2
+returns-in-49-2 c = not_letter _ (omega arith) (omega arith) (omega arith) (omega arith) (λ n. absurd (omega arith))
 
-pub returns-then-text-ne49 : goal.returns-then-text-ne49
-returns-then-text-ne49 c = not_one _ (omega arith) c.if-text-ne49.true
+pub returns-in-49-2-2 : goal.returns-in-49-2-2
+returns-in-49-2-2 c = not_letter _ (omega arith) (omega arith) (omega arith) (omega arith) (λ n. sym c.is_letter.ensures ∙ c.if-is_letter.false)
 
-pub returns-then-text-eq1 : goal.returns-then-text-eq1
-returns-then-text-eq1 c = opening_1 _ (omega arith) c.if-text-ne49.false (omega arith)
+pub returns-in-49-3 : goal.returns-in-49-3
+returns-in-49-3 c = not_space _ (omega arith) (omega arith) (λ n e. omega arith)
 
-pub returns-then-text-ne32 : goal.returns-then-text-ne32
-returns-then-text-ne32 c = not_space _ (omega arith) c.if-text-ne49.false (omega arith) c.if-text-ne32.true
+pub returns-in-49-3-2 : goal.returns-in-49-3-2
+returns-in-49-3-2 c = not_space _ (omega arith) (omega arith) (λ n e. omega arith)
 
-pub returns-then-text-eq2 : goal.returns-then-text-eq2
-returns-then-text-eq2 c = opening_2 _ (omega arith) c.if-text-ne49.false (omega arith) c.if-text-ne32.false (omega arith)
+pub returns-in-49-3-3 : goal.returns-in-49-3-3
+returns-in-49-3-3 c = not_space _ (omega arith) (omega arith) (λ n e. omega arith)
 
-pub returns-then-not-is_letter : goal.returns-then-not-is_letter
-returns-then-not-is_letter c = not_letter _ (omega arith) c.if-text-ne49.false (omega arith) c.if-text-ne32.false (omega arith) (sym c.is_letter.ensures ∙ c.if-not-is_letter.true)
+pub returns-in_default : goal.returns-in_default
+returns-in_default c = not_one _ (λ n e. omega arith)
+
+pub returns-in_default-2 : goal.returns-in_default-2
+returns-in_default-2 c = not_one _ (λ n e. omega arith)
+
+pub returns-in_default-3 : goal.returns-in_default-3
+returns-in_default-3 c = not_one _ (λ n e. omega arith)
+
+pub returns-in_default-4 : goal.returns-in_default-4
+returns-in_default-4 c = not_one _ (λ n e. omega arith)
