@@ -14,7 +14,6 @@ use call_checks::Lent;
 use spec_calls::{Answer, Refusal};
 use spec_orders::Layout;
 use table_book::Checked;
-use text_read::Read;
 
 // Writes the text of a tree in form and zeros up to 2,048 bytes; says how long the text is.
 fn fill(toks: &[u16], bytes: &mut [u8]) -> usize
@@ -63,8 +62,8 @@ pub fn read(
     let mut toks = [0u16; 512];
     let found = text_read::read_text(text, spec_orders::leaf_count(layout, n), &mut toks);
     match found {
-        Read::Refused(byte) => Answer::Refused(Refusal::TreeText(byte)),
-        Read::Tree(k) => {
+        Err(byte) => Answer::Refused(Refusal::TreeText(byte)),
+        Ok(k) => {
             table_store::store(&toks[0..k], nodes);
             table_book::clear(book);
             Answer::Done(0)

@@ -6,12 +6,12 @@ use Prim.Native.Nat.{ℕ, ◌+◌, ◌*◌, ◌-◌, ◌≤◌, ◌<◌}
 use native.Mathlib.Omega.{arith}
 use lib.ListN.{length, drop, get_or, set, length-set}
 use lib.Seq.{get_or-set_other}
-use Rattle.spec_orders.specs.Tree.{Forest, nil, leaf}
+use Rattle.spec_orders.specs.Tree.{nil, leaf}
 use Rattle.spec_orders.specs.TreeText.{digits}
 use Rattle.spec_orders.proofs.Digits.{digits-one}
 use Rattle.tree_tokens.specs.Tokens.{leaf_token, encode, Wrote, flat}
 use Rattle.tree_tokens.proofs.Writes.{wrote_one}
-use Rattle.text_scanner.specs.Scan.{TextState, due, num, need, letter?, run_at, refused}
+use Rattle.text_scanner.specs.Scan.{due, num, letter?, run_at}
 use Rattle.text_scanner.specs.Unused.{unused, any_start}
 use Rattle.text_scanner.proofs.Numbers.{first_digit, not_first, unused-set}
 use Rattle.text_scanner.proofs.Moves.{due_number, due_none}

@@ -16,7 +16,7 @@ use Rattle.tree_tokens.specs.Tokens.{E, plain, node_token, Wrote, flat}
 use Rattle.tree_tokens.proofs.Laws.{encode_node}
 use Rattle.tree_tokens.proofs.Sequences.{encode-append, plain-append}
 use Rattle.tree_tokens.proofs.Writes.{wrote_then, wrote_head}
-use Rattle.text_scanner.specs.Scan.{open_due, due, after, need, letter?, run_at, refused}
+use Rattle.text_scanner.specs.Scan.{open_due, due, after, need, letter?, run_at}
 use Rattle.text_scanner.specs.Unused.{unused}
 use Rattle.text_scanner.proofs.Language.{more_text}
 use Rattle.text_scanner.proofs.Moves.{at_end, due_node, due_few, open_byte, open_bad, after_space, after_few, after_other, after_short, close_inner}

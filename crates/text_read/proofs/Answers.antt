@@ -3,7 +3,7 @@ use mathlib.Core.Path.{◌≡◌, ◌∙◌, ap}
 use mathlib.Core.List.{List, [], ◌∷◌}
 use Prim.Native.Nat.{ℕ, ◌*◌, ◌-◌, ◌≤◌}
 use native.Mathlib.Omega.{arith}
-use lib.ListN.{length, take, drop}
+use lib.ListN.{length, take}
 use Rattle.spec_orders.specs.Tree.{C}
 use Rattle.spec_orders.specs.ThreeNeighbours.{relabel}
 use Rattle.spec_orders.specs.TreeText.{tree_text, tree, refused, Reads, no_shape}

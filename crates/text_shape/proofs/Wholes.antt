@@ -1,6 +1,6 @@
 -- The whole text: one word, or the root and nothing after it.
 use mathlib.Core.Path.{◌≡◌, refl, sym, ◌∙◌, ap, ap₂}
-use mathlib.Core.Bool.{true, false}
+use mathlib.Core.Bool.{false}
 use mathlib.Core.List.{List, [], ◌∷◌, ◌++◌}
 use Prim.Native.Nat.{ℕ, zero, suc, ◌+◌, ◌-◌, ◌≤◌, ◌<◌}
 use native.Mathlib.Omega.{arith}
@@ -20,7 +20,7 @@ use Rattle.text_scanner.proofs.Exact.{others-length, refused_shape, accepted_sha
 use Rattle.std.specs.Prelude.{Result, Ok, Err}
 use Rattle.text_leaf.specs.declared.Reached.{Reached}
 use Rattle.text_leaf.specs.Passages.{Marks, Stops, OpenedRead, kind_of_letter}
-use Rattle.text_shape.specs.Texts.{TextBegins, Opening, Whole, WholeRead, ShapeRead}
+use Rattle.text_shape.specs.Texts.{TextBegins, Whole, WholeRead, ShapeRead}
 use Rattle.text_number.proofs.Numerals.{drop-step}
 use Rattle.text_node.proofs.Nodes.{letter_kind, node_wrote}
 

@@ -1,6 +1,6 @@
 use Rattle.std.proofs.Common.{arith, sym, ◌∙◌, ap, ◌+◌}
 use Rattle.std.proofs.lemmas.Result.{err_from_is_err_and}
-use Rattle.text_node.proofs.Nodes.{letter_there, item_ends, item_few, item_stops, item_node, items_end, items_few, items_stops, items_read, items_other, items_short, items_closed, opened_ends, opened_bad, opened_read}
+use Rattle.text_node.proofs.Nodes.{letter_there, item_ends, item_few, item_stops, item_node, items_end, items_few, items_stops, items_read, items_other, items_short, opened_ends, opened_bad, opened_read}
 use Rattle.text_node.proofs.+item_items_opened.Goals.{opened-then-at-text-via-then-at-text, opened-then-at-text-via-else-at-text+then-text-at-ne40}
 use Rattle.text_node.proofs.+item_items_opened.Goals as goal
 
@@ -55,7 +55,7 @@ items-returns-in_default-b-3 t c =
 pub opened-returns-then-at-text : goal.opened-returns-then-at-text
 opened-returns-then-at-text t c = (
   elim c.then-at-text.branch [
-    opened-then-at-text-via-then-at-text w ↦ opened_ends c.args.text.now c.args.at c.args.want c.args.many c.args.used.now w.if-at-text.true
+    | opened-then-at-text-via-then-at-text w ↦ opened_ends c.args.text.now c.args.at c.args.want c.args.many c.args.used.now w.if-at-text.true
     | opened-then-at-text-via-else-at-text+then-text-at-ne40 w ↦ opened_bad c.args.text.now c.args.at c.args.want c.args.many c.args.used.now w.if-at-text.false w.if-text-at-ne40.true
   ],
   tt,

@@ -1,6 +1,3 @@
-use mathlib.Core.Path.{◌≡◌}
-use Prim.Native.Nat.{◌-◌, ◌≤◌}
-use lib.ListN.{length}
 use Rattle.tree_tokens.proofs.Steps.{Left}
 use Rattle.text_read.proofs.Relabelling.{Relabelled}
 use Rattle.text_read.proofs.relabel.Given as goal

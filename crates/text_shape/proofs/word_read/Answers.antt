@@ -5,7 +5,7 @@ use Rattle.text_shape.proofs.word_read.Goals as goal
 
 pub returns-then-i-text : goal.returns-then-i-text
 returns-then-i-text c = elim c.then-i-text.branch [
-  then-i-text-via-then-i-text w ↦ word_ends _ _ _ c.loop-i.invariant c.loop-i-test.true w.if-i-text.true
+  | then-i-text-via-then-i-text w ↦ word_ends _ _ _ c.loop-i.invariant c.loop-i-test.true w.if-i-text.true
   | then-i-text-via-else-i-text+then-text-i w ↦ word_differs _ _ _ c.loop-i.invariant c.loop-i-test.true w.if-i-text.false w.if-text-i.true
 ]
 
