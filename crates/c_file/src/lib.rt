@@ -5,8 +5,6 @@ ghost use Rattle.std.specs.Prelude.{◌≡◌, [], ◌∷◌, ◌≤◌, length}
 ghost use Rattle.tree_tokens.specs.Tokens.{Wrote};
 ghost use Rattle.file_read.specs.RingFile.{name_in, name_start, group_for, Says};
 
-use file_read::Scanned;
-
 // Reads a ring file. The value is how many names it has; the names line's bytes and the count of value lines are written too. Refused, with
 // 11: the value is the byte, and the other two are 0.
 #[unsafe(no_mangle)]
@@ -18,19 +16,14 @@ pub extern "C" fn tokuwhape_scan(
 ) -> u8
     ensures { Says file.now (result ∷ value.new ∷ head.new ∷ lines.new ∷ []) }
 {
-    let found = file_read::scan(file);
-    match found {
-        Scanned::Ring {
-            names,
-            head: bytes,
-            lines: groups,
-        } => {
-            *value = names;
-            *head = bytes;
-            *lines = groups;
+    match file_read::scan(file) {
+        Ok(found) => {
+            *value = found.names;
+            *head = found.head;
+            *lines = found.lines;
             0
         }
-        Scanned::Refused(refusal) => {
+        Err(refusal) => {
             *value = spec_calls::place(refusal);
             *head = 0;
             *lines = 0;

@@ -1,17 +1,19 @@
 -- The cursor in the names line.
-use mathlib.Core.Path.{◌≡◌, sym, ◌∙◌, ap, ap₂, subst}
+use mathlib.Core.Path.{◌≡◌, refl, sym, ◌∙◌, ap, ap₂, subst}
 use mathlib.Core.Bool.{Bool, true, false, cond, ◌&&◌}
+use Rattle.std.specs.Prelude.{Option}
+use Rattle.std.specs.Bool.{then_some}
 use mathlib.Core.List.{List, [], ◌∷◌, ◌++◌, append_assoc}
-use Prim.Native.Nat.{ℕ, suc, ◌+◌, ◌-◌, ◌≤◌, ◌<◌}
+use Prim.Native.Nat.{ℕ, suc, ◌+◌, ◌-◌, ◌<◌}
 use native.Mathlib.Omega.{arith}
 use lib.Dec.{eqb, ltb}
 use lib.ListN.{length, length-append, length-take, take, drop, get_or, take-append-drop}
 use lib.Seq.{take_at, drop_at, drop-cons}
-use borrow.Author.Tests.{ne_eqb, lt-ltb, le-ltb}
+use borrow.Author.Tests.{ne_eqb}
 use Rattle.spec_orders.specs.Lists.{elem}
 use Rattle.file_syntax.specs.RingFile.{alphabet, line}
 use Rattle.file_syntax.specs.Words.{spaced}
-use Rattle.file_syntax.specs.Scanner.{is_new, room, naming, due, Sort, letter, space, end, other, sort, when, on_name, file_step, Naming}
+use Rattle.file_syntax.specs.Scanner.{is_new, room, FileState, naming, due, Sort, letter, space, end, other, sort, when, on_name, file_step}
 use Rattle.file_cursor.specs.Cursors.{CursorStands, Stepped}
 use Rattle.file_cursor.specs.declared.Cursor.{Cursor}
 use Rattle.file_syntax.proofs.Reached.{spaced_snoc, line-parts}
@@ -28,8 +30,8 @@ module _ (x : List ℕ) (at : ℕ) (ns : List (List ℕ)) (w : List ℕ) (start 
   after : drop start x ≡ w ++ (get_or x at 0 ∷ drop (suc at) x)
   after = ap (λ l. drop start l) split ∙ drop_at (spaced ns) (w ++ (get_or x at 0 ∷ drop (suc at) x)) start (sym from)
 
-  pub earlier : take (start - 0) (drop 0 x) ≡ spaced ns
-  earlier = ap (λ l. take (start - 0) l) split ∙ take_at (spaced ns) (w ++ (get_or x at 0 ∷ drop (suc at) x)) (start - 0) (omega arith)
+  pub earlier : take start x ≡ spaced ns
+  earlier = ap (λ l. take start l) split ∙ take_at (spaced ns) (w ++ (get_or x at 0 ∷ drop (suc at) x)) start (omega arith)
 
   pub begun_word : take (at - start) (drop start x) ≡ w
   begun_word = ap (λ l. take (at - start) l) after ∙ take_at w (get_or x at 0 ∷ drop (suc at) x) (at - start) (omega (arith, whole_at))
@@ -65,39 +67,35 @@ pub sort_is_end : (b : ℕ) → b ≡ 10 → sort b ≡ end
 unfolding alphabet
 sort_is_end b e = ap sort e
 
-module _ (c : Cursor) (ns : List (List ℕ)) (w : List ℕ) (b : ℕ) where
-  by_sort : (k : Sort) → sort b ≡ k → Stepped c (on_name k ns w b) → Stepped c (file_step (naming ns w) b)
-  by_sort k e h = subst (λ s. Stepped c (on_name s ns w b)) (sym e) h
+-- The cursor and the state of a step that goes on where t holds.
+pub stepped_when : (c : Cursor) (s : FileState) (t u : Bool) → t ≡ u → CursorStands c s → Stepped (then_some t c) (when u s)
+stepped_when c s true true e q = q
+stepped_when c s true false e q = cc
+stepped_when c s false true e q = cc
+stepped_when c s false false e q = tt
 
-  pub name_goes : elem alphabet b ≡ true → true ≡ room ns (w ++ (b ∷ [])) → CursorStands c (naming ns (w ++ (b ∷ []))) → Stepped c (file_step (naming ns w) b)
-  name_goes h r q = by_sort letter (sort_is_letter b h) (subst (λ t. Stepped c (when t (naming ns (w ++ (b ∷ []))))) r q)
+-- The test of the number of names, behind that of a new one.
+pub few_yet : (a b : Bool) → b ≡ true → a ≡ a && b
+few_yet true b e = sym e
+few_yet false b e = refl
 
-  pub name_full : elem alphabet b ≡ true → false ≡ room ns (w ++ (b ∷ [])) → c.phase ≡ 3 → Stepped c (file_step (naming ns w) b)
-  name_full h r q = by_sort letter (sort_is_letter b h) (subst (λ t. Stepped c (when t (naming ns (w ++ (b ∷ []))))) r q)
+pub too_many : (a b : Bool) → b ≡ false → false ≡ a && b
+too_many true b e = sym e
+too_many false b e = refl
 
-  pub space_goes : b ≡ 32 → true ≡ is_new ns w → length ns < 255 → CursorStands c (naming (ns ++ (w ∷ [])) []) → Stepped c (file_step (naming ns w) b)
-  space_goes e r f q =
-      by_sort space (sort_is_space b e) (subst (λ t. Stepped c (when t (naming (ns ++ (w ∷ [])) []))) (sym (ap (λ t. t && ltb (length ns) 255) (sym r) ∙ lt-ltb (length ns) 255 f)) q)
+module _ (r : Option Cursor) (ns : List (List ℕ)) (w : List ℕ) (b : ℕ) where
+  by_sort : (k : Sort) → sort b ≡ k → Stepped r (on_name k ns w b) → Stepped r (file_step (naming ns w) b)
+  by_sort k e h = subst (λ s. Stepped r (on_name s ns w b)) (sym e) h
 
-  pub space_old : b ≡ 32 → false ≡ is_new ns w → c.phase ≡ 3 → Stepped c (file_step (naming ns w) b)
-  space_old e r q =
-      by_sort space (sort_is_space b e) (subst (λ t. Stepped c (when t (naming (ns ++ (w ∷ [])) []))) (ap (λ t. t && ltb (length ns) 255) r) q)
+  module _ (c : Cursor) (t : Bool) (e : r ≡ then_some t c) where
+    pub name_letter : elem alphabet b ≡ true → t ≡ room ns (w ++ (b ∷ [])) → CursorStands c (naming ns (w ++ (b ∷ []))) → Stepped r (file_step (naming ns w) b)
+    name_letter h f q = by_sort letter (sort_is_letter b h) (rw e (stepped_when c _ t (room ns (w ++ (b ∷ []))) f q))
 
-  pub space_many : b ≡ 32 → 255 ≤ length ns → c.phase ≡ 3 → Stepped c (file_step (naming ns w) b)
-  space_many e f q = by_sort space (sort_is_space b e) (go (is_new ns w))
-    where
-      go : (t : Bool) → Stepped c (when (t && ltb (length ns) 255) (naming (ns ++ (w ∷ [])) []))
-      go true = subst (λ t. Stepped c (when t (naming (ns ++ (w ∷ [])) []))) (sym (le-ltb (length ns) 255 f)) q
-      go false = q
+    pub name_space : b ≡ 32 → t ≡ is_new ns w && ltb (length ns) 255 → CursorStands c (naming (ns ++ (w ∷ [])) []) → Stepped r (file_step (naming ns w) b)
+    name_space h f q = by_sort space (sort_is_space b h) (rw e (stepped_when c _ t (is_new ns w && ltb (length ns) 255) f q))
 
-  pub end_goes : b ≡ 10 → true ≡ is_new ns w → CursorStands c (due (ns ++ (w ∷ [])) [] []) → Stepped c (file_step (naming ns w) b)
-  end_goes e r q = by_sort end (sort_is_end b e) (subst (λ t. Stepped c (when t (due (ns ++ (w ∷ [])) [] []))) r q)
+    pub name_end : b ≡ 10 → t ≡ is_new ns w → CursorStands c (due (ns ++ (w ∷ [])) [] []) → Stepped r (file_step (naming ns w) b)
+    name_end h f q = by_sort end (sort_is_end b h) (rw e (stepped_when c _ t (is_new ns w) f q))
 
-  pub end_old : b ≡ 10 → false ≡ is_new ns w → c.phase ≡ 3 → Stepped c (file_step (naming ns w) b)
-  end_old e r q = by_sort end (sort_is_end b e) (subst (λ t. Stepped c (when t (due (ns ++ (w ∷ [])) [] []))) r q)
-
-  pub name_odd : elem alphabet b ≡ false → (b ≡ 32 → ⊥) → (b ≡ 10 → ⊥) → c.phase ≡ 3 → Stepped c (file_step (naming ns w) b)
-  name_odd h k l q = by_sort other (sort_is_other b h k l) q
-
-  pub end_many : Naming ns w → (n : ℕ) → n ≡ length ns → 256 ≤ n → Stepped c (file_step (naming ns w) b)
-  end_many k n e h = absurd (omega (arith, k.few))
+    pub name_odd : elem alphabet b ≡ false → (b ≡ 32 → ⊥) → (b ≡ 10 → ⊥) → t ≡ false → Stepped r (file_step (naming ns w) b)
+    name_odd h k l f = by_sort other (sort_is_other b h k l) (rw (e, f) tt)

@@ -1,134 +1,126 @@
 // Where a scan of the ring file stands, and what one byte more leads to.
 #![tactic(auto)]
 
-ghost use Rattle.std.specs.Prelude.{◌≡◌, List, ◌++◌, ℕ, ◌+◌, ◌≤◌, ◌<◌, length, take, get_or};
+ghost use Rattle.std.specs.Prelude.{◌≡◌, List, ◌++◌, ℕ, ◌+◌, ◌≤◌, ◌<◌, length, take, get_or, IfSome, IsTrue, ◌↔◌};
 ghost use Rattle.file_syntax.specs.RingFile.{Value};
 ghost use Rattle.file_syntax.specs.Words.{spaced};
-ghost use Rattle.file_syntax.specs.Scanner.{naming, due, got, file_step, Naming};
+ghost use Rattle.file_syntax.specs.Scanner.{naming, due, got, file_start, file_step, Naming};
 ghost use Rattle.file_cursor.specs.Cursors.{CursorStands, Stepped, Advances, CursorWithin};
 
-// Where the scanner stands. phase: 0 in the names line, 1 a value is due, 2 after a value, 3 refused. names: whole names.
-// start: where the begun name starts; after the names line, its length. got: whole values of the line. lines: whole value lines.
+// What the next byte belongs to: the names line, a value, or the separator after a value.
+#[derive(Clone, Copy)]
+pub enum Phase {
+    Names,
+    Due,
+    Got,
+}
+
+// Where the scanner stands. names: whole names. start: where the begun name starts; after the names line, its length. got: whole values of the
+// line. lines: whole value lines.
 #[derive(Clone, Copy)]
 pub struct Cursor {
-    pub phase: u8,
+    pub phase: Phase,
     pub names: usize,
     pub start: usize,
     pub got: usize,
     pub lines: usize,
 }
 
-// The cursor in this phase, before any value; phase 3 with zeros is that of a refusal.
-pub fn at_phase(phase: u8, names: usize, start: usize) -> Cursor
-    ensures { (result.phase ≡ phase) × (result.names ≡ names) × (result.start ≡ start) × (result.got ≡ 0) × (result.lines ≡ 0) }
-{
-    Cursor {
-        phase: phase,
-        names: names,
-        start: start,
-        got: 0,
-        lines: 0,
+impl Cursor {
+    // The cursor before the first byte.
+    pub fn start() -> Cursor
+        ensures cursor_within { CursorWithin result 0 }
+        ensures stands { CursorStands result file_start }
+    {
+        Cursor {
+            phase: Phase::Names,
+            names: 0,
+            start: 0,
+            got: 0,
+            lines: 0,
+        }
     }
-}
 
-// The cursor after byte number `at`, in the names line.
-fn on_name(file: &[u8], at: usize, names: usize, start: usize) -> Cursor
-    requires { (at < length file.now) × (start ≤ at) × (names ≤ 256) }
-    ensures cursor_within { CursorWithin result (at + 1) }
-    ensures by_index { (ns : List (List ℕ)) (w : List ℕ) → Naming ns w → take at file.now ≡ spaced ns ++ w
-        → names ≡ length ns → start ≡ length (spaced ns) → Stepped result (file_step (naming ns w) (get_or file.now at 0)) }
-{
-    let b = file[at];
-    let next = at + 1;
-    if file_words::letter(b) {
-        if file_words::has_room(&file[0..start], &file[start..next]) {
-            return at_phase(0, names, start);
-        }
-        return at_phase(3, 0, 0);
+    // Whether the file may end here: after the names line, with no line of values begun.
+    pub fn may_end(self) -> bool
+        ensures { IsTrue result ↔ (self.phase ≡ Phase.Due) × (self.got ≡ 0) }
+    {
+        matches!(self.phase, Phase::Due) && self.got == 0
     }
-    if b == 32 {
-        if 255 <= names {
-            return at_phase(3, 0, 0);
-        }
-        if file_words::is_new(&file[0..start], &file[start..at]) {
-            return at_phase(0, names + 1, next);
-        }
-        return at_phase(3, 0, 0);
-    }
-    if b == 10 {
-        if 256 <= names {
-            return at_phase(3, 0, 0);
-        }
-        if file_words::is_new(&file[0..start], &file[start..at]) {
-            return at_phase(1, names + 1, next);
-        }
-        return at_phase(3, 0, 0);
-    }
-    at_phase(3, 0, 0)
-}
 
-// The cursor after the byte b, number `at`, where a value is due.
-fn on_value(b: u8, at: usize, c: Cursor) -> Cursor
-    requires { CursorWithin c at }
-    ensures cursor_within { CursorWithin result (at + 1) }
-    ensures by_index { (ns : List (List ℕ)) (vss : List (List Value)) (vs : List Value) → CursorStands c (due ns vss vs)
-        → Stepped result (file_step (due ns vss vs) b) }
-{
-    let mut next = c;
-    next.phase = 2;
-    match b {
-        48 => next,
-        49 => next,
-        45 => next,
-        _ => at_phase(3, 0, 0),
-    }
-}
-
-// The cursor after the byte b, number `at`, where a value was read.
-fn on_got(b: u8, at: usize, c: Cursor) -> Cursor
-    requires { (CursorWithin c at) × (at < 65536) }
-    ensures cursor_within { CursorWithin result (at + 1) }
-    ensures by_index { (ns : List (List ℕ)) (vss : List (List Value)) (vs : List Value) (v : Value) → CursorStands c (got ns vss vs v)
-        → Stepped result (file_step (got ns vss vs v) b) }
-{
-    let more = c.got + 1;
-    let names = c.names;
-    let mut next = c;
-    next.phase = 1;
-    if b == 32 {
-        if more < names {
-            next.got = more;
-            return next;
+    // The cursor after byte number `at`. None: no accepted file goes on so.
+    pub fn advance(self, file: &[u8], at: usize) -> Option<Cursor>
+        requires { (CursorWithin self at) × (at < length file.now) × (length file.now ≤ 65536) }
+        ensures cursor_within { IfSome result (λ r. CursorWithin r (at + 1)) }
+        ensures advances { Advances file.now at self result }
+    {
+        match self.phase {
+            Phase::Names => self.on_name(file, at),
+            Phase::Due => self.on_value(file[at]),
+            Phase::Got => self.on_got(file[at]),
         }
-        return at_phase(3, 0, 0);
     }
-    if b == 10 {
-        if more == names {
-            next.got = 0;
-            next.lines = c.lines + 1;
-            return next;
-        }
-        return at_phase(3, 0, 0);
-    }
-    at_phase(3, 0, 0)
-}
 
-// The cursor after byte number `at`.
-pub fn advance(file: &[u8], at: usize, c: Cursor) -> Cursor
-    requires { (CursorWithin c at) × (at < length file.now) × (length file.now ≤ 65536) }
-    ensures cursor_within { CursorWithin result (at + 1) }
-    ensures advances { Advances file.now at c result }
-{
-    let phase = c.phase;
-    if phase == 0 {
-        return on_name(file, at, c.names, c.start);
+    // The cursor after byte number `at`, in the names line.
+    fn on_name(self, file: &[u8], at: usize) -> Option<Cursor>
+        requires { (CursorWithin self at) × (at < length file.now) }
+        ensures cursor_within { IfSome result (λ r. CursorWithin r (at + 1)) }
+        ensures by_index { (ns : List (List ℕ)) (w : List ℕ) → Naming ns w → take at file.now ≡ spaced ns ++ w → CursorStands self (naming ns w)
+            → Stepped result (file_step (naming ns w) (get_or file.now at 0)) }
+    {
+        let whole = &file[..self.start];
+        let begun = &file[self.start..at];
+        match file[at] {
+            b' ' => (self.names < 255 && file_words::is_new(whole, begun)).then_some(Cursor {
+                names: self.names + 1,
+                start: at + 1,
+                ..self
+            }),
+            b'\n' => (self.names < 256 && file_words::is_new(whole, begun)).then_some(Cursor {
+                phase: Phase::Due,
+                names: self.names + 1,
+                start: at + 1,
+                got: 0,
+                lines: 0,
+            }),
+            b => (file_words::letter(b)
+                && file_words::has_room(whole, &file[self.start..at + 1])).then_some(self),
+        }
     }
-    let b = file[at];
-    if phase == 1 {
-        return on_value(b, at, c);
+
+    // The cursor after the byte b, where a value is due.
+    fn on_value(self, b: u8) -> Option<Cursor>
+        ensures cursor_within { IfSome result (λ r. (r.start ≡ self.start) × (r.names ≡ self.names) × (r.got ≡ self.got) × (r.lines ≡ self.lines)) }
+        ensures by_index { (ns : List (List ℕ)) (vss : List (List Value)) (vs : List Value) → CursorStands self (due ns vss vs)
+            → Stepped result (file_step (due ns vss vs) b) }
+    {
+        matches!(b, b'0' | b'1' | b'-').then_some(Cursor {
+            phase: Phase::Got,
+            ..self
+        })
     }
-    if phase == 2 {
-        return on_got(b, at, c);
+
+    // The cursor after the byte b, where a value was read.
+    fn on_got(self, b: u8) -> Option<Cursor>
+        requires { (self.got ≤ 256) × (self.names ≤ 256) × (self.lines < 65536) }
+        ensures cursor_within { IfSome result (λ r. (r.start ≡ self.start) × (r.names ≡ self.names) × (r.got ≤ 256) × (r.lines ≤ self.lines + 1)) }
+        ensures by_index { (ns : List (List ℕ)) (vss : List (List Value)) (vs : List Value) (v : Value) → CursorStands self (got ns vss vs v)
+            → Stepped result (file_step (got ns vss vs v) b) }
+    {
+        let more = self.got + 1;
+        match b {
+            b' ' => (more < self.names).then_some(Cursor {
+                phase: Phase::Due,
+                got: more,
+                ..self
+            }),
+            b'\n' => (more == self.names).then_some(Cursor {
+                phase: Phase::Due,
+                got: 0,
+                lines: self.lines + 1,
+                ..self
+            }),
+            _ => None,
+        }
     }
-    at_phase(3, 0, 0)
 }

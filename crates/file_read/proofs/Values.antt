@@ -15,7 +15,7 @@ use Rattle.spec_orders.proofs.Tests.{and_both, false_if, cond_cases}
 use Rattle.spec_orders.proofs.Numbers.{those_agree}
 use Rattle.spec_orders.proofs.ListLaws.{none_of_length, all_at}
 use Rattle.file_syntax.proofs.FirstLine.{words_file}
-use Rattle.file_read.specs.RingFile.{Value, off, on, hyphen, value_byte, in_group, value_word, further, line, value_lines, leaves_on, Rules, FileHolds, place_of, words_in, name_in, name_start, line_in, value_in, group_in}
+use Rattle.file_read.specs.RingFile.{Name, Value, off, on, hyphen, value_byte, in_group, value_word, further, line, value_lines, leaves_on, Rules, FileHolds, place_of, words_in, name_in, name_start, line_in, value_in, group_in}
 
 -- The values.
 length-values : (vs : List Value) → 1 ≤ length vs → length (line (map value_word vs)) ≡ 2 * length vs
@@ -151,6 +151,10 @@ module _ {x : List ℕ} {n h k : ℕ} (f : FileHolds x n h k) where
   pub name_held : (i : ℕ) → name_in x i ≡ get_or f.ns i []
   unfolding name_in
   name_held i = ap (λ ws. get_or ws i []) names_held
+
+  -- A name has at most 8 bytes.
+  pub name_few : (i : ℕ) → i < n → length (get_or f.ns i []) ≤ 8
+  name_few i l = (all_at Name [] f.ns i f.rules.names.each (omega (arith, f.leaves))).few_bytes
 
   pub start_held : (i : ℕ) → i < n → name_start x i ≡ place_of f.ns i
   unfolding name_start

@@ -1,1 +1,2 @@
 pub mod RingFile
+pub mod Reach

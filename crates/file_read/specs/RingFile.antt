@@ -1,8 +1,8 @@
 -- What is said of a file. The ring file itself is defined in `file_syntax/specs/RingFile`, whose names are passed on here.
-use Rattle.std.specs.Prelude.{ℕ, ◌≤◌, ◌<◌, List, [], ◌∷◌, length}
+use Rattle.std.specs.Prelude.{ℕ, ◌≤◌, ◌<◌, List, [], ◌∷◌, length, Result, Ok, Err}
 use Rattle.spec_calls.specs.Refusals.{reported}
-use Rattle.file_read.specs.declared.Scanned.{Scanned}
-use Rattle.file_read.specs.declared.Scanned.TheVariants.{Ring, Refused}
+use Rattle.spec_calls.specs.declared.Refusal.{Refusal}
+use Rattle.file_read.specs.declared.ring_file.RingFile.{RingFile}
 unfoldable pub use Rattle.file_syntax.specs.RingFile.{alphabet, leaves_on, name_in, name_start, line_in, value_in, group_in, group_for}
 pub use Rattle.file_syntax.specs.RingFile.{NameByte, Name, Names, Value, off, on, hyphen, value_byte, in_group, value_word, further, line, value_lines, file_bytes, Rules, place_of, Accepted, FileRefused, FileHolds, words_in}
 
@@ -14,6 +14,9 @@ pub data Says (x : List ℕ) : List ℕ → Type 0 where
   malformed : {p : ℕ} → length x ≤ 65536 → FileRefused x p → Says x (11 ∷ p ∷ 0 ∷ 0 ∷ [])
 
 -- The four numbers of each answer.
-abbrev pub told : Scanned → List ℕ
-told (Ring names head lines) = 0 ∷ names ∷ head ∷ lines ∷ []
-told (Refused why) = (reported why).number ∷ (reported why).value ∷ 0 ∷ 0 ∷ []
+abbrev pub told_of : Refusal → List ℕ
+told_of why = (reported why).number ∷ (reported why).value ∷ 0 ∷ 0 ∷ []
+
+abbrev pub told : Result RingFile Refusal → List ℕ
+told (Ok file) = 0 ∷ file.names ∷ file.head ∷ file.lines ∷ []
+told (Err why) = told_of why

@@ -1,24 +1,18 @@
 // The ring file: whether it is accepted, and its names and groups, read where they stand.
 #![tactic(auto)]
 
-ghost use Rattle.std.specs.Prelude.{◌≡◌, ◌+◌, ◌≤◌, length};
+ghost use Rattle.std.specs.Prelude.{◌≡◌, ◌+◌, ◌≤◌, length, IfOk, MatchResult};
 ghost use Rattle.tree_tokens.specs.Tokens.{Wrote};
-ghost use Rattle.file_read.specs.RingFile.{name_in, name_start, line_in, value_in, group_for, Says, told};
+ghost use Rattle.file_read.specs.RingFile.{name_in, name_start, line_in, value_in, group_for, Says, told, told_of};
+ghost use Rattle.file_read.specs.Reach.{CursorReaches};
 
+mod ring_file;
+
+use file_cursor::Cursor;
+pub use ring_file::RingFile;
 use spec_calls::Refusal;
 
-// What a file holds: a ring of `names` leaves, a names line of `head` bytes, and `lines` lines of values; or why it is refused.
-#[derive(Drop)]
-pub enum Scanned {
-    Ring {
-        names: usize,
-        head: usize,
-        lines: usize,
-    },
-    Refused(Refusal),
-}
-
-// A part of a file: its first byte, and how many bytes it has.
+// A part of a file: its first byte, and how many bytes it has. Two numbers, since the C interface hands them out.
 #[derive(Drop)]
 pub struct Part {
     pub start: usize,
@@ -26,36 +20,38 @@ pub struct Part {
 }
 
 // Reads the file: what it holds, or the byte at which it is refused.
-pub fn scan(file: &[u8]) -> Scanned
-    ensures { Says file.now (told result) }
+pub fn scan(file: &[u8]) -> Result<RingFile<'_>, Refusal>
+    ensures says { Says file.now (told result) }
+    ensures bytes { IfOk result (λ f. f.bytes.now ≡ file.now) }
 {
-    let n = file.len();
-    if 65536 < n {
-        return Scanned::Refused(Refusal::RingFile(65536));
+    if 65536 < file.len() {
+        return Err(Refusal::RingFile(65536));
     }
-    let mut c = file_cursor::at_phase(0, 0, 0);
-    let mut i = 0;
-    while i < n {
-        c = file_cursor::advance(file, i, c);
-        let phase = c.phase;
-        if phase == 3 {
-            return Scanned::Refused(Refusal::RingFile(i));
-        }
-        i += 1;
+    let cursor = run(file)?;
+    if !cursor.may_end() {
+        return Err(Refusal::RingFile(file.len()));
     }
-    let last = c.phase;
-    if last != 1 {
-        return Scanned::Refused(Refusal::RingFile(i));
+    Ok(RingFile {
+        bytes: file,
+        names: cursor.names,
+        head: cursor.start,
+        lines: cursor.lines,
+    })
+}
+
+// The cursor after the whole file, or the byte at which the file is refused.
+fn run(file: &[u8]) -> Result<Cursor, Refusal>
+    requires { length file.now ≤ 65536 }
+    ensures { MatchResult result (λ c. CursorReaches file.now (length file.now) c) (λ why. Says file.now (told_of why)) }
+{
+    let mut cursor = Cursor::start();
+    for at in 0..file.len() {
+        let Some(next) = cursor.advance(file, at) else {
+            return Err(Refusal::RingFile(at));
+        };
+        cursor = next;
     }
-    let got = c.got;
-    if got != 0 {
-        return Scanned::Refused(Refusal::RingFile(i));
-    }
-    Scanned::Ring {
-        names: c.names,
-        head: c.start,
-        lines: c.lines,
-    }
+    Ok(cursor)
 }
 
 // Where name number k, from 0, stands: word number k of the first line. 0 and 0 where there is no such word.
@@ -120,7 +116,7 @@ pub fn value_of(file: &[u8], names: usize, head: usize, l: usize, i: usize) -> b
     if values.len() <= 2 * i {
         return false;
     }
-    values[2 * i] == 49
+    values[2 * i] == b'1'
 }
 
 // Writes the group of value line l, from 0, in a file with so many names, at most 256, and a names line of head bytes, to the start of the list: its
@@ -137,12 +133,9 @@ pub fn group_of(file: &[u8], names: usize, head: usize, l: usize, list: &mut [u1
         return 0;
     }
     let mut k = 0;
-    let mut leaf = 0;
-    while leaf < names {
-        let value = values[2 * leaf];
-        leaf += 1;
-        if value == 49 {
-            list[k] = leaf as u16;
+    for leaf in 0..names {
+        if values[2 * leaf] == b'1' {
+            list[k] = leaf as u16 + 1;
             k += 1;
         }
     }

@@ -6,3 +6,4 @@ pub mod Steps
 pub mod Reached
 pub mod Complete
 pub mod Exact
+pub mod Once
