@@ -17,10 +17,8 @@ use Rattle.tree_tokens.proofs.Sequences.{tree_plain}
 use Rattle.tree_tokens.proofs.Writes.{read_part}
 use Rattle.list_bytes.specs.Appends.{Appends}
 use Rattle.list_bytes.proofs.Laws.{appends_then}
-use Rattle.file_read.specs.declared.Scanned.{Scanned}
-use Rattle.file_read.specs.declared.Scanned.TheVariants.{Ring, Refused}
-use Rattle.file_read.specs.RingFile.{Value, leaves_on, Accepted, FileRefused, FileHolds, Says, told}
-use Rattle.file_read.proofs.Answers.{ring_holds, refused_at}
+use Rattle.file_read.specs.RingFile.{Value, leaves_on, Accepted, FileRefused, FileHolds, Says, told_of}
+use Rattle.file_read.proofs.Answers.{refused_at}
 use Rattle.spec_orders.proofs.FirstByte.{not_refused, refused_once}
 use Rattle.file_syntax.proofs.Exact.{parts_once}
 use Rattle.spec_listing.specs.Listing.{RingState, opened, run, state_at, listing, error_line, Lists, accepted, too_long, malformed}
@@ -78,24 +76,19 @@ error_part byte {old = old} z h p q e =
     rw z (whole_part ls 0 (omega arith) (omega arith) (shown_more ls 0 0 (omega arith) (omega arith) (shown_none ls 0 old) (appends_then p q) e))
 
 -- What the scan says, and what is printed.
-module _ {x : List ℕ} {r : Scanned} (s : Says x (told r)) where
-  pub found_ring : {n h l : ℕ} → r ≡ Ring n h l → FileHolds x n h l
-  found_ring e = ring_holds (subst (λ (q : Scanned). Says x (told q)) e s)
+pub found_listed : {x y : List ℕ} {n h l from : ℕ} {old new : List ℕ} {p : Piece} (f : FileHolds y n h l) → y ≡ x
+    → Parts (listing f.ns (lists_of f)) from old new p → Listed x from old new p
+found_listed {old = old} {new = new} {p = p} f e w =
+    record { lines = listing f.ns (lists_of f); all_lines = accepted f.rules (sym e ∙ f.bytes) (rw (← e) f.size); part = w }
 
-  pub found_listed : {n h l from : ℕ} {old new : List ℕ} {p : Piece} (e : r ≡ Ring n h l)
-      → ((f : FileHolds x n h l) → Parts (listing f.ns (lists_of f)) from old new p) → Listed x from old new p
-  found_listed e w =
-      let f = found_ring e in
-      record { lines = listing f.ns (lists_of f); all_lines = accepted f.rules f.bytes f.size; part = w f }
-
-  pub refused_listed : {why : Refusal} {from byte : ℕ} {old new : List ℕ} {p : Piece} → r ≡ Refused why → byte ≡ (reported why).value
-      → Parts (error_line byte ∷ []) from old new p → Listed x from old new p
-  refused_listed {why} {from} {byte} {old} {new} {p} e b w =
-      record { lines = error_line byte ∷ []; all_lines = go (refused_at (subst (λ (q : Scanned). Says x (told q)) e s)) b; part = w }
-    where
-      go : {j : ℕ} → ((65536 < length x) × (j ≡ 65536)) ⊎ ((length x ≤ 65536) × FileRefused x j) → byte ≡ j → Lists x (error_line byte ∷ [])
-      go (inl h) c = rw (c ∙ h.1) (too_long h.0)
-      go (inr h) c = rw c (malformed h.0 h.1)
+pub refused_listed : {x : List ℕ} (why : Refusal) {from byte : ℕ} {old new : List ℕ} {p : Piece} → Says x (told_of why) → byte ≡ (reported why).value
+    → Parts (error_line byte ∷ []) from old new p → Listed x from old new p
+refused_listed {x} why {from} {byte} {old} {new} {p} s b w =
+    record { lines = error_line byte ∷ []; all_lines = go (refused_at s) b; part = w }
+  where
+    go : {j : ℕ} → ((65536 < length x) × (j ≡ 65536)) ⊎ ((length x ≤ 65536) × FileRefused x j) → byte ≡ j → Lists x (error_line byte ∷ [])
+    go (inl h) c = rw (c ∙ h.1) (too_long h.0)
+    go (inr h) c = rw c (malformed h.0 h.1)
 
 -- A file has one listing.
 pub lists_once : {x : List ℕ} {ls ks : List (List ℕ)} → Lists x ls → Lists x ks → ls ≡ ks

@@ -10,7 +10,6 @@ ghost use Rattle.spec_listing.specs.Listing.{listing, error_line};
 ghost use Rattle.list_part.specs.Parts.{Listed, Parts};
 ghost use Rattle.list_line.specs.Printing.{Before, Final};
 
-use file_read::Scanned;
 use list_bytes::put;
 use list_ring::Ring;
 
@@ -168,9 +167,8 @@ fn print_error(byte: usize, from: usize, out: &mut [u8]) -> Piece
 pub fn part(file: &[u8], from: usize, out: &mut [u8]) -> Piece
     ensures { Listed file.now from out.old out.new result }
 {
-    let found = file_read::scan(file);
-    match found {
-        Scanned::Ring { names, head, lines } => print_listing(file, names, head, lines, from, out),
-        Scanned::Refused(why) => print_error(spec_calls::place(why), from, out),
+    match file_read::scan(file) {
+        Ok(found) => print_listing(found.bytes, found.names, found.head, found.lines, from, out),
+        Err(why) => print_error(spec_calls::place(why), from, out),
     }
 }
