@@ -1,4 +1,5 @@
 -- The records beside tokens.
+use mathlib.Core.Option.{some}
 use mathlib.Core.Path.{◌≡◌, refl, sym, ap, ◌∙◌}
 use mathlib.Core.List.{List, [], ◌∷◌, ◌++◌}
 use Prim.Native.Nat.{ℕ, zero, suc, ◌+◌, ◌-◌, ◌/◌, ◌%◌, ◌<◌}
@@ -9,6 +10,7 @@ use lib.Seq.{drop-drop, drop-cons, drop-append_seam}
 use Rattle.spec_orders.specs.Form.{nodes}
 use Rattle.spec_orders.proofs.ListLaws.{part_to_end}
 use Rattle.tree_tokens.specs.Tokens.{Judged, tree, encode}
+use Rattle.tree_tokens.specs.declared.ItemShape.TheVariants.{Leaf}
 use Rattle.tree_tokens.specs.Views.{shape_of, first_of, items_of, rest_of}
 use Rattle.tree_tokens.proofs.Laws.{encode_split}
 use Rattle.tree_tokens.proofs.Counts.{node_tokens, node_tokens_drop, node_tokens_are, nodes_split}
@@ -30,7 +32,7 @@ before_next : (l : List ℕ) (i : ℕ) → i < length l → before l (i + 1) ≡
 before_next l i h = omega (arith, before_split l i, before_split l (i + 1), node_tokens_drop l i h)
 
 -- A leaf on; a node's token on.
-pub before_leaf : {l : List ℕ} {i : ℕ} {h : Judged} → Here l i h → i < length l → shape_of h ≡ 1 → before l (i + 1) ≡ before l i
+pub before_leaf : {l : List ℕ} {i : ℕ} {h : Judged} → Here l i h → i < length l → shape_of h ≡ some Leaf → before l (i + 1) ≡ before l i
 before_leaf {l} {i} {h} p n s =
     let even : get_or l i 0 / 8 % 2 ≡ 0 = rw (← p.head) (even_leaf h s) in
     omega (arith, before_next l i n)
@@ -38,7 +40,7 @@ before_leaf {l} {i} {h} p n s =
 odd : (t : ℕ) → (t / 8 % 2 ≡ 0 → ⊥) → t / 8 % 2 ≡ 1
 odd t h = omega arith
 
-pub before_node : {l : List ℕ} {i : ℕ} {h : Judged} → Here l i h → i < length l → (shape_of h ≡ 1 → ⊥) → before l (i + 1) ≡ before l i + 1
+pub before_node : {l : List ℕ} {i : ℕ} {h : Judged} → Here l i h → i < length l → (shape_of h ≡ some Leaf → ⊥) → before l (i + 1) ≡ before l i + 1
 before_node {l} {i} p n s = omega (arith, before_next l i n, odd (get_or l i 0) (λ z. s (leaf_here p z)))
 
 -- The nodes of a sequence: those before index i, and those of what stands there.
@@ -79,7 +81,7 @@ records_front : (r : ℕ) (l m : List ℕ) → take (length l) (records_from r (
 records_front r [] m = refl
 records_front r (t ∷ l) m = ap (λ (x : List ℕ). r ∷ x) (records_front (r + t / 8 % 2) l m)
 
-pub records_items : {l records inner : List ℕ} {i : ℕ} {h : Judged} → records ≡ records_from 0 l → Here l i h → i < length l → (shape_of h ≡ 1 → ⊥)
+pub records_items : {l records inner : List ℕ} {i : ℕ} {h : Judged} → records ≡ records_from 0 l → Here l i h → i < length l → (shape_of h ≡ some Leaf → ⊥)
     → inner ≡ encode (items_of h) → take (i + 1 + length inner - (i + 1)) (drop (i + 1) records) ≡ records_from (before l i + 1) inner
 records_items {l} {records} {inner} {i} {h} b p n s e =
     let next : 0 + before l (i + 1) ≡ before l i + 1 = omega (arith, before_node p n s) in

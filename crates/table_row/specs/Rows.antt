@@ -4,6 +4,8 @@ use Rattle.spec_orders.specs.Tree.{items}
 use Rattle.spec_orders.specs.Form.{Every, nodes}
 use Rattle.spec_calls.specs.Tables.{padded}
 use Rattle.tree_tokens.specs.Tokens.{Judged, tree, encode}
+use Rattle.tree_tokens.specs.declared.ItemShape.{ItemShape}
+use Rattle.tree_tokens.specs.declared.ItemShape.TheVariants.{Leaf, PNode, CNode}
 
 -- Beside each token the record of the first node from it on; that of the first of all is r.
 abbrev pub records_from : ℕ → List ℕ → List ℕ
@@ -48,3 +50,9 @@ pub record RowThere (l : List ℕ) : Type 0 where
 pub data RowsThere : ℕ → List ℕ → Type 0 where
   blank : {c : ℕ} {l : List ℕ} → Blank (257 * c) l → RowsThere c l
   used : {c : ℕ} {l : List ℕ} (first : RowThere l) → 0 < length first.places → RowsThere c first.more → RowsThere (suc c) l
+
+-- The number of a node's kind, by its shape.
+abbrev pub shape_number : ItemShape → ℕ
+shape_number Leaf = 0
+shape_number PNode = 1
+shape_number CNode = 2

@@ -1,4 +1,5 @@
 -- Writing the rows of the nodes, one after the other.
+use mathlib.Core.Option.{some}
 use mathlib.Core.Path.{◌≡◌, sym, ap, subst, ◌∙◌}
 use mathlib.Core.List.{List, ◌++◌}
 use Prim.Native.Nat.{ℕ, ◌+◌, ◌-◌, ◌*◌, ◌≤◌, ◌<◌}
@@ -9,7 +10,10 @@ use Rattle.spec_orders.proofs.ListLaws.{part_to_end}
 use Rattle.spec_calls.specs.NodeTable.{rows}
 use Rattle.spec_calls.proofs.NodeTables.{Narrow, rows-length}
 use Rattle.tree_tokens.specs.Tokens.{Judged, tree, encode, Wrote}
+use Rattle.tree_tokens.specs.declared.ItemShape.{ItemShape}
+use Rattle.tree_tokens.specs.declared.ItemShape.TheVariants.{Leaf}
 use Rattle.tree_tokens.specs.Views.{shape_of, items_of}
+use Rattle.tree_tokens.proofs.Laws.{shape_read}
 use Rattle.tree_tokens.proofs.Steps.{Here, opened}
 use Rattle.tree_tokens.proofs.Writes.{Written, written_start, written_same, written_then, written_length}
 use Rattle.table_row.specs.Rows.{Placed, Rowed, RowThere, RowsThere}
@@ -26,7 +30,7 @@ pub record Rowing (l : List ℕ) (i : ℕ) (old new : List ℕ) (k : ℕ) (j h :
 pub rowing_start : (l old : List ℕ) (j : Judged) → Rowing l 0 old old 0 j j
 rowing_start l old j = record { narrow = λ n. n; written = written_start (rows 0 (tree j)) old }
 
-pub rowing_leaf : {l : List ℕ} {i k : ℕ} {old new : List ℕ} {j h : Judged} → Here l i h → i < length l → shape_of h ≡ 1
+pub rowing_leaf : {l : List ℕ} {i k : ℕ} {old new : List ℕ} {j h : Judged} → Here l i h → i < length l → shape_of h ≡ some Leaf
     → Rowing l i old new k j h → Rowing l (i + 1) old new k j (opened h)
 rowing_leaf {l} {i} {h = h} p n s g =
     let same : rows (before l i) (tree h) ≡ rows (before l (i + 1)) (tree (opened h)) =
@@ -36,13 +40,13 @@ rowing_leaf {l} {i} {h = h} p n s g =
       written = written_same (rows (before l (i + 1)) (tree (opened h))) same g.written;
     }
 
-pub rowing_node : {l : List ℕ} {i k m : ℕ} {old new part : List ℕ} {j h : Judged} (s : ℕ) → Here l i h → i < length l → s ≡ shape_of h → (s ≡ 1 → ⊥)
+pub rowing_node : {l : List ℕ} {i k m : ℕ} {old new part : List ℕ} {j h : Judged} (s : ItemShape) → Here l i h → i < length l → some s ≡ shape_of h → (s ≡ Leaf → ⊥)
     → Wrote (here_row s (before l i) h) (take (length new - k) (drop k new)) part m → Rowing l i old new k j h
     → Rowing l (i + 1) old (put_mid k (length new - k) new part) (k + m) j (opened h)
 rowing_node {l} {i} {h = h} s p n e x w g =
     let first : rows (before l i) (tree h) ≡ here_row s (before l i) h ++ rows (before l (i + 1)) (tree (opened h)) =
-    rows-first (before l i) s h p.some e x
-    ∙ ap (λ (m : ℕ). here_row s (before l i) h ++ rows m (tree (opened h))) (sym (before_node p n (λ y. x (e ∙ y)))) in
+    rows-first (before l i) s h e x
+    ∙ ap (λ (m : ℕ). here_row s (before l i) h ++ rows m (tree (opened h))) (sym (before_node p n (λ y. x (shape_read e y)))) in
     record {
       narrow = λ v. narrow_open h (g.narrow v);
       written = written_then (rows (before l (i + 1)) (tree (opened h))) first w g.written;
@@ -53,7 +57,7 @@ pub rowed_long : {toks records : List ℕ} → Rowed toks records → length rec
 rowed_long {toks} p = ap length p.beside ∙ records_length 0 toks
 
 -- A node is next: a row stands there, and its items have their places.
-module _ {toks records : List ℕ} {i k : ℕ} {old new : List ℕ} {h : Judged} (p : Rowed toks records) (q : Here toks i h) (s : shape_of h ≡ 1 → ⊥)
+module _ {toks records : List ℕ} {i k : ℕ} {old new : List ℕ} {h : Judged} (p : Rowed toks records) (q : Here toks i h) (s : shape_of h ≡ some Leaf → ⊥)
     (g : Rowing toks i old new k p.seq h) where
   next_at : (k ≡ 257 * before toks i) × (before toks i < 256)
   next_at =

@@ -7,7 +7,20 @@ ghost use Rattle.spec_orders.specs.Tree.{Forest};
 ghost use Rattle.spec_calls.specs.Tables.{over};
 ghost use Rattle.spec_calls.specs.NodeTable.{rows, table_of, Holds};
 ghost use Rattle.tree_tokens.specs.Tokens.{Judged, tree, encode, Wrote, flat, TreeTokens};
-ghost use Rattle.table_row.specs.Rows.{Rowed, RowsThere};
+ghost use Rattle.table_row.specs.Rows.{Rowed, RowsThere, shape_number};
+
+use tree_tokens::ItemShape;
+
+// The number of a node's kind in its record.
+fn kind_number(shape: ItemShape) -> u16
+    ensures { result ≡ shape_number shape }
+{
+    match shape {
+        ItemShape::Leaf => 0,
+        ItemShape::PNode => 1,
+        ItemShape::CNode => 2,
+    }
+}
 
 // Writes the rows of the nodes in the items over those that stand there, and says how many numbers; `records` are the numbers that write_records
 // wrote for these tokens.
@@ -18,15 +31,15 @@ fn write_rows(toks: &[u16], records: &[u16], out: &mut [u16]) -> usize
     let mut k = 0;
     let mut i = 0;
     while i < toks.len() {
-        let s = tree_tokens::shape(&toks[i..]);
-        if s == 1 {
+        let shape = tree_tokens::shape(&toks[i..]);
+        if let ItemShape::Leaf = shape {
             i += 1;
             continue;
         }
         let inner = tree_tokens::items(&toks[i..]);
         i += 1;
         k += table_row::write_row(
-            (s - 1) as u16,
+            kind_number(shape),
             inner,
             &records[i..i + inner.len()],
             &mut out[k..],

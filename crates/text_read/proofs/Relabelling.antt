@@ -1,4 +1,5 @@
 -- A tree relabelled, token by token.
+use mathlib.Core.Option.{some}
 use mathlib.Core.Path.{◌≡◌, refl, sym, ap, ◌∙◌}
 use mathlib.Core.List.{List, [], ◌∷◌}
 use Prim.Native.Nat.{ℕ, ◌+◌, ◌-◌, ◌≤◌, ◌<◌}
@@ -9,6 +10,7 @@ use Rattle.spec_orders.specs.Tree.{P, C, Forest, nil, leaf, node, items, append}
 use Rattle.spec_orders.specs.ThreeNeighbours.{kind_for, relabel}
 use Rattle.spec_orders.proofs.Relabel.{relabel-append}
 use Rattle.tree_tokens.specs.Tokens.{E, Judged, j_nil, j_leaf, j_node, tree, plain, node_token, encode, Wrote, flat}
+use Rattle.tree_tokens.specs.declared.ItemShape.TheVariants.{CNode}
 use Rattle.tree_tokens.specs.Views.{shape_of, items_of, rest_of}
 use Rattle.tree_tokens.proofs.Sequences.{encode-append, plain-append, tree_plain}
 use Rattle.tree_tokens.proofs.Steps.{opened}
@@ -28,36 +30,36 @@ relabel-length (node k i f) =
     )
 
 -- The first token: it stays, unless it is of a C-node with two items.
-pub token_stays : (u : Forest) → 0 < length (flat u) → (3 ≡ shape_of (plain u) → ⊥) → get_or (flat u) 0 0 ≡ get_or (flat (relabel u)) 0 0
+pub token_stays : (u : Forest) → 0 < length (flat u) → (some CNode ≡ shape_of (plain u) → ⊥) → get_or (flat u) 0 0 ≡ get_or (flat (relabel u)) 0 0
 unfolding encode shape_of
 token_stays nil ne h = absurd (omega arith)
 token_stays (leaf b f) ne h = refl
 token_stays (node P i f) ne h = ap (node_token E P) (sym (relabel-length i))
 token_stays (node C i f) ne h = absurd (h refl)
 
-pub token_wide : (u : Forest) → 3 ≡ shape_of (plain u) → (length (items (tree (items_of (plain u)))) ≡ 2 → ⊥) → get_or (flat u) 0 0 ≡ get_or (flat (relabel u)) 0 0
+pub token_wide : (u : Forest) → some CNode ≡ shape_of (plain u) → (length (items (tree (items_of (plain u)))) ≡ 2 → ⊥) → get_or (flat u) 0 0 ≡ get_or (flat (relabel u)) 0 0
 unfolding encode shape_of items_of
-token_wide nil h w = absurd (omega arith)
-token_wide (leaf b f) h w = absurd (omega arith)
-token_wide (node P i f) h w = absurd (omega arith)
+token_wide nil h w = cc
+token_wide (leaf b f) h w = cc
+token_wide (node P i f) h w = cc
 token_wide (node C i f) h w =
     let d : length (items i) ≡ 2 → ⊥ = λ e. w (ap (λ (f : Forest). length (items f)) (tree_plain i) ∙ e) in
     rw (ne_eqb (length (items i)) 2 d, relabel-length i)
 
-pub token_narrow : (u : Forest) → 3 ≡ shape_of (plain u) → length (items (tree (items_of (plain u)))) ≡ 2 → get_or (flat u) 0 0 - 16 ≡ get_or (flat (relabel u)) 0 0
+pub token_narrow : (u : Forest) → some CNode ≡ shape_of (plain u) → length (items (tree (items_of (plain u)))) ≡ 2 → get_or (flat u) 0 0 - 16 ≡ get_or (flat (relabel u)) 0 0
 unfolding encode shape_of items_of node_token
-token_narrow nil h w = absurd (omega arith)
-token_narrow (leaf b f) h w = absurd (omega arith)
-token_narrow (node P i f) h w = absurd (omega arith)
+token_narrow nil h w = cc
+token_narrow (leaf b f) h w = cc
+token_narrow (node P i f) h w = cc
 token_narrow (node C i f) h w =
     let d : length (items i) ≡ 2 = sym (ap (λ (f : Forest). length (items f)) (tree_plain i)) ∙ w in
     rw (eq-eqb (length (items i)) 2 d, relabel-length i) (omega arith)
 
-pub c_token : (j : Judged) → 3 ≡ shape_of j → 16 ≤ get_or (encode j) 0 0
+pub c_token : (j : Judged) → some CNode ≡ shape_of j → 16 ≤ get_or (encode j) 0 0
 unfolding encode shape_of node_token
-c_token j_nil h = absurd (omega arith)
-c_token (j_leaf s b j) h = absurd (omega arith)
-c_token (j_node s P i j) h = absurd (omega arith)
+c_token j_nil h = cc
+c_token (j_leaf s b j) h = cc
+c_token (j_node s P i j) h = cc
 c_token (j_node s C i j) h = omega arith
 
 -- What stands behind the first token.

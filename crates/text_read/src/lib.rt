@@ -7,15 +7,17 @@ ghost use Rattle.spec_orders.specs.ThreeNeighbours.{relabel};
 ghost use Rattle.tree_tokens.specs.Tokens.{Tokens, Wrote, flat};
 ghost use Rattle.text_read.specs.ReadText.{ReadText};
 
+use tree_tokens::ItemShape;
+
 // The first token; of a P-node, which is 16 less, where it is of a C-node with two items.
 fn relabelled(toks: &[u16]) -> u16
     requires { (Tokens toks.now) × (0 < length toks.now) }
     ensures { (t : Forest) → toks.now ≡ flat t → result ≡ get_or (flat (relabel t)) 0 0 }
 {
     let t = toks[0];
-    if tree_tokens::shape(toks) != 3 {
+    let ItemShape::CNode = tree_tokens::shape(toks) else {
         return t;
-    }
+    };
     if tree_tokens::item_count(tree_tokens::items(toks)) != 2 {
         return t;
     }

@@ -1,6 +1,7 @@
 -- What is seen of a sequence, item by item.
+use mathlib.Core.Option.{some}
 use mathlib.Core.Path.{◌≡◌, refl, sym, ◌∙◌, ap}
-use mathlib.Core.Bool.{Bool, true, false, cond, ◌&&◌}
+use mathlib.Core.Bool.{Bool, true, false, not, cond, ◌&&◌}
 use mathlib.Core.List.{[], ◌∷◌, ◌++◌, append-nil}
 use Prim.Native.Nat.{ℕ, zero, suc, ◌+◌, ◌<◌}
 use native.Mathlib.Omega.{arith}
@@ -11,6 +12,7 @@ use Rattle.spec_orders.specs.Tree.{Kind, P, C, nil, rev}
 use Rattle.spec_orders.specs.Form.{first}
 use Rattle.spec_orders.specs.TreeText.{digits, text, more}
 use Rattle.tree_tokens.specs.Tokens.{Judged, j_nil, j_leaf, j_node, tree, encode}
+use Rattle.tree_tokens.specs.declared.ItemShape.TheVariants.{Leaf, PNode, CNode}
 use Rattle.tree_tokens.specs.Views.{shape_of, leaf_of, first_of, items_of, rest_of}
 use Rattle.tree_tokens.proofs.Counts.{last_or, last_start, last_next}
 use Rattle.text_scanner.specs.Rule.{is_p, is_c, or_else, broken_at}
@@ -94,13 +96,13 @@ pub saw_none : (k : Kind) (o : ℕ) {r : Seen} → r.first ≡ 0 → r.last ≡ 
 unfolding broken_at
 saw_none k o a b c d = record { first_leaf = a; last_leaf = b; text_end = omega arith; least_broken = d }
 
-pub saw_leaf : (j : Judged) (o : ℕ) {r : Seen} → shape_of j ≡ 1 → r.first ≡ leaf_of j → r.last ≡ leaf_of j → r.end ≡ o + length (digits (leaf_of j)) → r.broken ≡ 0
+pub saw_leaf : (j : Judged) (o : ℕ) {r : Seen} → shape_of j ≡ some Leaf → r.first ≡ leaf_of j → r.last ≡ leaf_of j → r.end ≡ o + length (digits (leaf_of j)) → r.broken ≡ 0
     → Saw C o (tree (first_of j)) r
 unfolding shape_of leaf_of first_of broken_at
-saw_leaf j_nil o h a b c d = absurd (omega arith)
+saw_leaf j_nil o h a b c d = cc
 saw_leaf (j_leaf s v j) o h a b c d = record { first_leaf = a; last_leaf = b; text_end = rw (append-nil (digits v)) c; least_broken = d }
-saw_leaf (j_node s P i j) o h a b c d = absurd (omega arith)
-saw_leaf (j_node s C i j) o h a b c d = absurd (omega arith)
+saw_leaf (j_node s P i j) o h a b c d = cc
+saw_leaf (j_node s C i j) o h a b c d = cc
 
 -- The kind of the first item, a node.
 abbrev pub kind_in : Judged → Kind
@@ -108,14 +110,25 @@ kind_in j_nil = P
 kind_in (j_leaf s b j) = P
 kind_in (j_node s k i j) = k
 
-pub kind_shape : (j : Judged) → 0 < length (encode j) → (shape_of j ≡ 1 → ⊥) → (eqb (shape_of j) 2 ≡ is_p (kind_in j)) × (eqb (shape_of j) 3 ≡ is_c (kind_in j))
-unfolding encode shape_of
-kind_shape j_nil n h = absurd (omega arith)
-kind_shape (j_leaf s b j) n h = absurd (h refl)
-kind_shape (j_node s P i j) n h = (refl, refl)
-kind_shape (j_node s C i j) n h = (refl, refl)
+-- b says whether it is a P-node.
+abbrev pub KindRead : Bool → Judged → Type 0
+KindRead b j = (b ≡ is_p (kind_in j)) × (not b ≡ is_c (kind_in j)) × (shape_of j ≡ some Leaf → ⊥)
 
-pub saw_node : (j : Judged) (o : ℕ) {r t : Seen} → 0 < length (encode j) → (shape_of j ≡ 1 → ⊥) → Saw (kind_in j) (o + 2) (tree (items_of j)) r
+pub kind_p : (j : Judged) {b : Bool} → b ≡ true → some PNode ≡ shape_of j → KindRead b j
+unfolding shape_of
+kind_p j_nil q h = cc
+kind_p (j_leaf s b j) q h = cc
+kind_p (j_node s P i j) q h = (q, ap not q, λ x. cc)
+kind_p (j_node s C i j) q h = cc
+
+pub kind_c : (j : Judged) {b : Bool} → b ≡ false → some CNode ≡ shape_of j → KindRead b j
+unfolding shape_of
+kind_c j_nil q h = cc
+kind_c (j_leaf s b j) q h = cc
+kind_c (j_node s P i j) q h = cc
+kind_c (j_node s C i j) q h = (q, ap not q, λ x. cc)
+
+pub saw_node : (j : Judged) (o : ℕ) {r t : Seen} → 0 < length (encode j) → (shape_of j ≡ some Leaf → ⊥) → Saw (kind_in j) (o + 2) (tree (items_of j)) r
     → t.first ≡ r.first → t.last ≡ r.first → t.end ≡ r.end + 1 → t.broken ≡ cond (is_c (kind_in j) && ltb r.last r.first) (o + 2) r.broken
     → Saw C o (tree (first_of j)) t
 unfolding encode shape_of items_of first_of broken_at
@@ -137,11 +150,11 @@ pub record Goes (k : Kind) (o : ℕ) (s : Seen) (j h : Judged) : Type 0 where
 
 -- The first item is seen; one more item, t; all items.
 pub goes_start : (k : Kind) (o : ℕ) (j : Judged) {s : Seen} → 0 < o → 0 < length (encode j) → Saw C o (tree (first_of j)) s → Goes k o s j (rest_of j)
-goes_start k o j {s} some n w = record {
+goes_start k o j {s} p n w = record {
   starts = sym (w.first_leaf ∙ first-same j);
   lasts = last_start j ∙ last_next 0 j n (w.last_leaf ∙ one_last j);
   ends = omega (arith, w.text_end, text_split j n);
-  breaks = rw (not_below k s.first, w.first_leaf ∙ first-same j ∙ sym (w.last_leaf ∙ one_last j)) at (broken_next k 0 o j n some w);
+  breaks = rw (not_below k s.first, w.first_leaf ∙ first-same j ∙ sym (w.last_leaf ∙ one_last j)) at (broken_next k 0 o j n p w);
 }
 
 pub goes_next : {k : Kind} {o : ℕ} {j : Judged} {s : Seen} (h : Judged) {t u : Seen} → Goes k o s j h → 0 < length (encode h) → Saw C (s.end + 1) (tree (first_of h)) t

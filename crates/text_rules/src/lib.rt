@@ -9,6 +9,8 @@ ghost use Rattle.tree_tokens.specs.Views.{first_of};
 ghost use Rattle.text_scanner.specs.Rule.{is_p, or_else, broken_at};
 ghost use Rattle.text_rules.specs.Seen.{Saw};
 
+use tree_tokens::ItemShape;
+
 // What is seen of a sequence of items: the first leaf of its first and of its last item, the byte at which its text ends, and the least byte at
 // which it breaks a rule, 0 where it breaks none.
 #[derive(Drop)]
@@ -67,22 +69,25 @@ fn see_item(toks: &[u16], o: usize) -> Seen
     ensures { (j : Judged) → toks.now ≡ encode j
         → (result.end < o + 6 * length (encode (first_of j))) × Saw C o (tree (first_of j)) result }
 {
-    let s = tree_tokens::shape(toks);
-    if s == 1 {
-        let b = tree_tokens::leaf(toks);
-        return Seen {
-            first: b,
-            last: b,
-            end: o + digit_count(b),
-            broken: 0,
-        };
-    }
-    let r = see_items(tree_tokens::items(toks), s == 2, o + 2);
+    let is_p = match tree_tokens::shape(toks) {
+        ItemShape::Leaf => {
+            let b = tree_tokens::leaf(toks);
+            return Seen {
+                first: b,
+                last: b,
+                end: o + digit_count(b),
+                broken: 0,
+            };
+        }
+        ItemShape::PNode => true,
+        ItemShape::CNode => false,
+    };
+    let r = see_items(tree_tokens::items(toks), is_p, o + 2);
     Seen {
         first: r.first,
         last: r.first,
         end: r.end + 1,
-        broken: broken_or(s == 3, r.last, r.first, o + 2, r.broken),
+        broken: broken_or(!is_p, r.last, r.first, o + 2, r.broken),
     }
 }
 

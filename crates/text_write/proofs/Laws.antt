@@ -1,4 +1,5 @@
 -- The text of a sequence, by its first item.
+use mathlib.Core.Option.{some}
 use mathlib.Core.Path.{◌≡◌, refl, ap}
 use mathlib.Core.List.{List, [], ◌∷◌, ◌++◌}
 use Prim.Native.Nat.{ℕ, suc, ◌+◌, ◌≤◌, ◌<◌}
@@ -7,6 +8,7 @@ use lib.ListN.{length, drop, length-append, length-drop}
 use Rattle.spec_orders.specs.Tree.{Forest, nil, leaf, node}
 use Rattle.spec_orders.specs.TreeText.{digits, letter, text, more, tree_text}
 use Rattle.tree_tokens.specs.Tokens.{Judged, j_nil, j_leaf, j_node, tree, encode, Wrote}
+use Rattle.tree_tokens.specs.declared.ItemShape.TheVariants.{Leaf, PNode, CNode}
 use Rattle.tree_tokens.specs.Views.{shape_of, leaf_of, items_of, rest_of}
 use Rattle.tree_tokens.proofs.Laws.{is_leaf, is_p, is_c}
 use Rattle.text_write.specs.Around.{opening, gap, closing}
@@ -25,15 +27,15 @@ text_split (j_leaf s b j) = rw (more_gap (tree j))
 text_split (j_node s k i j) = ap (λ (l : List ℕ). letter k ∷ 40 ∷ (text (tree i) ++ (41 ∷ l))) (more_gap (tree j))
 
 -- What stands round the items, by the first item's shape.
-pub opening_leaf : (j : Judged) → shape_of j ≡ 1 → opening (tree j) ≡ digits (leaf_of j)
+pub opening_leaf : (j : Judged) → shape_of j ≡ some Leaf → opening (tree j) ≡ digits (leaf_of j)
 unfolding opening
 opening_leaf j h = ap (λ (i : Judged). opening (tree i)) (is_leaf j h)
 
-pub opening_p : (j : Judged) → shape_of j ≡ 2 → opening (tree j) ≡ 80 ∷ 40 ∷ []
+pub opening_p : (j : Judged) → shape_of j ≡ some PNode → opening (tree j) ≡ 80 ∷ 40 ∷ []
 unfolding opening
 opening_p j h = ap (λ (i : Judged). opening (tree i)) (is_p j h)
 
-pub opening_c : (j : Judged) → shape_of j ≡ 3 → opening (tree j) ≡ 67 ∷ 40 ∷ []
+pub opening_c : (j : Judged) → shape_of j ≡ some CNode → opening (tree j) ≡ 67 ∷ 40 ∷ []
 unfolding opening
 opening_c j h = ap (λ (i : Judged). opening (tree i)) (is_c j h)
 
@@ -43,11 +45,11 @@ gap_some j_nil e h = absurd (h (ap length e))
 gap_some (j_leaf s b j) e h = refl
 gap_some (j_node s k i j) e h = refl
 
-pub closing_leaf : (j : Judged) → shape_of j ≡ 1 → closing (tree j) ≡ gap (tree (rest_of j))
+pub closing_leaf : (j : Judged) → shape_of j ≡ some Leaf → closing (tree j) ≡ gap (tree (rest_of j))
 unfolding closing
 closing_leaf j h = ap (λ (i : Judged). closing (tree i)) (is_leaf j h)
 
-pub closing_node : (j : Judged) {l : List ℕ} → l ≡ encode j → 0 < length l → (shape_of j ≡ 1 → ⊥) → closing (tree j) ≡ 41 ∷ gap (tree (rest_of j))
+pub closing_node : (j : Judged) {l : List ℕ} → l ≡ encode j → 0 < length l → (shape_of j ≡ some Leaf → ⊥) → closing (tree j) ≡ 41 ∷ gap (tree (rest_of j))
 unfolding closing encode shape_of rest_of
 closing_node j_nil e ne h = absurd (omega (arith, ap length e))
 closing_node (j_leaf s b j) e ne h = absurd (h refl)

@@ -8,24 +8,26 @@ ghost use Rattle.tree_frontier.specs.Room.{Room};
 ghost use Rattle.text_write.specs.Around.{opening, gap, closing};
 
 pub use byte_write::write_number;
+use tree_tokens::ItemShape;
 
 // Writes what stands before the first item's items: a leaf's digits, or a node's letter and bracket. Says how many bytes.
 fn write_opening(toks: &[u16], out: &mut [u8]) -> usize
     requires { (Room opening toks.now (length out.old)) × (0 < length toks.now) }
     ensures { (j : Judged) → toks.now ≡ encode j → Wrote (opening (tree j)) out.old out.new result }
 {
-    let s = tree_tokens::shape(toks);
-    if s == 1 {
-        return write_number(tree_tokens::leaf(toks) as usize, out);
+    match tree_tokens::shape(toks) {
+        ItemShape::Leaf => write_number(tree_tokens::leaf(toks) as usize, out),
+        ItemShape::PNode => {
+            out[0] = b'P';
+            out[1] = b'(';
+            2
+        }
+        ItemShape::CNode => {
+            out[0] = b'C';
+            out[1] = b'(';
+            2
+        }
     }
-    if s == 2 {
-        out[0] = b'P';
-        out[1] = b'(';
-        return 2;
-    }
-    out[0] = b'C';
-    out[1] = b'(';
-    2
 }
 
 // Writes the space before an item, if there is one. Says how many bytes.
@@ -45,7 +47,7 @@ fn write_closing(toks: &[u16], out: &mut [u8]) -> usize
     requires { (Room closing toks.now (length out.old)) × (0 < length toks.now) }
     ensures { (j : Judged) → toks.now ≡ encode j → Wrote (closing (tree j)) out.old out.new result }
 {
-    if tree_tokens::shape(toks) == 1 {
+    if let ItemShape::Leaf = tree_tokens::shape(toks) {
         return write_gap(tree_tokens::rest(toks), out);
     }
     out[0] = b')';

@@ -1,4 +1,5 @@
 -- The groups of a sequence, by its first item.
+use mathlib.Core.Option.{some}
 use mathlib.Core.Path.{◌≡◌, refl, sym, ap, ◌∙◌}
 use mathlib.Core.List.{List, [], ◌∷◌, ◌++◌, append-nil, append_assoc}
 use Prim.Native.Nat.{ℕ, ◌+◌, ◌-◌, ◌<◌}
@@ -10,6 +11,7 @@ use Rattle.spec_orders.proofs.ListLaws.{part_to_end}
 use Rattle.spec_intersection.specs.Intersection.{item_pairs, p_items, node_groups, characteristic}
 use Rattle.spec_intersection.proofs.GroupWalk.{characteristic-append}
 use Rattle.tree_tokens.specs.Tokens.{Judged, j_nil, j_leaf, j_node, tree, j_append, encode}
+use Rattle.tree_tokens.specs.declared.ItemShape.TheVariants.{Leaf, PNode, CNode}
 use Rattle.tree_tokens.specs.Views.{shape_of, first_of, items_of, rest_of}
 use Rattle.tree_tokens.proofs.Laws.{encode_split}
 use Rattle.tree_tokens.proofs.Sequences.{encode-append, tree-append}
@@ -24,36 +26,36 @@ groups_split (j_leaf s b k) = refl
 groups_split (j_node s d i k) = ap (λ (l : List (List ℕ)). node_groups d (tree i) ++ l) (sym (ap characteristic (tree-append i k) ∙ characteristic-append (tree i) (tree k)))
 
 -- Those of the first item, by its shape.
-pub first_groups_c : (k : Judged) → 3 ≡ shape_of k → first_groups (tree k) ≡ item_pairs (tree (items_of k))
+pub first_groups_c : (k : Judged) → some CNode ≡ shape_of k → first_groups (tree k) ≡ item_pairs (tree (items_of k))
 unfolding shape_of items_of
 first_groups_c j_nil h = refl
 first_groups_c (j_leaf s b k) h = refl
-first_groups_c (j_node s P i k) h = absurd (omega arith)
+first_groups_c (j_node s P i k) h = cc
 first_groups_c (j_node s C i k) h = refl
 
-pub first_groups_p : (k : Judged) → 2 ≡ shape_of k → first_groups (tree k) ≡ p_items (tree (items_of k))
+pub first_groups_p : (k : Judged) → some PNode ≡ shape_of k → first_groups (tree k) ≡ p_items (tree (items_of k))
 unfolding shape_of items_of
 first_groups_p j_nil h = refl
 first_groups_p (j_leaf s b k) h = refl
 first_groups_p (j_node s P i k) h = refl
-first_groups_p (j_node s C i k) h = absurd (omega arith)
+first_groups_p (j_node s C i k) h = cc
 
-pub first_groups_leaf : (k : Judged) → (3 ≡ shape_of k → ⊥) → (2 ≡ shape_of k → ⊥) → first_groups (tree k) ≡ []
+pub first_groups_leaf : (k : Judged) → some Leaf ≡ shape_of k → first_groups (tree k) ≡ []
 unfolding shape_of
-first_groups_leaf j_nil h g = refl
-first_groups_leaf (j_leaf s b k) h g = refl
-first_groups_leaf (j_node s P i k) h g = absurd (g refl)
-first_groups_leaf (j_node s C i k) h g = absurd (h refl)
+first_groups_leaf j_nil h = refl
+first_groups_leaf (j_leaf s b k) h = refl
+first_groups_leaf (j_node s P i k) h = cc
+first_groups_leaf (j_node s C i k) h = cc
 
 -- The items that are P-nodes: the first one is; it is not.
-pub p_item_more : (k : Judged) → 2 ≡ shape_of k → p_items (tree k) ≡ (frontier (tree (items_of k)) ∷ []) ++ p_items (tree (rest_of k))
+pub p_item_more : (k : Judged) → some PNode ≡ shape_of k → p_items (tree k) ≡ (frontier (tree (items_of k)) ∷ []) ++ p_items (tree (rest_of k))
 unfolding shape_of items_of rest_of
-p_item_more j_nil h = absurd (omega arith)
-p_item_more (j_leaf s b k) h = absurd (omega arith)
+p_item_more j_nil h = cc
+p_item_more (j_leaf s b k) h = cc
 p_item_more (j_node s P i k) h = refl
-p_item_more (j_node s C i k) h = absurd (omega arith)
+p_item_more (j_node s C i k) h = cc
 
-pub p_item_other : (k : Judged) → (2 ≡ shape_of k → ⊥) → p_items (tree k) ≡ p_items (tree (rest_of k))
+pub p_item_other : (k : Judged) → (some PNode ≡ shape_of k → ⊥) → p_items (tree k) ≡ p_items (tree (rest_of k))
 unfolding shape_of rest_of
 p_item_other j_nil h = refl
 p_item_other (j_leaf s b k) h = refl

@@ -11,6 +11,8 @@ ghost use Rattle.tree_tokens.specs.Tokens.{Judged, tree, encode, Tokens, flat, T
 ghost use Rattle.tree_update.specs.Update.{Answers};
 ghost use Rattle.tree_intersection.specs.Intersect.{Growing, Grows, first_groups};
 
+use tree_tokens::ItemShape;
+
 // Marks the leaves of the items, and keeps the other marks.
 fn mark_leaves(toks: &[u16], words: &mut [u64])
     requires { Tokens toks.now }
@@ -73,9 +75,9 @@ fn join_p_items(toks: &[u16], n: usize, into: &mut [u16], many: usize) -> Option
     while i < toks.len() {
         let y = &toks[i..];
         i += tree_tokens::size(y);
-        if tree_tokens::shape(y) != 2 {
+        let ItemShape::PNode = tree_tokens::shape(y) else {
             continue;
-        }
+        };
         k = join_leaves(tree_tokens::items(y), n, into, k)?;
     }
     Some(k)
@@ -88,9 +90,9 @@ fn join_node(toks: &[u16], n: usize, into: &mut [u16], many: usize) -> Option<us
         → Grows (joins (map elem (first_groups (tree j))) t) into.new result }
 {
     match tree_tokens::shape(toks) {
-        3 => join_pairs(tree_tokens::items(toks), n, into, many),
-        2 => join_p_items(tree_tokens::items(toks), n, into, many),
-        _ => Some(many),
+        ItemShape::Leaf => Some(many),
+        ItemShape::PNode => join_p_items(tree_tokens::items(toks), n, into, many),
+        ItemShape::CNode => join_pairs(tree_tokens::items(toks), n, into, many),
     }
 }
 

@@ -1,4 +1,5 @@
 -- The line of an item by its shape and state, and the lines of all items, part by part.
+use mathlib.Core.Option.{some}
 use mathlib.Core.Path.{◌≡◌, refl, sym, ap, ◌∙◌}
 use mathlib.Core.Bool.{Bool, true, false, not, beq, false≢true}
 use mathlib.Core.Logic.{◌⊎◌, inl, inr}
@@ -10,6 +11,7 @@ use Rattle.spec_orders.specs.Tree.{Kind, P, C, Forest, nil, node, append}
 use Rattle.spec_orders.specs.Reduce.{pack}
 use Rattle.spec_orders.proofs.Laws.{forest_assoc, forest_nil}
 use Rattle.tree_tokens.specs.Tokens.{State, E, F, L, R, X, number, Judged, j_nil, j_leaf, j_node, tree, encode, flat}
+use Rattle.tree_tokens.specs.declared.ItemShape.TheVariants.{Leaf, CNode}
 use Rattle.tree_tokens.specs.Views.{shape_of, state_of, first_of, items_of, rest_of}
 use Rattle.tree_tokens.proofs.Sequences.{bare, bare_is}
 use Rattle.tree_spans.specs.Spans.{is_not, passing, beyond}
@@ -44,22 +46,22 @@ node_kept true L k i ts h = absurd (h refl)
 node_kept true R k i ts h = refl
 node_kept true X k i ts h = refl
 
-line_leaf : (back : Bool) (j : Judged) → shape_of j ≡ 1 → flat (first_in_line back (totals j)) ≡ flat (tree (first_of j))
+line_leaf : (back : Bool) (j : Judged) → shape_of j ≡ some Leaf → flat (first_in_line back (totals j)) ≡ flat (tree (first_of j))
 unfolding totals shape_of first_of
-line_leaf back j_nil h = absurd (omega arith)
+line_leaf back j_nil h = cc
 line_leaf false (j_leaf s b j) h = refl
 line_leaf true (j_leaf s b j) h = refl
-line_leaf back (j_node s P i j) h = absurd (omega arith)
-line_leaf back (j_node s C i j) h = absurd (omega arith)
+line_leaf back (j_node s P i j) h = cc
+line_leaf back (j_node s C i j) h = cc
 
-leaf_bare : (j : Judged) → shape_of j ≡ 1 → flat (tree (first_of j)) ≡ bare (get_or (encode j) 0 0) ∷ []
+leaf_bare : (j : Judged) → shape_of j ≡ some Leaf → flat (tree (first_of j)) ≡ bare (get_or (encode j) 0 0) ∷ []
 unfolding encode shape_of first_of
-leaf_bare j_nil h = absurd (omega arith)
+leaf_bare j_nil h = cc
 leaf_bare (j_leaf s b j) h = sym (bare_is (j_leaf s b j_nil))
-leaf_bare (j_node s P i j) h = absurd (omega arith)
-leaf_bare (j_node s C i j) h = absurd (omega arith)
+leaf_bare (j_node s P i j) h = cc
+leaf_bare (j_node s C i j) h = cc
 
-pub line_token : (back : Bool) (j : Judged) {l : List ℕ} → l ≡ encode j → shape_of j ≡ 1
+pub line_token : (back : Bool) (j : Judged) {l : List ℕ} → l ≡ encode j → shape_of j ≡ some Leaf
     → flat (first_in_line back (totals j)) ≡ (get_or l 0 0 - get_or l 0 0 % 8) ∷ []
 line_token back j e h = line_leaf back j h ∙ rw e (leaf_bare j h)
 
@@ -89,15 +91,15 @@ node_p true L i ts h = sym (p_mirrored_is ts)
 node_p back R i ts h = absurd (omega arith)
 node_p back X i ts h = absurd (omega arith)
 
-pub line_of_c : (back : Bool) (j : Judged) → shape_of j ≡ 3 → number (state_of j) ≡ 2
+pub line_of_c : (back : Bool) (j : Judged) → shape_of j ≡ some CNode → number (state_of j) ≡ 2
     → first_in_line back (totals j) ≡ c_in_line back (totals (items_of j))
 unfolding totals shape_of state_of items_of
-line_of_c back j_nil h q = absurd (omega arith)
-line_of_c back (j_leaf s b j) h q = absurd (omega arith)
-line_of_c back (j_node s P i j) h q = absurd (omega arith)
+line_of_c back j_nil h q = cc
+line_of_c back (j_leaf s b j) h q = cc
+line_of_c back (j_node s P i j) h q = cc
 line_of_c back (j_node s C i j) h q = node_c back s (tree i) (totals i) q
 
-pub line_of_p : (back : Bool) (j : Judged) → (shape_of j ≡ 1 → ⊥) → (shape_of j ≡ 3 → ⊥) → number (state_of j) ≡ 2
+pub line_of_p : (back : Bool) (j : Judged) → (shape_of j ≡ some Leaf → ⊥) → (shape_of j ≡ some CNode → ⊥) → number (state_of j) ≡ 2
     → first_in_line back (totals j) ≡ p_in_line back (totals (items_of j))
 unfolding totals shape_of state_of items_of
 line_of_p back j_nil h g q = absurd (omega arith)
@@ -174,7 +176,7 @@ pub c_kept : (back : Bool) (ts : List Total) {r : Bool} → r ≡ rises (states_
     → c_in_line back ts ≡ all_in_line back ts
 c_kept back ts {r} e h = kept back ts (sym e ∙ differ r back h)
 
-pub line_turned : (back : Bool) (j : Judged) {r : Bool} → shape_of j ≡ 3 → number (state_of j) ≡ 2 → r ≡ rises (states_of (totals (items_of j)))
+pub line_turned : (back : Bool) (j : Judged) {r : Bool} → shape_of j ≡ some CNode → number (state_of j) ≡ 2 → r ≡ rises (states_of (totals (items_of j)))
     → beq r back ≡ true → first_in_line back (totals j) ≡ all_in_line back (reverse (totals (items_of j)))
 line_turned back j s q e h = line_of_c back j s q ∙ c_turned back (totals (items_of j)) e h
 

@@ -8,6 +8,7 @@ ghost use Rattle.tree_judge.specs.Total.{totals};
 ghost use Rattle.tree_pieces.specs.Writers.{Fits, first_in_line, all_in_line, near, far, p_in_line, c_in_line};
 
 use tree_pieces::{find_partial, pack_state, rises};
+use tree_tokens::ItemShape;
 
 // The number of the state that comes first in a line: 0, or under `back` 1.
 fn near(back: bool) -> u16
@@ -39,18 +40,18 @@ pub fn line(x: &[u16], back: bool, out: &mut [u16]) -> usize
     if x.len() == 0 {
         return 0;
     }
-    let k = tree_tokens::shape(x);
-    if k == 1 {
+    let shape = tree_tokens::shape(x);
+    if let ItemShape::Leaf = shape {
         out[0] = x[0] - x[0] % 8;
         return 1;
     }
     if tree_tokens::state(x) != 2 {
         return tree_tokens::strip(tree_tokens::first(x), out);
     }
-    if k == 3 {
-        return line_c(tree_tokens::items(x), back, out);
+    match shape {
+        ItemShape::CNode => line_c(tree_tokens::items(x), back, out),
+        _ => line_p(tree_tokens::items(x), back, out),
     }
-    line_p(tree_tokens::items(x), back, out)
 }
 
 // The same of a C-node, from its items: as they stand, or from the last to the first.
@@ -104,9 +105,9 @@ fn turns(x: &[u16], back: bool) -> bool
     if tree_tokens::state(x) != 2 {
         return false;
     }
-    if tree_tokens::shape(x) != 3 {
+    let ItemShape::CNode = tree_tokens::shape(x) else {
         return false;
-    }
+    };
     rises(tree_tokens::items(x)) == back
 }
 

@@ -1,4 +1,5 @@
 -- The tokens of trees, and the items of a judged sequence by its views.
+use mathlib.Core.Option.{some}
 use mathlib.Core.Path.{◌≡◌, refl, sym, ap, ◌∙◌}
 use mathlib.Core.Bool.{Bool, false, cond}
 use mathlib.Core.List.{List, [], ◌∷◌, ◌++◌, append-nil}
@@ -16,6 +17,7 @@ use Rattle.spec_orders.proofs.Parts.{put_one, items-put}
 use Rattle.spec_orders.proofs.PutSorted.{put_sorted_perm}
 use Rattle.spec_orders.proofs.Tests.{cond_cases}
 use Rattle.tree_tokens.specs.Tokens.{State, E, F, L, R, X, number, Judged, j_nil, j_leaf, j_node, tree, plain, j_rev, node_token, encode, flat}
+use Rattle.tree_tokens.specs.declared.ItemShape.TheVariants.{Leaf}
 use Rattle.tree_tokens.specs.Views.{shape_of, state_of, first_of, rest_of}
 use Rattle.tree_tokens.proofs.Laws.{at_end}
 use Rattle.tree_tokens.proofs.Sequences.{encode-append, plain-append, plain-rev, tree_plain, rev-length, plain-length, bare_is, flat_injective}
@@ -349,9 +351,9 @@ pub same_leaf : (g h : Forest) {l : List ℕ} {b : ℕ} → l ≡ flat g → b �
 same_leaf g h e q d = q ∙ ap first (flat_injective g h (sym e ∙ d))
 
 -- The tokens of a leaf without its state.
-pub bare_leaf : (j : Judged) {l : List ℕ} → l ≡ encode j → shape_of j ≡ 1 → flat (tree (first_of j)) ≡ (get_or l 0 0 - get_or l 0 0 % 8) ∷ []
+pub bare_leaf : (j : Judged) {l : List ℕ} → l ≡ encode j → shape_of j ≡ some Leaf → flat (tree (first_of j)) ≡ (get_or l 0 0 - get_or l 0 0 % 8) ∷ []
 unfolding encode shape_of first_of
-bare_leaf j_nil e h = absurd (omega arith)
+bare_leaf j_nil e h = cc
 bare_leaf (j_leaf s b j) e h = rw e (sym (bare_is (j_leaf s b j_nil)))
-bare_leaf (j_node s P i j) e h = absurd (omega arith)
-bare_leaf (j_node s C i j) e h = absurd (omega arith)
+bare_leaf (j_node s P i j) e h = cc
+bare_leaf (j_node s C i j) e h = cc

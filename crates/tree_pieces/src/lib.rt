@@ -11,6 +11,8 @@ ghost use Rattle.tree_judge.specs.Judge.{rises};
 ghost use Rattle.tree_judge.specs.Total.{states_of, whole_of, c_node_of, totals};
 ghost use Rattle.tree_pieces.specs.Writers.{Fits, with_state, all_with_state, from_partial};
 
+use tree_tokens::ItemShape;
+
 // How many items have the state s.
 fn count(x: &[u16], s: u16) -> usize
     requires { Tokens x.now }
@@ -48,7 +50,7 @@ fn put_first(x: &[u16], out: &mut [u16]) -> usize
     ensures { (j : Judged) → x.now ≡ encode j
         → Wrote (flat (tree (first_of j))) out.old out.new result }
 {
-    if tree_tokens::shape(x) == 1 {
+    if let ItemShape::Leaf = tree_tokens::shape(x) {
         let t = x[0];
         out[0] = t - t % 8;
         return 1;

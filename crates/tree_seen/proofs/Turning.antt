@@ -1,3 +1,4 @@
+use mathlib.Core.Option.{some}
 -- One node of the path: the tokens of its items, and the node that one of them sees.
 use mathlib.Core.Path.{◌≡◌, refl, sym, ap, subst, ◌∙◌}
 use mathlib.Core.List.{List, ◌++◌}
@@ -13,8 +14,10 @@ use Rattle.spec_orders.proofs.ListLaws.{part_to_end}
 use Rattle.spec_orders.proofs.Laws.{items-append}
 use Rattle.spec_orders.proofs.Parts.{put_one, items-put}
 use Rattle.tree_tokens.specs.Tokens.{E, Judged, plain, tree, encode, flat}
+use Rattle.tree_tokens.specs.declared.ItemShape.{ItemShape}
+use Rattle.tree_tokens.specs.declared.ItemShape.TheVariants.{PNode, CNode}
 use Rattle.tree_tokens.specs.Views.{shape_of, items_of, rest_of}
-use Rattle.tree_tokens.proofs.Laws.{encode_node}
+use Rattle.tree_tokens.proofs.Laws.{encode_node, shape_read}
 use Rattle.tree_tokens.proofs.Sequences.{tree_plain}
 use Rattle.tree_judge.specs.Total.{c_node_of}
 use Rattle.tree_pieces.proofs.Laws.{flat_append, c_node-length, pack_many, put_sorted-items, put_sorted-length}
@@ -85,16 +88,16 @@ module _ {x w : List ℕ} {e : ℕ} {k : Kind} {f : Forest} {y : Item} {g : Fore
   w_long = ap length inner_tokens ∙ three_long f y g
 
 -- The kind of the node by its shape.
-module _ {x : List ℕ} {s : ℕ} (i : Forest) (h : (j : Judged) → x ≡ encode j → s ≡ shape_of j) where
-  pub shape_c : (k : Kind) → x ≡ flat (node k i nil) → s ≡ 3 → k ≡ C
+module _ {x : List ℕ} {s : ItemShape} (i : Forest) (h : (j : Judged) → x ≡ encode j → some s ≡ shape_of j) where
+  pub shape_c : (k : Kind) → x ≡ flat (node k i nil) → s ≡ CNode → k ≡ C
   unfolding shape_of
   shape_c C e q = refl
-  shape_c P e q = absurd (omega (arith, q, h (plain (node P i nil)) e))
+  shape_c P e q = let d : some PNode ≡ some CNode = sym (h (plain (node P i nil)) e) ∙ ap some q in cc
 
-  pub shape_p : (k : Kind) → x ≡ flat (node k i nil) → (s ≡ 3 → ⊥) → k ≡ P
+  pub shape_p : (k : Kind) → x ≡ flat (node k i nil) → (s ≡ CNode → ⊥) → k ≡ P
   unfolding shape_of
   shape_p P e q = refl
-  shape_p C e q = absurd (q (h (plain (node C i nil)) e))
+  shape_p C e q = absurd (q (shape_read (h (plain (node C i nil)) e) refl))
 
 -- What lies then.
 pub lies_c : {k : Kind} (v : Item) (f g : Forest) {buf : List ℕ} {u : Laid} → k ≡ C

@@ -11,6 +11,7 @@ ghost use Rattle.tree_laid.specs.Lying.{Lies, Midway};
 ghost use Rattle.tree_seen.specs.Seen.{index_of, Held, NodeAt, ItemTokens, HasLeaf};
 
 use tree_laid::Laid;
+use tree_tokens::ItemShape;
 
 // The index of the leaf b; the length where it is none.
 fn index_of(toks: &[u16], b: u16) -> usize
@@ -52,10 +53,10 @@ fn turn(x: &[u16], e: usize, t: Laid, buf: &mut [u16], tmp: &mut [u16]) -> Laid
 {
     let w = tree_tokens::items(x);
     let b = tree_tokens::rest(&w[e..]);
-    if tree_tokens::shape(x) == 3 {
-        return tree_laid::circle(b, t, &w[0..e], buf, tmp);
+    match tree_tokens::shape(x) {
+        ItemShape::CNode => tree_laid::circle(b, t, &w[0..e], buf, tmp),
+        _ => tree_laid::seat(&w[0..e], t, b, buf, tmp),
     }
-    tree_laid::seat(&w[0..e], t, b, buf, tmp)
 }
 
 // Lays what the leaf with the token p of the item x sees, where what lies at t is what x sees. Says where it lies. tmp is scratch.

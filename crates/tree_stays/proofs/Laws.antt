@@ -1,4 +1,6 @@
 -- What code sees of an item that stays.
+use mathlib.Core.Logic.{inl, inr}
+use mathlib.Core.Option.{some}
 use mathlib.Core.Path.{◌≡◌, refl, sym, ap, ◌∙◌}
 use mathlib.Core.Bool.{Bool, true, false, cond}
 use mathlib.Core.List.{List}
@@ -9,6 +11,8 @@ use lib.Dec.{eqb}
 use lib.ListN.{length}
 use Rattle.spec_orders.specs.Tree.{Kind, P, C}
 use Rattle.tree_tokens.specs.Tokens.{number, Judged, j_nil, j_leaf, j_node, encode}
+use Rattle.tree_tokens.specs.declared.ItemShape.TheVariants.{CNode}
+use Rattle.tree_tokens.proofs.Laws.{c_or_not}
 use Rattle.tree_tokens.specs.Views.{shape_of, state_of, items_of, rest_of}
 use Rattle.tree_spans.specs.Spans.{is, beyond, Parted}
 use Rattle.tree_spans.proofs.Laws.{beyond-same, beyond_stops}
@@ -25,14 +29,14 @@ stays-whole (j_leaf s b j) h = sym (lt-ltb (number s) 2 h)
 stays-whole (j_node s k i j) h = rw (lt-ltb (number s) 2 h) refl
 
 -- Another one, by its items: a C-node; one that is none; either.
-stays_c : (j : Judged) → 2 ≤ number (state_of j) → shape_of j ≡ 3 → stays j ≡ stays_in C (items_of j)
+stays_c : (j : Judged) → 2 ≤ number (state_of j) → shape_of j ≡ some CNode → stays j ≡ stays_in C (items_of j)
 unfolding stays state_of shape_of items_of
-stays_c j_nil p h = absurd (omega arith)
-stays_c (j_leaf s b j) p h = absurd (omega arith)
-stays_c (j_node s P i j) p h = absurd (omega arith)
+stays_c j_nil p h = cc
+stays_c (j_leaf s b j) p h = cc
+stays_c (j_node s P i j) p h = cc
 stays_c (j_node s C i j) p h = rw (le-ltb (number s) 2 p) refl
 
-stays_p : (j : Judged) → 2 ≤ number (state_of j) → (shape_of j ≡ 3 → ⊥) → stays j ≡ stays_in P (items_of j)
+stays_p : (j : Judged) → 2 ≤ number (state_of j) → (shape_of j ≡ some CNode → ⊥) → stays j ≡ stays_in P (items_of j)
 unfolding stays stays_in state_of shape_of items_of
 stays_p j_nil p h = absurd (omega arith)
 stays_p (j_leaf s b j) p h = le-ltb (number s) 2 p
@@ -40,11 +44,7 @@ stays_p (j_node s P i j) p h = rw (le-ltb (number s) 2 p) refl
 stays_p (j_node s C i j) p h = absurd (h refl)
 
 stays_node : (j : Judged) → 2 ≤ number (state_of j) → (k : Kind) × (stays j ≡ stays_in k (items_of j))
-unfolding shape_of
-stays_node j_nil p = (P, stays_p j_nil p (λ e. omega arith))
-stays_node (j_leaf s b j) p = (P, stays_p (j_leaf s b j) p (λ e. omega arith))
-stays_node (j_node s P i j) p = (P, stays_p (j_node s P i j) p (λ e. omega arith))
-stays_node (j_node s C i j) p = (C, stays_c (j_node s C i j) p refl)
+stays_node j p = elim (c_or_not j) [ inl e ↦ (C, stays_c j p e) | inr n ↦ (P, stays_p j p n) ]
 
 -- The items: none; the first is empty; it is not.
 in_none : (k : Kind) → stays_in k j_nil ≡ false
@@ -85,8 +85,8 @@ module _ (j : Judged) (p : 2 ≤ number (state_of j)) {y : List ℕ} {r : ℕ} (
     pub stays_alone : {b : Bool} → true ≡ all_with_state 0 (totals (rest_of (others j))) → b ≡ stays (others j) → b ≡ stays j
     stays_alone a e = let k = stays_node j p in e ∙ sym (by_first k.0 k.1 ∙ rw (← a) refl)
 
-    pub stays_not : false ≡ all_with_state 0 (totals (rest_of (others j))) → (shape_of j ≡ 3 → ⊥) → false ≡ stays j
+    pub stays_not : false ≡ all_with_state 0 (totals (rest_of (others j))) → (shape_of j ≡ some CNode → ⊥) → false ≡ stays j
     stays_not a s = sym (by_first P (stays_p j p s) ∙ rw (← a) refl)
 
-    pub stays-unmixed : {l : List ℕ} → false ≡ all_with_state 0 (totals (rest_of (others j))) → shape_of j ≡ 3 → l ≡ encode (from_partial (others j)) → eqb (length l) 0 ≡ stays j
+    pub stays-unmixed : {l : List ℕ} → false ≡ all_with_state 0 (totals (rest_of (others j))) → shape_of j ≡ some CNode → l ≡ encode (from_partial (others j)) → eqb (length l) 0 ≡ stays j
     stays-unmixed a s e = sym (by_first C (stays_c j p s) ∙ rw (← a) (ap (λ (l : List ℕ). eqb (length l) 0) (sym e)))

@@ -5,6 +5,8 @@ ghost use Rattle.std.specs.Prelude.{◌≡◌, ◌<◌, length};
 ghost use Rattle.tree_tokens.specs.Tokens.{Judged, encode, Tokens};
 ghost use Rattle.tree_stays.specs.Stays.{stays};
 
+use tree_tokens::ItemShape;
+
 // Whether the states say that the first item, reduced, is as it was. Goes down as long as one item alone is not empty.
 pub fn stays(x: &[u16]) -> bool
     requires { (Tokens x.now) × (0 < length x.now) }
@@ -27,9 +29,9 @@ pub fn stays(x: &[u16]) -> bool
         i += k;
         let others = &x[i..end];
         if !tree_pieces::all_of_state(tree_tokens::rest(others), 0) {
-            if tree_tokens::shape(y) != 3 {
+            let ItemShape::CNode = tree_tokens::shape(y) else {
                 return false;
-            }
+            };
             return tree_pieces::find_partial(others).len() == 0;
         }
     }

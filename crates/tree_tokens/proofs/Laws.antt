@@ -1,5 +1,7 @@
 -- The first item of a sequence, read off its tokens.
 use mathlib.Core.Path.{◌≡◌, refl, sym, ap, ◌∙◌}
+use mathlib.Core.Option.{Option, some, some-injective}
+use mathlib.Core.Logic.{◌⊎◌, inl, inr}
 use mathlib.Core.List.{List, ◌∷◌, ◌++◌, append-nil}
 use Prim.Native.Nat.{ℕ, zero, suc, ◌+◌, ◌-◌, ◌/◌, ◌%◌, ◌≤◌, ◌<◌}
 use native.Mathlib.Omega.{arith}
@@ -8,6 +10,8 @@ use lib.Seq.{take-append_seam, drop-append_seam, take-take, drop-drop}
 use Rattle.spec_orders.specs.Tree.{Kind, P, C}
 use Rattle.spec_orders.proofs.ListLaws.{drop_taken, part_to_end}
 use Rattle.tree_tokens.specs.Tokens.{State, E, F, L, R, X, number, Judged, j_nil, j_leaf, j_node, leaf_token, node_token, encode}
+use Rattle.tree_tokens.specs.declared.ItemShape.{ItemShape}
+use Rattle.tree_tokens.specs.declared.ItemShape.TheVariants.{Leaf, PNode, CNode}
 use Rattle.tree_tokens.specs.Views.{shape_of, state_of, leaf_of, first_of, items_of, rest_of}
 
 -- A token's parts.
@@ -80,29 +84,48 @@ encode_split (j_node s k i j) = ap (λ (l : List ℕ). node_token s k (length (e
 pub sizes : (j : Judged) {l : List ℕ} → l ≡ encode j → length (encode (first_of j)) + length (encode (rest_of j)) ≡ length l
 sizes j e = omega (arith, ap length e, ap length (encode_split j), length-append (encode (first_of j)) (encode (rest_of j)))
 
+-- What code read is the shape.
+pub shape_read : {x : Option ItemShape} {s r : ItemShape} → some s ≡ x → x ≡ some r → s ≡ r
+shape_read {s = s} {r} e h = some-injective s r (e ∙ h)
+
+module _ {l : List ℕ} {s r : ItemShape} (shape : (j : Judged) → l ≡ encode j → some s ≡ shape_of j) where
+  pub shape_yes : s ≡ r → (j : Judged) → l ≡ encode j → shape_of j ≡ some r
+  shape_yes q j e = sym (shape j e) ∙ ap some q
+
+  pub shape_no : (s ≡ r → ⊥) → (j : Judged) → l ≡ encode j → shape_of j ≡ some r → ⊥
+  shape_no n j e h = n (shape_read (shape j e) h)
+
 -- The sequence, by the shape of its first item.
-pub is_leaf : (j : Judged) → shape_of j ≡ 1 → j ≡ j_leaf (state_of j) (leaf_of j) (rest_of j)
+pub is_leaf : (j : Judged) → shape_of j ≡ some Leaf → j ≡ j_leaf (state_of j) (leaf_of j) (rest_of j)
 unfolding shape_of state_of leaf_of rest_of
-is_leaf j_nil h = absurd (omega arith)
+is_leaf j_nil h = cc
 is_leaf (j_leaf s b j) h = refl
-is_leaf (j_node s P i j) h = absurd (omega arith)
-is_leaf (j_node s C i j) h = absurd (omega arith)
+is_leaf (j_node s P i j) h = cc
+is_leaf (j_node s C i j) h = cc
 
-pub is_p : (j : Judged) → shape_of j ≡ 2 → j ≡ j_node (state_of j) P (items_of j) (rest_of j)
+pub is_p : (j : Judged) → shape_of j ≡ some PNode → j ≡ j_node (state_of j) P (items_of j) (rest_of j)
 unfolding shape_of state_of items_of rest_of
-is_p j_nil h = absurd (omega arith)
-is_p (j_leaf s b j) h = absurd (omega arith)
+is_p j_nil h = cc
+is_p (j_leaf s b j) h = cc
 is_p (j_node s P i j) h = refl
-is_p (j_node s C i j) h = absurd (omega arith)
+is_p (j_node s C i j) h = cc
 
-pub is_c : (j : Judged) → shape_of j ≡ 3 → j ≡ j_node (state_of j) C (items_of j) (rest_of j)
+pub is_c : (j : Judged) → shape_of j ≡ some CNode → j ≡ j_node (state_of j) C (items_of j) (rest_of j)
 unfolding shape_of state_of items_of rest_of
-is_c j_nil h = absurd (omega arith)
-is_c (j_leaf s b j) h = absurd (omega arith)
-is_c (j_node s P i j) h = absurd (omega arith)
+is_c j_nil h = cc
+is_c (j_leaf s b j) h = cc
+is_c (j_node s P i j) h = cc
 is_c (j_node s C i j) h = refl
 
-pub third_shape : (j : Judged) → 0 < length (encode j) → (shape_of j ≡ 1 → ⊥) → (shape_of j ≡ 2 → ⊥) → shape_of j ≡ 3
+-- It is a C-node, or not.
+pub c_or_not : (j : Judged) → (shape_of j ≡ some CNode) ⊎ (shape_of j ≡ some CNode → ⊥)
+unfolding shape_of
+c_or_not j_nil = inr (λ h. cc)
+c_or_not (j_leaf s b j) = inr (λ h. cc)
+c_or_not (j_node s P i j) = inr (λ h. cc)
+c_or_not (j_node s C i j) = inl refl
+
+pub third_shape : (j : Judged) → 0 < length (encode j) → (shape_of j ≡ some Leaf → ⊥) → (shape_of j ≡ some PNode → ⊥) → shape_of j ≡ some CNode
 unfolding encode shape_of
 third_shape j_nil ne h g = absurd (omega arith)
 third_shape (j_leaf s b j) ne h g = absurd (h refl)
@@ -115,33 +138,33 @@ unfolding encode
 encode_node s k i = ap (λ (l : List ℕ). node_token s k (length (encode i)) ∷ l) (append-nil (encode i))
 
 -- What a test of the first token says.
-shape_is : (j : Judged) → 0 < length (encode j) → get_or (encode j) 0 0 / 8 % 2 ≡ 0 → 1 ≡ shape_of j
+shape_is : (j : Judged) → 0 < length (encode j) → get_or (encode j) 0 0 / 8 % 2 ≡ 0 → some Leaf ≡ shape_of j
 unfolding encode shape_of
 shape_is j_nil ne h = absurd (omega arith)
 shape_is (j_leaf s b j) ne h = refl
 shape_is (j_node s k i j) ne h = absurd (omega (arith, node_odd s k (length (encode i))))
 
-pub shape_leaf : (j : Judged) {l : List ℕ} → l ≡ encode j → 0 < length l → get_or l 0 0 / 8 % 2 ≡ 0 → 1 ≡ shape_of j
+pub shape_leaf : (j : Judged) {l : List ℕ} → l ≡ encode j → 0 < length l → get_or l 0 0 / 8 % 2 ≡ 0 → some Leaf ≡ shape_of j
 shape_leaf j e ne h = shape_is j (rw e at ne) (rw e at h)
 
-shape_is_p : (j : Judged) → 0 < length (encode j) → get_or (encode j) 0 0 / 8 % 4 ≡ 1 → 2 ≡ shape_of j
+shape_is_p : (j : Judged) → 0 < length (encode j) → get_or (encode j) 0 0 / 8 % 4 ≡ 1 → some PNode ≡ shape_of j
 unfolding encode shape_of node_token
 shape_is_p j_nil ne h = absurd (omega arith)
 shape_is_p (j_leaf s b j) ne h = absurd (omega (arith, leaf_even s b))
 shape_is_p (j_node s P i j) ne h = refl
 shape_is_p (j_node s C i j) ne h = absurd (omega (arith, number_small s))
 
-pub shape_p : (j : Judged) {l : List ℕ} → l ≡ encode j → 0 < length l → get_or l 0 0 / 8 % 4 ≡ 1 → 2 ≡ shape_of j
+pub shape_p : (j : Judged) {l : List ℕ} → l ≡ encode j → 0 < length l → get_or l 0 0 / 8 % 4 ≡ 1 → some PNode ≡ shape_of j
 shape_p j e ne h = shape_is_p j (rw e at ne) (rw e at h)
 
-shape_is_c : (j : Judged) → 0 < length (encode j) → (get_or (encode j) 0 0 / 8 % 2 ≡ 0 → ⊥) → (get_or (encode j) 0 0 / 8 % 4 ≡ 1 → ⊥) → 3 ≡ shape_of j
+shape_is_c : (j : Judged) → 0 < length (encode j) → (get_or (encode j) 0 0 / 8 % 2 ≡ 0 → ⊥) → (get_or (encode j) 0 0 / 8 % 4 ≡ 1 → ⊥) → some CNode ≡ shape_of j
 unfolding encode shape_of node_token
 shape_is_c j_nil ne h g = absurd (omega arith)
 shape_is_c (j_leaf s b j) ne h g = absurd (h (leaf_even s b))
 shape_is_c (j_node s P i j) ne h g = absurd (g (omega (arith, number_small s)))
 shape_is_c (j_node s C i j) ne h g = refl
 
-pub shape_c : (j : Judged) {l : List ℕ} → l ≡ encode j → 0 < length l → (get_or l 0 0 / 8 % 2 ≡ 0 → ⊥) → (get_or l 0 0 / 8 % 4 ≡ 1 → ⊥) → 3 ≡ shape_of j
+pub shape_c : (j : Judged) {l : List ℕ} → l ≡ encode j → 0 < length l → (get_or l 0 0 / 8 % 2 ≡ 0 → ⊥) → (get_or l 0 0 / 8 % 4 ≡ 1 → ⊥) → some CNode ≡ shape_of j
 shape_c j e ne h g = shape_is_c j (rw e at ne) (rw e at h) (rw e at g)
 
 state_is : (j : Judged) → 0 < length (encode j) → get_or (encode j) 0 0 % 8 ≡ number (state_of j)
@@ -153,14 +176,14 @@ state_is (j_node s k i j) ne = node_state s k (length (encode i))
 pub first_state : (j : Judged) {l : List ℕ} → l ≡ encode j → 0 < length l → get_or l 0 0 % 8 ≡ number (state_of j)
 first_state j e ne = rw e (state_is j (rw e at ne))
 
-leaf_is : (j : Judged) → shape_of j ≡ 1 → get_or (encode j) 0 0 / 16 ≡ leaf_of j
+leaf_is : (j : Judged) → shape_of j ≡ some Leaf → get_or (encode j) 0 0 / 16 ≡ leaf_of j
 unfolding encode shape_of leaf_of
-leaf_is j_nil h = absurd (omega arith)
+leaf_is j_nil h = cc
 leaf_is (j_leaf s b j) h = leaf_number s b
-leaf_is (j_node s P i j) h = absurd (omega arith)
-leaf_is (j_node s C i j) h = absurd (omega arith)
+leaf_is (j_node s P i j) h = cc
+leaf_is (j_node s C i j) h = cc
 
-pub first_leaf_is : (j : Judged) {l : List ℕ} → l ≡ encode j → shape_of j ≡ 1 → get_or l 0 0 / 16 ≡ leaf_of j
+pub first_leaf_is : (j : Judged) {l : List ℕ} → l ≡ encode j → shape_of j ≡ some Leaf → get_or l 0 0 / 16 ≡ leaf_of j
 first_leaf_is j e h = rw e (leaf_is j h)
 
 size_is_1 : (j : Judged) → 0 < length (encode j) → get_or (encode j) 0 0 / 8 % 2 ≡ 0 → 1 ≡ length (encode (first_of j))

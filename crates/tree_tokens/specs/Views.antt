@@ -1,14 +1,17 @@
 -- What code sees of a sequence: its first item, that item's parts, and the items after it.
+use Rattle.std.proofs.Math.Option.{Option, none, some}
 use Rattle.std.specs.Prelude.{ℕ}
 use Rattle.spec_orders.specs.Tree.{P, C}
 use Rattle.tree_tokens.specs.Tokens.{State, E, Judged, j_nil, j_leaf, j_node}
+use Rattle.tree_tokens.specs.declared.ItemShape.{ItemShape}
+use Rattle.tree_tokens.specs.declared.ItemShape.TheVariants.{Leaf, PNode, CNode}
 
--- The first item's shape: 0 where there is none, 1 a leaf, 2 a P-node, 3 a C-node; its state; its leaf.
-unfoldable pub shape_of : Judged → ℕ
-shape_of j_nil = 0
-shape_of (j_leaf s b j) = 1
-shape_of (j_node s P i j) = 2
-shape_of (j_node s C i j) = 3
+-- The first item's shape, none where there is no item; its state; its leaf.
+unfoldable pub shape_of : Judged → Option ItemShape
+shape_of j_nil = none
+shape_of (j_leaf s b j) = some Leaf
+shape_of (j_node s P i j) = some PNode
+shape_of (j_node s C i j) = some CNode
 
 unfoldable pub state_of : Judged → State
 state_of j_nil = E

@@ -1,8 +1,9 @@
 // The tree as tokens: its flat preorder, in a slice of numbers. A leaf b is 16b; a node is 32m + 8 (P) or 32m + 24 (C), and the m tokens of
-// its items follow. An item's state under a restriction, 0 to 4, is added to its token.
+// its items follow. An item's state under a restriction, 0 to 4, is added to its token; so code too has a state as that number.
 #![tactic(auto)]
 
 ghost use Rattle.std.specs.Prelude.{◌≡◌, ◌<◌, ◌≤◌, length};
+ghost use Rattle.std.proofs.Math.Option.{some};
 ghost use Rattle.spec_orders.specs.Lists.{same, numbers_from};
 ghost use Rattle.spec_orders.specs.Tree.{rev, items};
 ghost use Rattle.spec_orders.specs.Form.{first};
@@ -10,18 +11,26 @@ ghost use Rattle.spec_orders.specs.Join.{fresh, leaf_items};
 ghost use Rattle.tree_tokens.specs.Tokens.{number, Judged, tree, j_rev, encode, Tokens, Wrote, flat};
 ghost use Rattle.tree_tokens.specs.Views.{shape_of, state_of, leaf_of, first_of, items_of, rest_of};
 
-// The first item's shape: 1 a leaf, 2 a P-node, 3 a C-node.
-pub fn shape(toks: &[u16]) -> u8
+// What an item is.
+#[derive(Clone, Copy, PartialEq, Eq)]
+pub enum ItemShape {
+    Leaf,
+    PNode,
+    CNode,
+}
+
+// The first item's shape.
+pub fn shape(toks: &[u16]) -> ItemShape
     requires { (Tokens toks.now) × (0 < length toks.now) }
-    ensures { (j : Judged) → toks.now ≡ encode j → result ≡ shape_of j }
+    ensures { (j : Judged) → toks.now ≡ encode j → some result ≡ shape_of j }
 {
     let t = toks[0] / 8;
     if t % 2 == 0 {
-        1
+        ItemShape::Leaf
     } else if t % 4 == 1 {
-        2
+        ItemShape::PNode
     } else {
-        3
+        ItemShape::CNode
     }
 }
 
@@ -36,7 +45,7 @@ pub fn state(toks: &[u16]) -> u16
 // The first item's leaf.
 pub fn leaf(toks: &[u16]) -> u16
     requires { (Tokens toks.now) × (0 < length toks.now) }
-    ensures { (j : Judged) → toks.now ≡ encode j → shape_of j ≡ 1 → result ≡ leaf_of j }
+    ensures { (j : Judged) → toks.now ≡ encode j → shape_of j ≡ some ItemShape.Leaf → result ≡ leaf_of j }
 {
     toks[0] / 16
 }

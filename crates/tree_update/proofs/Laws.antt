@@ -1,4 +1,5 @@
 -- The reduced forms, by what code sees of a judged sequence.
+use mathlib.Core.Option.{some}
 use mathlib.Core.Path.{◌≡◌, refl, sym, ap, ◌∙◌}
 use mathlib.Core.Bool.{Bool, true, false}
 use mathlib.Core.List.{List, [], ◌∷◌, ◌++◌, append_assoc}
@@ -10,6 +11,7 @@ use lib.ListN.{length, take, drop, length-append}
 use Rattle.spec_orders.specs.Tree.{P, C, Forest, nil, node, items, append}
 use Rattle.spec_orders.specs.Reduce.{one, put_sorted, pack}
 use Rattle.tree_tokens.specs.Tokens.{E, F, L, R, X, number, Judged, j_nil, j_leaf, j_node, tree, encode, Wrote, flat}
+use Rattle.tree_tokens.specs.declared.ItemShape.TheVariants.{Leaf, CNode}
 use Rattle.tree_tokens.specs.Views.{shape_of, state_of, first_of, items_of, rest_of}
 use Rattle.tree_tokens.proofs.Laws.{at_end}
 use Rattle.tree_tokens.proofs.Writes.{read_back}
@@ -31,12 +33,12 @@ pub read_part : {xs new : List ℕ} {k : ℕ} → Begins xs new k → take (k - 
 read_part {k = k} w = let n : k - 0 ≡ k = omega arith in rw n w.text
 
 -- The first item reduced: one that stays as it is; a C-node; a P-node.
-pub reduced_leaf : (j : Judged) → shape_of j ≡ 1 → first_reduced (totals j) ≡ tree (first_of j)
+pub reduced_leaf : (j : Judged) → shape_of j ≡ some Leaf → first_reduced (totals j) ≡ tree (first_of j)
 unfolding totals shape_of first_of
-reduced_leaf j_nil h = absurd (omega arith)
+reduced_leaf j_nil h = cc
 reduced_leaf (j_leaf s b j) h = refl
-reduced_leaf (j_node s P i j) h = absurd (omega arith)
-reduced_leaf (j_node s C i j) h = absurd (omega arith)
+reduced_leaf (j_node s P i j) h = cc
+reduced_leaf (j_node s C i j) h = cc
 
 pub reduced_whole : (j : Judged) → number (state_of j) < 2 → first_reduced (totals j) ≡ tree (first_of j)
 unfolding totals total_by state_of first_of encode
@@ -48,18 +50,18 @@ reduced_whole (j_node L k i j) h = absurd (omega arith)
 reduced_whole (j_node R k i j) h = absurd (omega arith)
 reduced_whole (j_node X k i j) h = absurd (omega arith)
 
-pub reduced_c : (j : Judged) → shape_of j ≡ 3 → (number (state_of j) < 2 → ⊥) → first_reduced (totals j) ≡ c_node_of (middle_of (totals (items_of j)))
+pub reduced_c : (j : Judged) → shape_of j ≡ some CNode → (number (state_of j) < 2 → ⊥) → first_reduced (totals j) ≡ c_node_of (middle_of (totals (items_of j)))
 unfolding totals total_by reduced_of shape_of state_of items_of
-reduced_c j_nil h z = absurd (omega arith)
-reduced_c (j_leaf s b j) h z = absurd (omega arith)
-reduced_c (j_node s P i j) h z = absurd (omega arith)
+reduced_c j_nil h z = cc
+reduced_c (j_leaf s b j) h z = cc
+reduced_c (j_node s P i j) h z = cc
 reduced_c (j_node E C i j) h z = absurd (z (omega arith))
 reduced_c (j_node F C i j) h z = absurd (z (omega arith))
 reduced_c (j_node L C i j) h z = refl
 reduced_c (j_node R C i j) h z = refl
 reduced_c (j_node X C i j) h z = refl
 
-pub reduced_p : (j : Judged) → (shape_of j ≡ 1 → ⊥) → (shape_of j ≡ 3 → ⊥) → (number (state_of j) < 2 → ⊥) → first_reduced (totals j) ≡ placed_again (items_of j)
+pub reduced_p : (j : Judged) → (shape_of j ≡ some Leaf → ⊥) → (shape_of j ≡ some CNode → ⊥) → (number (state_of j) < 2 → ⊥) → first_reduced (totals j) ≡ placed_again (items_of j)
 unfolding totals total_by shape_of state_of items_of
 reduced_p j_nil h g z = absurd (z (omega arith))
 reduced_p (j_leaf s b j) h g z = absurd (h refl)
@@ -70,7 +72,7 @@ reduced_p (j_node L P i j) h g z = sym (p_reduced_is (totals i))
 reduced_p (j_node R P i j) h g z = sym (p_reduced_is (totals i))
 reduced_p (j_node X P i j) h g z = sym (p_reduced_is (totals i))
 
-pub c_length : (j : Judged) → shape_of j ≡ 3 → (number (state_of j) < 2 → ⊥) → length (flat (first_reduced (totals j))) ≡ 1 + length (flat (middle_of (totals (items_of j))))
+pub c_length : (j : Judged) → shape_of j ≡ some CNode → (number (state_of j) < 2 → ⊥) → length (flat (first_reduced (totals j))) ≡ 1 + length (flat (middle_of (totals (items_of j))))
 c_length j h z = rw (reduced_c j h z) (c_node-length (middle_of (totals (items_of j))))
 
 pub pack_ge : (f : Forest) → length (flat f) ≤ length (flat (pack f))

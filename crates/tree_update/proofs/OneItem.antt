@@ -1,18 +1,21 @@
 -- Sequences in which just one item is not empty, and trees whose nodes have two items or more.
+use mathlib.Core.Option.{some}
 use mathlib.Core.Path.{◌≡◌, refl, sym, ap, ap₂, subst, ◌∙◌}
 use mathlib.Core.Bool.{Bool, true, false}
 use mathlib.Core.Logic.{◌⊎◌, inl, inr, ⊎_elim}
 use mathlib.Core.List.{List, [], ◌∷◌, ◌++◌}
 use Prim.Native.Nat.{ℕ, ◌+◌, ◌≤◌, ◌<◌}
 use native.Mathlib.Omega.{arith}
-use borrow.Author.Tests.{eqb-true, eqb-false, ltb-false}
-use lib.Dec.{eqb, ltb}
+use borrow.Author.Tests.{eqb-false, ltb-false}
+use lib.Dec.{ltb}
 use lib.ListN.{length, length-append}
 use Rattle.spec_orders.specs.Tree.{P, Forest, nil, leaf, node, items, append}
 use Rattle.spec_orders.specs.Reduce.{put_sorted, pack}
 use Rattle.spec_orders.proofs.Tests.{cond_cases}
 use Rattle.tree_tokens.specs.Tokens.{E, F, L, R, X, number, Judged, j_nil, j_leaf, j_node, tree, encode, flat}
+use Rattle.tree_tokens.specs.declared.ItemShape.TheVariants.{Leaf, CNode}
 use Rattle.tree_tokens.specs.Views.{shape_of, state_of, first_of, items_of, rest_of}
+use Rattle.tree_tokens.proofs.Laws.{c_or_not}
 use Rattle.tree_tokens.proofs.Sequences.{plain-length, flat_injective}
 use Rattle.tree_spans.specs.Spans.{is, passing, beyond}
 use Rattle.tree_spans.proofs.Laws.{beyond_stops}
@@ -223,7 +226,7 @@ some_tokens j_nil h = absurd (omega arith)
 some_tokens (j_leaf s b j) h = omega arith
 some_tokens (j_node s k i j) h = omega arith
 
-pub forks_some : (j : Judged) {l : List ℕ} → l ≡ encode j → 0 < length l → (shape_of j ≡ 1 → ⊥) → Forks j → 0 < length (encode (items_of j))
+pub forks_some : (j : Judged) {l : List ℕ} → l ≡ encode j → 0 < length l → (shape_of j ≡ some Leaf → ⊥) → Forks j → 0 < length (encode (items_of j))
 unfolding encode shape_of items_of
 forks_some j_nil e n s h = absurd (omega (arith, ap length e))
 forks_some (j_leaf s b j) e n z h = absurd (z refl)
@@ -233,16 +236,16 @@ forks_some (j_node s k i j) e n z h = some_tokens i h.0.0
 abbrev pub inner : Judged → Forest
 inner j = first_reduced (totals (beyond (is 0) (items_of j)))
 
-pub round_c : (j : Judged) → shape_of j ≡ 3 → (number (state_of j) < 2 → ⊥) → lone_of (totals (beyond (is 0) (items_of j))) ≡ true
+pub round_c : (j : Judged) → shape_of j ≡ some CNode → (number (state_of j) < 2 → ⊥) → lone_of (totals (beyond (is 0) (items_of j))) ≡ true
     → first_reduced (totals j) ≡ c_node_of (append (tree (passing (is 0) (items_of j))) (append (inner j) (tree (rest_of (beyond (is 0) (items_of j))))))
 round_c j s z l = reduced_c j s z ∙ ap c_node_of (middle_lone (items_of j) (lone_some (beyond (is 0) (items_of j)) l) l)
 
-pub round_p : (j : Judged) → (shape_of j ≡ 1 → ⊥) → (shape_of j ≡ 3 → ⊥) → (number (state_of j) < 2 → ⊥) → lone_of (totals (beyond (is 0) (items_of j))) ≡ true
+pub round_p : (j : Judged) → (shape_of j ≡ some Leaf → ⊥) → (shape_of j ≡ some CNode → ⊥) → (number (state_of j) < 2 → ⊥) → lone_of (totals (beyond (is 0) (items_of j))) ≡ true
     → first_reduced (totals j) ≡ pack (put_sorted (inner j) (append (tree (passing (is 0) (items_of j))) (tree (rest_of (beyond (is 0) (items_of j))))))
 round_p j s n z l =
     reduced_p j s n z ∙ ap₂ (λ (g f : Forest). pack (put_sorted g f)) (gather_lone (items_of j) l) (empties_lone (items_of j) l)
 
-pub round_c_length : (j : Judged) → shape_of j ≡ 3 → (number (state_of j) < 2 → ⊥) → lone_of (totals (beyond (is 0) (items_of j))) ≡ true
+pub round_c_length : (j : Judged) → shape_of j ≡ some CNode → (number (state_of j) < 2 → ⊥) → lone_of (totals (beyond (is 0) (items_of j))) ≡ true
     → length (flat (first_reduced (totals j))) ≡ 1 + (length (encode (passing (is 0) (items_of j))) + (length (flat (inner j)) + length (encode (rest_of (beyond (is 0) (items_of j))))))
 round_c_length j s z l =
     let p = passing (is 0) (items_of j) in
@@ -256,7 +259,7 @@ round_c_length j s z l =
       plain-length q,
     )
 
-pub round_p_length : (j : Judged) → (shape_of j ≡ 1 → ⊥) → (shape_of j ≡ 3 → ⊥) → (number (state_of j) < 2 → ⊥) → lone_of (totals (beyond (is 0) (items_of j))) ≡ true
+pub round_p_length : (j : Judged) → (shape_of j ≡ some Leaf → ⊥) → (shape_of j ≡ some CNode → ⊥) → (number (state_of j) < 2 → ⊥) → lone_of (totals (beyond (is 0) (items_of j))) ≡ true
     → length (encode (passing (is 0) (items_of j))) + (length (flat (inner j)) + length (encode (rest_of (beyond (is 0) (items_of j))))) ≤ length (flat (first_reduced (totals j)))
 round_p_length j s n z l =
     let p = passing (is 0) (items_of j) in
@@ -272,10 +275,6 @@ round_p_length j s n z l =
       plain-length q,
     )
 
-pub inner_short : (j : Judged) → (shape_of j ≡ 1 → ⊥) → (number (state_of j) < 2 → ⊥) → lone_of (totals (beyond (is 0) (items_of j))) ≡ true
+pub inner_short : (j : Judged) → (shape_of j ≡ some Leaf → ⊥) → (number (state_of j) < 2 → ⊥) → lone_of (totals (beyond (is 0) (items_of j))) ≡ true
     → length (flat (inner j)) ≤ length (flat (first_reduced (totals j)))
-inner_short j s z l = go (eqb (shape_of j) 3) refl
-  where
-    go : (b : Bool) → eqb (shape_of j) 3 ≡ b → length (flat (inner j)) ≤ length (flat (first_reduced (totals j)))
-    go true e = omega (arith, round_c_length j (eqb-true (shape_of j) 3 e) z l)
-    go false e = omega (arith, round_p_length j s (eqb-false (shape_of j) 3 e) z l)
+inner_short j s z l = elim (c_or_not j) [ inl e ↦ omega (arith, round_c_length j e z l) | inr n ↦ omega (arith, round_p_length j s n z l) ]

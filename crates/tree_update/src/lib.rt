@@ -21,6 +21,7 @@ ghost use Rattle.tree_update.specs.Update.{lone_of, NotLone, Forks, placed_again
 use tree_laid::{Laid, circle, seat};
 use tree_linear::{line, lines};
 use tree_pieces::{all_of_state, among, c_node, find_partial, pack_state};
+use tree_tokens::ItemShape;
 
 // Whether the first item is the last one that is not empty.
 fn lone(x: &[u16]) -> bool
@@ -121,8 +122,8 @@ fn reduced(x: &[u16], buf: &mut [u16], tmp: &mut [u16]) -> Laid
         × (length x.now ≤ 512) × (length buf.old ≡ 1024) × (length tmp.old ≡ 512) }
     ensures { (Midway result) × ((j : Judged) → x.now ≡ encode j → Lies (first_reduced (totals j)) buf.new result) }
 {
-    let k = tree_tokens::shape(x);
-    if k == 1 {
+    let shape = tree_tokens::shape(x);
+    if let ItemShape::Leaf = shape {
         return stay(x, buf);
     }
     if tree_tokens::state(x) < 2 {
@@ -133,15 +134,16 @@ fn reduced(x: &[u16], buf: &mut [u16], tmp: &mut [u16]) -> Laid
     let y = &w[i..];
     if lone(y) {
         let t = reduced(y, buf, tmp);
-        if k == 3 {
-            return circle(&w[0..i], t, tree_tokens::rest(y), buf, tmp);
-        }
-        return seat(&w[0..i], t, tree_tokens::rest(y), buf, tmp);
+        let after = tree_tokens::rest(y);
+        return match shape {
+            ItemShape::CNode => circle(&w[0..i], t, after, buf, tmp),
+            _ => seat(&w[0..i], t, after, buf, tmp),
+        };
     }
-    if k == 3 {
-        return base_c(w, buf, tmp);
+    match shape {
+        ItemShape::CNode => base_c(w, buf, tmp),
+        _ => base_p(w, buf, tmp),
     }
-    base_p(w, buf, tmp)
 }
 
 // Writes the tree with its full leaves consecutive to the start of out, and says how many tokens; `judged` are its tokens with their states.

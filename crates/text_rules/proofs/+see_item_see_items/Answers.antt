@@ -1,36 +1,36 @@
-use mathlib.Core.Path.{◌≡◌, refl, sym, ap, ◌∙◌}
+use mathlib.Core.Path.{refl, sym, ap, ◌∙◌}
 use Prim.Native.Nat.{◌+◌}
 use native.Mathlib.Omega.{arith}
-use lib.Dec.{eqb}
 use lib.ListN.{length, length-drop}
 use Rattle.spec_orders.specs.TreeText.{digits}
 use Rattle.spec_orders.proofs.ListLaws.{part_to_end}
 use Rattle.tree_tokens.specs.Tokens.{encode}
-use Rattle.tree_tokens.specs.Views.{shape_of, items_of, rest_of}
+use Rattle.tree_tokens.specs.Views.{items_of, rest_of}
 use Rattle.tree_tokens.proofs.Laws.{at_end, part_rest}
 use Rattle.tree_tokens.proofs.Steps.{here, at_last, next_item}
-use Rattle.text_rules.proofs.Seeing.{kind_in, kind_shape, first_size, saw_none, saw_leaf, saw_node, goes_start, goes_next, goes_end}
+use Rattle.text_rules.proofs.Seeing.{kind_in, KindRead, kind_p, kind_c, first_size, saw_none, saw_leaf, saw_node, goes_start, goes_next, goes_end}
 use Prim.Native.Nat.{◌<◌}
 use Rattle.text_rules.proofs.+see_item_see_items.Goals as goal
+use Rattle.text_rules.proofs.+see_item_see_items.Goals.{see_item-in-PNode, see_item-in-CNode}
 
-pub see_item-returns-then-s-eq1 : goal.see_item-returns-then-s-eq1
-see_item-returns-then-s-eq1 t c = λ j e.
-    let some : 0 < length (encode j) = omega (arith, ap length e, c.requires.1) in
-    let one = sym (c.shape-s.ensures j e) ∙ c.if-s-eq1.true in
+pub see_item-returns-in-Leaf : goal.see_item-returns-in-Leaf
+see_item-returns-in-Leaf t c = λ j e.
+    let there : 0 < length (encode j) = omega (arith, ap length e, c.requires.1) in
+    let one = sym (c.in-Leaf.ensures j e) in
     let b = c.leaf-b.ensures j e one in (
-      omega (arith, c.digit_count.ensures.0, first_size j some),
+      omega (arith, c.digit_count.ensures.0, first_size j there),
       saw_leaf j c.args.o one b b (ap (λ d. c.args.o + d) (c.digit_count.ensures.1 ∙ ap (λ v. length (digits v)) b)) refl,
     )
 
 pub see_item-returns : goal.see_item-returns
 see_item-returns t c = λ j e.
-    let some : 0 < length (encode j) = omega (arith, ap length e, c.requires.1) in
-    let no : shape_of j ≡ 1 → ⊥ = λ g. c.if-s-eq1.false (c.shape-s.ensures j e ∙ g) in
+    let there : 0 < length (encode j) = omega (arith, ap length e, c.requires.1) in
     let i = c.items.ensures.1 j e in
-    let kinds = kind_shape j some no in
-    let w = c.see_items-r.ensures.1 (items_of j) (kind_in j) i (ap (λ s. eqb s 2) (c.shape-s.ensures j e) ∙ kinds.0) in (
-      omega (arith, c.see_items-r.ensures.0, first_size j some, ap length i),
-      saw_node j c.args.o some no w refl refl refl (rw (← kinds.1, ← c.shape-s.ensures j e) c.broken_or.ensures),
+    let kinds : KindRead c.match-shape.is_p j =
+    elim c.match-shape.branch [ see_item-in-PNode w ↦ kind_p j w.is_p-is (w.in-PNode.ensures j e) | see_item-in-CNode w ↦ kind_c j w.is_p-is (w.in-CNode.ensures j e) ] in
+    let w = c.see_items-r.ensures.1 (items_of j) (kind_in j) i kinds.0 in (
+      omega (arith, c.see_items-r.ensures.0, first_size j there, ap length i),
+      saw_node j c.args.o there kinds.2 w refl refl refl (rw (← kinds.1) c.broken_or.ensures),
     )
 
 pub see_items-returns-then-toks-eq0 : goal.see_items-returns-then-toks-eq0
@@ -43,8 +43,8 @@ see_items-loop-i-init t c =
       omega (arith, (c.see_item-seen.ensures p.0 p.1).0, c.size-i.ensures.2 p.0 p.1),
       record {
         at = λ j e.
-            let some : 0 < length (encode j) = omega (arith, ap length e, c.if-toks-eq0.false) in
-            (rest_of j, sym (part_to_end c.args.toks.now c.size-i.result) ∙ part_rest j e (c.size-i.ensures.2 j e), λ k r. goes_start k c.args.o j c.requires.1 some (c.see_item-seen.ensures j e).1);
+            let there : 0 < length (encode j) = omega (arith, ap length e, c.if-toks-eq0.false) in
+            (rest_of j, sym (part_to_end c.args.toks.now c.size-i.result) ∙ part_rest j e (c.size-i.ensures.2 j e), λ k r. goes_start k c.args.o j c.requires.1 there (c.see_item-seen.ensures j e).1);
       },
     )
 

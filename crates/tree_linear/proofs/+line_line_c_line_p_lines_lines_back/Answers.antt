@@ -1,11 +1,12 @@
 use Prim.Native.Nat.{◌+◌, ℕ, ◌≤◌, ◌-◌}
 use lib.ListN.{length, take, drop, length-append, length-drop}
+use mathlib.Core.Option.{some}
 use mathlib.Core.Path.{sym, ap, ◌∙◌, refl, ◌≡◌}
 use native.Mathlib.Omega.{arith}
 use Rattle.tree_tokens.specs.Tokens.{flat, Judged, tree, encode}
 use Rattle.spec_orders.specs.Tree.{Forest}
 use Rattle.tree_tokens.specs.Views.{first_of, rest_of}
-use Rattle.tree_tokens.proofs.Laws.{at_end}
+use Rattle.tree_tokens.proofs.Laws.{at_end, shape_read}
 use Rattle.tree_tokens.proofs.Sequences.{plain-length}
 use Rattle.tree_tokens.proofs.Writes.{wrote_none, wrote_one, wrote_then}
 use Rattle.tree_pieces.proofs.Laws.{totals_none, flat_nil, AtFirst, at_first}
@@ -31,10 +32,10 @@ pub line-returns-then-x-eq0 : goal.line-returns-then-x-eq0
 line-returns-then-x-eq0 t c = λ j e. rw (at_end j e c.if-x-eq0.true, totals_none, flat_nil) (wrote_none _)
 
 pub line-bounds-out-0 : goal.line-bounds-out-0
-line-bounds-out-0 t c = let p = c.requires.0 in omega (arith, p.2, ap length (line_token c.args.back p.0 p.1 (sym (c.shape-k.ensures p.0 p.1) ∙ c.if-k-eq1.true)))
+line-bounds-out-0 t c = let p = c.requires.0 in omega (arith, p.2, ap length (line_token c.args.back p.0 p.1 (sym (c.shape-shape.ensures p.0 p.1) ∙ ap some c.in-Leaf.is)))
 
-pub line-returns-then-k-eq1 : goal.line-returns-then-k-eq1
-line-returns-then-k-eq1 t c = λ j e. rw (line_token c.args.back j e (sym (c.shape-k.ensures j e) ∙ c.if-k-eq1.true)) (wrote_one _ _ (line-bounds-out-0 t c))
+pub line-returns-in-Leaf : goal.line-returns-in-Leaf
+line-returns-in-Leaf t c = λ j e. rw (line_token c.args.back j e (sym (c.shape-shape.ensures j e) ∙ ap some c.in-Leaf.is)) (wrote_one _ _ (line-bounds-out-0 t c))
 
 pub line-strip-requires : goal.line-strip-requires
 line-strip-requires t c =
@@ -49,18 +50,18 @@ line-returns-then-state-ne2 t c = λ j e. rw (line_kept c.args.back j (λ h. c.i
 pub line-line_c-requires : goal.line-line_c-requires
 line-line_c-requires t c =
     let p = c.requires.0 in
-    (omega arith, ((_, c.items.ensures.1 p.0 p.1, omega (arith, p.2, ap (λ (f : Forest). length (flat f)) (line_of_c c.args.back p.0 (sym (c.shape-k.ensures p.0 p.1) ∙ c.if-k-eq3.true) (sym (c.state.ensures p.0 p.1) ∙ c.if-state-ne2.false)))), omega (arith, c.items.ensures.0, c.requires.1)))
+    (omega arith, ((_, c.items.ensures.1 p.0 p.1, omega (arith, p.2, ap (λ (f : Forest). length (flat f)) (line_of_c c.args.back p.0 (sym (c.shape-shape.ensures p.0 p.1) ∙ ap some c.in-CNode.is) (sym (c.state.ensures p.0 p.1) ∙ c.if-state-ne2.false)))), omega (arith, c.items.ensures.0, c.requires.1)))
 
-pub line-returns-then-k-eq3 : goal.line-returns-then-k-eq3
-line-returns-then-k-eq3 t c = λ j e. rw (line_of_c c.args.back j (sym (c.shape-k.ensures j e) ∙ c.if-k-eq3.true) (sym (c.state.ensures j e) ∙ c.if-state-ne2.false)) (c.line_c.ensures _ (c.items.ensures.1 j e))
+pub line-returns-in-CNode : goal.line-returns-in-CNode
+line-returns-in-CNode t c = λ j e. rw (line_of_c c.args.back j (sym (c.shape-shape.ensures j e) ∙ ap some c.in-CNode.is) (sym (c.state.ensures j e) ∙ c.if-state-ne2.false)) (c.line_c.ensures _ (c.items.ensures.1 j e))
 
 pub line-line_p-requires : goal.line-line_p-requires
 line-line_p-requires t c =
     let p = c.requires.0 in
-    (omega arith, ((_, c.items-2.ensures.1 p.0 p.1, omega (arith, p.2, ap (λ (f : Forest). length (flat f)) (line_of_p c.args.back p.0 (λ h. c.if-k-eq1.false (c.shape-k.ensures p.0 p.1 ∙ h)) (λ h. c.if-k-eq3.false (c.shape-k.ensures p.0 p.1 ∙ h)) (sym (c.state.ensures p.0 p.1) ∙ c.if-state-ne2.false)))), omega (arith, c.items-2.ensures.0, c.requires.1)))
+    (omega arith, ((_, c.items-in_default-shape.ensures.1 p.0 p.1, omega (arith, p.2, ap (λ (f : Forest). length (flat f)) (line_of_p c.args.back p.0 (λ h. c.in_default.not-Leaf (shape_read (c.shape-shape.ensures p.0 p.1) h)) (λ h. c.in_default-shape.not-CNode (shape_read (c.shape-shape.ensures p.0 p.1) h)) (sym (c.state.ensures p.0 p.1) ∙ c.if-state-ne2.false)))), omega (arith, c.items-in_default-shape.ensures.0, c.requires.1)))
 
-pub line-returns : goal.line-returns
-line-returns t c = λ j e. rw (line_of_p c.args.back j (λ h. c.if-k-eq1.false (c.shape-k.ensures j e ∙ h)) (λ h. c.if-k-eq3.false (c.shape-k.ensures j e ∙ h)) (sym (c.state.ensures j e) ∙ c.if-state-ne2.false)) (c.line_p.ensures _ (c.items-2.ensures.1 j e))
+pub line-returns-in_default-shape : goal.line-returns-in_default-shape
+line-returns-in_default-shape t c = λ j e. rw (line_of_p c.args.back j (λ h. c.in_default.not-Leaf (shape_read (c.shape-shape.ensures j e) h)) (λ h. c.in_default-shape.not-CNode (shape_read (c.shape-shape.ensures j e) h)) (sym (c.state.ensures j e) ∙ c.if-state-ne2.false)) (c.line_p.ensures _ (c.items-in_default-shape.ensures.1 j e))
 
 pub line_c-lines_back-requires : goal.line_c-lines_back-requires
 line_c-lines_back-requires t c = let p = c.requires.0 in (omega arith, ((_, p.1, omega (arith, p.2, ap (λ (f : Forest). length (flat f)) (c_turned c.args.back (totals p.0) (c.rises.ensures p.0 p.1) c.if-rises-back.true))), c.requires.1))

@@ -42,12 +42,12 @@ circle-requires c = let n = c.requires.0.4 in
     let a = front_tokens n c.items-w.ensures.1 in
     ((_, b), (_, a), (_, c.requires.1.1), c.requires.2, omega (arith, ap length a, ap length b, x_long n c.items-w.ensures.1, one_some c.requires.0.2, c.requires.3), c.requires.4, c.requires.5)
 
-pub returns-then-shape-eq3 : goal.returns-then-shape-eq3
-returns-then-shape-eq3 c = (
+pub returns-in-CNode : goal.returns-in-CNode
+returns-in-CNode c = (
   c.circle.ensures.0,
   λ k f y g v n l.
       let h = c.items-w.ensures.1 in
-      lies_c v f g (shape_c (append f (put y g)) c.shape.ensures k n.is c.if-shape-eq3.true) (c.circle.ensures.1 _ _ (one v) (back_tokens n h c.rest-b.ensures.1) (front_tokens n h) l),
+      lies_c v f g (shape_c (append f (put y g)) c.shape.ensures k n.is c.in-CNode.is) (c.circle.ensures.1 _ _ (one v) (back_tokens n h c.rest-b.ensures.1) (front_tokens n h) l),
 )
 
 pub seat-requires : goal.seat-requires
@@ -56,10 +56,10 @@ seat-requires c = let n = c.requires.0.4 in
     let a = front_tokens n c.items-w.ensures.1 in
     ((_, a), (_, b), (_, c.requires.1.1), c.requires.2, omega (arith, ap length a, ap length b, x_long n c.items-w.ensures.1, one_some c.requires.0.2, c.requires.3), c.requires.4, c.requires.5)
 
-pub returns : goal.returns
-returns c = (
+pub returns-in_default : goal.returns-in_default
+returns-in_default c = (
   c.seat.ensures.0,
   λ k f y g v n l.
       let h = c.items-w.ensures.1 in
-      lies_p v y f g (shape_p (append f (put y g)) c.shape.ensures k n.is c.if-shape-eq3.false) n.two (c.seat.ensures.1 _ _ (one v) (front_tokens n h) (back_tokens n h c.rest-b.ensures.1) l),
+      lies_p v y f g (shape_p (append f (put y g)) c.shape.ensures k n.is c.in_default.not-CNode) n.two (c.seat.ensures.1 _ _ (one v) (front_tokens n h) (back_tokens n h c.rest-b.ensures.1) l),
 )
