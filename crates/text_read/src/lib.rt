@@ -56,9 +56,8 @@ pub fn read_text(text: &[u8], n: usize, out: &mut [u16]) -> Result<usize, usize>
     }
     let mut spelled = [0u16; 512];
     let k = text_shape::shape(text, n, &mut spelled)?;
-    let p = text_rules::broken(&spelled[..k]);
-    if p != 0 {
-        return Err(p);
+    if let Some(byte) = text_rules::broken(&spelled[..k]) {
+        return Err(byte);
     }
     Ok(relabel(&spelled[..k], out))
 }

@@ -1,65 +1,46 @@
 // The P and C rules of a tree text, on its tokens: the least byte at which one is broken.
 #![tactic(auto)]
 
-ghost use Rattle.std.specs.Prelude.{◌≡◌, cond, ◌&&◌, ◌+◌, ◌*◌, ◌≤◌, ◌<◌, ltb, length};
+ghost use Rattle.std.specs.Prelude.{◌≡◌, ◌&&◌, ◌+◌, ◌*◌, ◌≤◌, ◌<◌, ltb, length};
+ghost use Rattle.std.specs.Bool.{then_some};
 ghost use Rattle.spec_orders.specs.Tree.{Kind, C};
 ghost use Rattle.spec_orders.specs.TreeText.{digits};
 ghost use Rattle.tree_tokens.specs.Tokens.{Judged, tree, encode, Tokens};
 ghost use Rattle.tree_tokens.specs.Views.{first_of};
-ghost use Rattle.text_scanner.specs.Rule.{is_p, or_else, broken_at};
-ghost use Rattle.text_rules.specs.Seen.{Saw};
+ghost use Rattle.text_scanner.specs.Rule.{is_p, broken_at};
+ghost use Rattle.text_rules.specs.Seen.{found_byte, Saw};
 
 use tree_tokens::ItemShape;
 
 // What is seen of a sequence of items: the first leaf of its first and of its last item, the byte at which its text ends, and the least byte at
-// which it breaks a rule, 0 where it breaks none.
-#[derive(Drop)]
+// which it breaks a rule, if it breaks one.
+#[derive(Clone, Copy)]
 pub struct Seen {
     pub first: u16,
     pub last: u16,
     pub end: usize,
-    pub broken: usize,
+    pub broken: Option<usize>,
 }
 
 // How many digits b has.
+#[tactic(auto, using(crate::proofs::Digits::one_digit, crate::proofs::Digits::more_digits))]
 fn digit_count(b: u16) -> usize
     ensures { (result ≤ 5) × (result ≡ length (digits b)) }
 {
-    if b < 10 {
-        return 1;
+    match b {
+        0..=9 => 1,
+        10..=99 => 2,
+        100..=999 => 3,
+        1000..=9999 => 4,
+        _ => 5,
     }
-    if b < 100 {
-        return 2;
-    }
-    if b < 1000 {
-        return 3;
-    }
-    if b < 10000 {
-        return 4;
-    }
-    5
 }
 
-// Byte o, where the rule asks that b is not below m, and it is; else p.
-fn broken_or(rule: bool, b: u16, m: u16, o: usize, p: usize) -> usize
-    ensures { result ≡ cond (rule && ltb b m) o p }
+// Byte o, where the rule asks that b is not below m, and it is.
+fn broken_here(rule: bool, b: u16, m: u16, o: usize) -> Option<usize>
+    ensures { result ≡ then_some (rule && ltb b m) o }
 {
-    if rule {
-        if b < m {
-            return o;
-        }
-    }
-    p
-}
-
-// The first of two bytes that is not 0.
-fn or_else(p: usize, q: usize) -> usize
-    ensures { result ≡ or_else p q }
-{
-    if p == 0 {
-        return q;
-    }
-    p
+    (rule && b < m).then_some(o)
 }
 
 // What is seen of the first item alone, whose text starts at byte o.
@@ -76,7 +57,7 @@ fn see_item(toks: &[u16], o: usize) -> Seen
                 first: b,
                 last: b,
                 end: o + digit_count(b),
-                broken: 0,
+                broken: None,
             };
         }
         ItemShape::PNode => true,
@@ -87,7 +68,7 @@ fn see_item(toks: &[u16], o: usize) -> Seen
         first: r.first,
         last: r.first,
         end: r.end + 1,
-        broken: broken_or(!is_p, r.last, r.first, o + 2, r.broken),
+        broken: broken_here(!is_p, r.last, r.first, o + 2).or(r.broken),
     }
 }
 
@@ -103,7 +84,7 @@ fn see_items(toks: &[u16], rising: bool, o: usize) -> Seen
             first: 0,
             last: 0,
             end: o,
-            broken: 0,
+            broken: None,
         };
     }
     let mut seen = see_item(toks, o);
@@ -112,8 +93,8 @@ fn see_items(toks: &[u16], rising: bool, o: usize) -> Seen
         let y = &toks[i..];
         let at = seen.end + 1;
         let t = see_item(y, at);
-        let p = broken_or(rising, t.first, seen.last, at, t.broken);
-        seen.broken = or_else(seen.broken, p);
+        let falls = broken_here(rising, t.first, seen.last, at);
+        seen.broken = seen.broken.or(falls).or(t.broken);
         seen.last = t.first;
         seen.end = t.end;
         i += tree_tokens::size(y);
@@ -121,11 +102,10 @@ fn see_items(toks: &[u16], rising: bool, o: usize) -> Seen
     seen
 }
 
-// The least byte at which what hangs at leaf 1 breaks a rule, 0 where it breaks none. Its text starts at byte 2.
-pub fn broken(toks: &[u16]) -> usize
+// The least byte at which what hangs at leaf 1 breaks a rule, if it breaks one. Its text starts at byte 2.
+pub fn broken(toks: &[u16]) -> Option<usize>
     requires { (Tokens toks.now) × (length toks.now ≤ 512) }
-    ensures { (j : Judged) → toks.now ≡ encode j → result ≡ broken_at C 0 2 (tree j) }
+    ensures { (j : Judged) → toks.now ≡ encode j → result ≡ found_byte (broken_at C 0 2 (tree j)) }
 {
-    let r = see_items(toks, false, 2);
-    r.broken
+    see_items(toks, false, 2).broken
 }

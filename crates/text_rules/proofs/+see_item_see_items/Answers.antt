@@ -2,6 +2,7 @@ use mathlib.Core.Path.{refl, sym, ap, ◌∙◌}
 use Prim.Native.Nat.{◌+◌}
 use native.Mathlib.Omega.{arith}
 use lib.ListN.{length, length-drop}
+use Rattle.std.specs.Option.{option_or}
 use Rattle.spec_orders.specs.TreeText.{digits}
 use Rattle.spec_orders.proofs.ListLaws.{part_to_end}
 use Rattle.tree_tokens.specs.Tokens.{encode}
@@ -30,7 +31,7 @@ see_item-returns t c = λ j e.
     elim c.match-shape.branch [ see_item-in-PNode w ↦ kind_p j w.is_p-is (w.in-PNode.ensures j e) | see_item-in-CNode w ↦ kind_c j w.is_p-is (w.in-CNode.ensures j e) ] in
     let w = c.see_items-r.ensures.1 (items_of j) (kind_in j) i kinds.0 in (
       omega (arith, c.see_items-r.ensures.0, first_size j there, ap length i),
-      saw_node j c.args.o there kinds.2 w refl refl refl (rw (← kinds.1) c.broken_or.ensures),
+      saw_node j c.args.o there kinds.2 kinds.1 w refl refl refl (c.or.ensures ∙ ap (λ p. option_or p c.see_items-r.result.broken) c.broken_here.ensures),
     )
 
 pub see_items-returns-then-toks-eq0 : goal.see_items-returns-then-toks-eq0
@@ -55,7 +56,7 @@ see_items-loop-i-preserved t c =
       omega (arith, c.size-i-in-loop-i.ensures.1, length-drop c.loop-i.i c.args.toks.now),
       omega (arith, c.loop-i.invariant.1, (c.see_item-t.ensures h.0 h.1.part).0, c.size-i-in-loop-i.ensures.2 h.0 h.1.part),
       next_item c.loop-i.invariant.2 c.loop-i-test.true c.size-i-in-loop-i.ensures.2 (λ j f q g k r.
-          goes_next f (g k r) q.some (c.see_item-t.ensures f q.part).1 refl refl refl (rw (← r, ← c.broken_or-p.ensures) c.or_else.ensures)),
+          goes_next f (g k r) q.some (c.see_item-t.ensures f q.part).1 refl refl refl (rw (← r, ← c.broken_here-falls.ensures, ← c.or.ensures) c.or-seen.ensures)),
     )
 
 pub see_items-returns : goal.see_items-returns
