@@ -11,7 +11,7 @@ use Rattle.spec_orders.specs.TreeText.{digits}
 use Rattle.spec_orders.proofs.Digits.{digits-one}
 use Rattle.tree_tokens.specs.Tokens.{leaf_token, encode, Wrote, flat}
 use Rattle.tree_tokens.proofs.Writes.{wrote_one}
-use Rattle.text_scanner.specs.Scan.{due, num, letter?, run_at}
+use Rattle.text_scanner.specs.Scan.{due, num, letter?, run_at, refused}
 use Rattle.text_scanner.specs.Unused.{unused, any_start}
 use Rattle.text_scanner.proofs.Numbers.{first_digit, not_first, unused-set}
 use Rattle.text_scanner.proofs.Moves.{due_number, due_none}
@@ -36,17 +36,22 @@ marks_set {many} {used} v m n f = record {
   zero_set = get_or-set_other used v 0 1 0 (not_zero v used m.zero_set f) ∙ m.zero_set;
 }
 
+-- A byte at which no leaf goes on.
+module _ (x : List ℕ) (at : ℕ) (used cs : List ℕ) (c : ℕ) (h : at < length x) (s : letter? (get_or x at 0) ≡ false) (z : get_or used 0 0 ≡ 1) where
+  pub leaf_below : get_or x at 0 < 49 → run_at x at (due c cs (unused 0 used)) ≡ refused at
+  leaf_below n = due_none x at h c cs (unused 0 used) s (not_first used (get_or x at 0) z (λ l g. omega arith))
+
+  pub leaf_above : 57 < get_or x at 0 → run_at x at (due c cs (unused 0 used)) ≡ refused at
+  leaf_above n = due_none x at h c cs (unused 0 used) s (not_first used (get_or x at 0) z (λ l g. omega arith))
+
+  pub leaf_none : 49 ≤ get_or x at 0 → get_or x at 0 ≤ 57 → length used ≤ 257 → any_start (get_or x at 0 - 48) 0 used ≡ false
+      → run_at x at (due c cs (unused 0 used)) ≡ refused at
+  leaf_none low high w n = due_none x at h c cs (unused 0 used) s (first_digit used (get_or x at 0) low high (omega arith) ∙ n)
+
+pub ruleset no_leaf = (leaf_below, leaf_above, leaf_none)
+
 module _ (x : List ℕ) (at many : ℕ) (used : List ℕ) (h : at < length x) (s : letter? (get_or x at 0) ≡ false) (m : Marks many used) (c want : ℕ) where
-  abbrev No : ℕ → Type 0
-  No p = Stops x at (λ cs. due c cs (unused 0 used)) want p
-
-  pub leaf_other : (49 ≤ get_or x at 0 → get_or x at 0 ≤ 57 → ⊥) → No at
-  leaf_other n cs w = due_none x at h c cs (unused 0 used) s (not_first used (get_or x at 0) m.zero_set n)
-
   module _ (low : 49 ≤ get_or x at 0) (high : get_or x at 0 ≤ 57) where
-    pub leaf_none : any_start (get_or x at 0 - 48) 0 used ≡ false → No at
-    leaf_none n cs w = due_none x at h c cs (unused 0 used) s (first_digit used (get_or x at 0) low high (omega (arith, m.wide)) ∙ n)
-
     module _ (y : any_start (get_or x at 0 - 48) 0 used ≡ true) where
       digit : digits (get_or x at 0 - 48) ≡ get_or x at 0 ∷ []
       digit = digits-one (get_or x at 0 - 48) (omega arith) ∙ ap (λ d. d ∷ []) (omega arith)
@@ -56,7 +61,7 @@ module _ (x : List ℕ) (at many : ℕ) (used : List ℕ) (h : at < length x) (s
           due_number x at h c cs (unused 0 used) s (first_digit used (get_or x at 0) low high (omega (arith, m.wide)) ∙ y)
           ∙ ap (λ ds. run_at x (at + 1) (num ds (c - 1) cs (unused 0 used))) (sym digit)
 
-      pub leaf_stops : (p : ℕ) → NumberRead x (at + 1) (get_or x at 0 - 48) used (Err p) → No p
+      pub leaf_stops : (p : ℕ) → NumberRead x (at + 1) (get_or x at 0 - 48) used (Err p) → Stops x at (λ cs. due c cs (unused 0 used)) want p
       leaf_stops p n cs w = begins cs ∙ n (c - 1) cs
 
       pub leaf_read : (r : Numeral) → LeafRead x (at + 1) (get_or x at 0 - 48) used r → (old : List ℕ) → 1 ≤ many → c - 1 + want < many → 0 < length old

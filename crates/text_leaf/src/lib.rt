@@ -22,6 +22,7 @@ pub fn is_letter(b: u8) -> bool
 }
 
 // Reads the leaf at byte `at`, marks it as used and writes its token; or answers the byte of the refusal.
+#[tactic(auto, using(crate::proofs::Leaves::no_leaf))]
 pub fn leaf(
     text: &[u8],
     at: usize,
@@ -52,6 +53,7 @@ pub fn leaf(
 }
 
 // The token of a node whose items have m tokens; b is its letter.
+#[tactic(auto, unfolding(tree_tokens::specs::Tokens::node_token))]
 pub fn header(b: u8, m: usize) -> u16
     requires { m ≤ 512 }
     ensures { result ≡ node_token E (kind_of_letter b) m }

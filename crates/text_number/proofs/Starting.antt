@@ -76,7 +76,7 @@ one_free v used f = started v 0 used f.0 f.3 f.4 (starts-same v (0 + f.0) (omega
 pub ten_free : (v : ℕ) (used : List ℕ) → FreeIn used (10 * v) (10 * v + 10) → any_start v 0 used ≡ true
 ten_free v used f = started v 0 used f.0 f.3 f.4 (starts_ten v (0 + f.0) (omega arith))
 
-hundred_free : (v : ℕ) (used : List ℕ) → FreeIn used (100 * v) (100 * v + 100) → any_start v 0 used ≡ true
+pub hundred_free : (v : ℕ) (used : List ℕ) → FreeIn used (100 * v) (100 * v + 100) → any_start v 0 used ≡ true
 hundred_free v used f = started v 0 used f.0 f.3 f.4 (starts_hundred v (0 + f.0) (omega arith))
 
 -- None of these.
@@ -98,14 +98,7 @@ none_free v used no_one no-ten no-hundred = false_if (any_start v 0 used) (λ e.
         let s : starts v m ≡ true = rw e at s in
         first m h z (or_either (eqb m v) (eqb (m / 10) v || eqb (m / 100) v) s)
 
-pub last_free : (v : ℕ) (used : List ℕ) (r : Bool) → (FreeIn used v (v + 1) → ⊥) → (FreeIn used (10 * v) (10 * v + 10) → ⊥)
-    → ((r ≡ true) ↔ FreeIn used (100 * v) (100 * v + 100)) → r ≡ any_start v 0 used
-last_free v used true no_one no-ten h = sym (hundred_free v used (h.0 refl))
-last_free v used false no_one no-ten h = sym (none_free v used no_one no-ten (λ f. true≢false (sym (h.1 f))))
-
--- A test that failed.
-pub not_free : {r : Bool} {Q : Type 0} → r ≡ false → ((r ≡ true) ↔ Q) → Q → ⊥
-not_free e h q = true≢false (sym (h.1 q) ∙ e)
+pub ruleset free_leaves = (one_free, ten_free, hundred_free, none_free)
 
 -- The marks from `from` on, m of them: where one is 0.
 module _ (used : List ℕ) (from k m : ℕ) (h : from ≤ length used) (e : m ≡ min k (length used - from)) where

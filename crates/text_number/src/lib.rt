@@ -19,23 +19,14 @@ fn unused_among(used: &[u8], from: usize, k: usize) -> bool
 }
 
 // Whether the digits of some unused leaf begin with those of v: v itself, or v with one or two digits more.
+#[tactic(auto, using(crate::proofs::Starting::free_leaves))]
 pub fn any_start(used: &[u8], v: usize) -> bool
     ensures { result ≡ any_start v 0 used.now }
 {
-    if unused_among(used, v, 1) {
-        return true;
-    }
     let n = used.len();
-    if v > n / 10 {
-        return false;
-    }
-    if unused_among(used, 10 * v, 10) {
-        return true;
-    }
-    if v > n / 100 {
-        return false;
-    }
-    unused_among(used, 100 * v, 100)
+    unused_among(used, v, 1)
+        || (v <= n / 10 && unused_among(used, 10 * v, 10))
+        || (v <= n / 100 && unused_among(used, 100 * v, 100))
 }
 
 // A number that was read: the unused leaf with these digits, and the byte after them.

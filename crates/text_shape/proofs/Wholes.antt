@@ -1,5 +1,6 @@
 -- The whole text: one word, or the root and nothing after it.
 use mathlib.Core.Path.{◌≡◌, refl, sym, ◌∙◌, ap, ap₂}
+use Rattle.std.specs.Prelude.{◌≢◌}
 use mathlib.Core.Bool.{false}
 use mathlib.Core.List.{List, [], ◌∷◌, ◌++◌}
 use Prim.Native.Nat.{ℕ, zero, suc, ◌+◌, ◌-◌, ◌≤◌, ◌<◌}
@@ -13,7 +14,7 @@ use Rattle.spec_orders.specs.Tree.{nil, node}
 use Rattle.spec_orders.specs.TreeText.{text, tree_text}
 use Rattle.spec_orders.proofs.TextTree.{text_injective}
 use Rattle.tree_tokens.specs.Tokens.{E, node_token}
-use Rattle.text_scanner.specs.Scan.{text_start, lit, pre, open_due, after, letter?, run_at, accepted, refused}
+use Rattle.text_scanner.specs.Scan.{TextAnswer, text_start, lit, pre, open_due, after, letter?, run_at, accepted, refused}
 use Rattle.text_scanner.specs.Unused.{unused}
 use Rattle.text_scanner.proofs.Moves.{at_end, all_read, word_read, word_byte, word_bad, word_over, pre_byte, pre_bad, pre_letter, pre_none, close_root, close_left, after_root}
 use Rattle.text_scanner.proofs.Exact.{others-length, refused_shape, accepted_shape, start_pre}
@@ -40,43 +41,41 @@ module _ (x w : List ℕ) (i : ℕ) (e : run_at x 0 (lit w) ≡ run_at x i (lit 
       pub word_goes : get_or x i 0 ≡ get_or w i 0 → run_at x 0 (lit w) ≡ run_at x (i + 1) (lit (drop (i + 1) w))
       word_goes d = next_byte ∙ word_byte x i n (get_or w i 0) (drop (i + 1) w) d
 
-  module _ (p : ℕ) (q : p ≡ i) (h : length w ≤ i) where
-    spent : run_at x 0 (lit w) ≡ run_at x p (lit [])
-    spent = e ∙ ap (λ l. run_at x i (lit l)) (drop_of_length-le w h) ∙ ap (λ j. run_at x j (lit [])) (sym q)
+  module _ (h : length w ≤ i) where
+    spent : run_at x 0 (lit w) ≡ run_at x i (lit [])
+    spent = e ∙ ap (λ l. run_at x i (lit l)) (drop_of_length-le w h)
 
-    pub word_longer : p < length x → run_at x 0 (lit w) ≡ refused p
-    word_longer n = spent ∙ word_over x p n
+    pub word_longer : (p : ℕ) → p ≡ i → i < length x → run_at x 0 (lit w) ≡ refused p
+    word_longer p q n = spent ∙ word_over x i n ∙ ap refused (sym q)
 
-    pub word_whole : length x ≤ p → run_at x 0 (lit w) ≡ accepted
-    word_whole n = spent ∙ word_read x p n
+    pub word_whole : length x ≤ i → run_at x 0 (lit w) ≡ accepted
+    word_whole n = spent ∙ word_read x i n
+
+pub ruleset words = (word_ends, word_differs, word_goes, word_longer)
 
 -- `1`, a space and a letter.
-module _ (x : List ℕ) where
-  abbrev RefusedAt : ℕ → Type 0
-  RefusedAt p = (l : List ℕ) → run_at x 0 (pre (49 ∷ 32 ∷ []) l) ≡ refused p
+abbrev opened : List ℕ → List ℕ → TextAnswer
+opened x l = run_at x 0 (pre (49 ∷ 32 ∷ []) l)
 
-  pub not_one : (0 < length x → get_or x 0 0 ≡ 49 → ⊥) → RefusedAt 0
-  not_one n l = go (dec_lt 0 (length x))
-    where
-      go : Dec (0 < length x) → run_at x 0 (pre (49 ∷ 32 ∷ []) l) ≡ refused 0
-      go (yes h) = pre_bad x 0 h 49 (32 ∷ []) l (n h)
-      go (no h) = at_end x 0 (pre (49 ∷ 32 ∷ []) l) (omega arith) refl
+pub opening_0 : (x l : List ℕ) → length x ≤ 0 → opened x l ≡ refused 0
+opening_0 x l n = at_end x 0 (pre (49 ∷ 32 ∷ []) l) n refl
 
-  module _ (h : 0 < length x) (one : get_or x 0 0 ≡ 49) where
-    pub not_space : (1 < length x → get_or x 1 0 ≡ 32 → ⊥) → RefusedAt 1
-    not_space n l = pre_byte x 0 h 49 (32 ∷ []) l one ∙ go (dec_lt 1 (length x))
-      where
-        go : Dec (1 < length x) → run_at x 1 (pre (32 ∷ []) l) ≡ refused 1
-        go (yes h) = pre_bad x 1 h 32 [] l (n h)
-        go (no h) = at_end x 1 (pre (32 ∷ []) l) (omega arith) refl
+pub not_one : (x l : List ℕ) → 0 < length x → get_or x 0 0 ≢ 49 → opened x l ≡ refused 0
+not_one x l h n = pre_bad x 0 h 49 (32 ∷ []) l n
 
-    module _ (g : 1 < length x) (space : get_or x 1 0 ≡ 32) where
-      pub not_letter : (2 < length x → letter? (get_or x 2 0) ≡ false) → RefusedAt 2
-      not_letter n l = pre_byte x 0 h 49 (32 ∷ []) l one ∙ pre_byte x 1 g 32 [] l space ∙ go (dec_lt 2 (length x))
-        where
-          go : Dec (2 < length x) → run_at x 2 (pre [] l) ≡ refused 2
-          go (yes h) = pre_none x 2 h l (n h)
-          go (no h) = at_end x 2 (pre [] l) (omega arith) refl
+pub opening_1 : (x l : List ℕ) → length x ≡ 1 → get_or x 0 0 ≡ 49 → opened x l ≡ refused 1
+opening_1 x l h one = pre_byte x 0 (omega arith) 49 (32 ∷ []) l one ∙ at_end x 1 (pre (32 ∷ []) l) (omega arith) refl
+
+pub not_space : (x l : List ℕ) → 1 < length x → get_or x 0 0 ≡ 49 → get_or x 1 0 ≢ 32 → opened x l ≡ refused 1
+not_space x l h one n = pre_byte x 0 (omega arith) 49 (32 ∷ []) l one ∙ pre_bad x 1 h 32 [] l n
+
+pub opening_2 : (x l : List ℕ) → length x ≡ 2 → get_or x 0 0 ≡ 49 → get_or x 1 0 ≡ 32 → opened x l ≡ refused 2
+opening_2 x l h one space = pre_byte x 0 (omega arith) 49 (32 ∷ []) l one ∙ pre_byte x 1 (omega arith) 32 [] l space ∙ at_end x 2 (pre [] l) (omega arith) refl
+
+pub not_letter : (x l : List ℕ) → 2 < length x → get_or x 0 0 ≡ 49 → get_or x 1 0 ≡ 32 → letter? (get_or x 2 0) ≡ false → opened x l ≡ refused 2
+not_letter x l h one space n = pre_byte x 0 (omega arith) 49 (32 ∷ []) l one ∙ pre_byte x 1 (omega arith) 32 [] l space ∙ pre_none x 2 h l n
+
+pub ruleset openings = (opening_0, not_one, opening_1, not_space, opening_2, not_letter)
 
 -- The root, after the opening.
 module _ (x : List ℕ) (letter : ℕ) (b : TextBegins x letter) where

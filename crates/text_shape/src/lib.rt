@@ -7,6 +7,7 @@ ghost use Rattle.text_leaf.specs.Passages.{Marks};
 ghost use Rattle.text_shape.specs.Texts.{WordRead, Opening, WholeRead, ShapeRead};
 
 // Whether the text is the word; or the byte at which it is refused.
+#[tactic(auto, using(crate::proofs::Wholes::words))]
 pub fn word_read(text: &[u8], word: &[u8]) -> Result<(), usize>
     ensures { WordRead text.now word.now result }
 {
@@ -22,6 +23,7 @@ pub fn word_read(text: &[u8], word: &[u8]) -> Result<(), usize>
 }
 
 // The letter that follows `1` and a space at the start of the text; or the byte at which it is refused.
+#[tactic(auto, using(crate::proofs::Wholes::openings))]
 fn opening(text: &[u8]) -> Result<u8, usize>
     ensures { Opening text.now result }
 {
