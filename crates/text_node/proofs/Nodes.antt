@@ -154,23 +154,6 @@ module _ (x : List ℕ) (at c want many : ℕ) (used : List ℕ) {used' old mid 
     pub items_short : get_or x r.at 0 ≡ 41 → (rest ≡ 0 → ⊥) → NoItems r.at
     items_short b s cs w = first.moves cs w ∙ after_short x r.at h (c - 1) cs (unused 0 used') b (λ e. s (n ∙ e))
 
-    pub items_closed : get_or x r.at 0 ≡ 41 → rest ≡ 0 → ItemsRead x at c want many used used' old mid (Ok r)
-    items_closed b s = (
-      record {
-        forest = first.forest;
-        some_item = first.some_item;
-        wrote = first.wrote;
-        bytes = first.bytes;
-        moves = λ cs w. first.moves cs w ∙ ap (λ d. run_at x r.at (after (d ∷ cs) (unused 0 used'))) (sym n ∙ s);
-        marks = first.marks;
-        onward = first.onward;
-        within = first.within;
-        enough = omega (arith, first.enough);
-        few = omega (arith, first.few);
-      },
-      record { there = h; bracket = b },
-    )
-
     module _ (s : get_or x r.at 0 ≡ 32) where
       pub items_few : r.left < 1 + (rest - 1 + want) → NoItems r.at
       items_few l cs w = first.moves cs w ∙ after_few x r.at h (c - 1) cs (unused 0 used') s (omega (arith, first.marks.count))
