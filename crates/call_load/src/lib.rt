@@ -48,6 +48,6 @@ pub fn test_load(n: usize, seed: u32, groups: usize, bytes: &mut [u8]) -> Answer
         return Answer::Refused(refusal);
     }
     let k = load_file::write_load(n, seed, groups, bytes);
-    let _ = byte_write::zeros(65536 - k, &mut bytes[k..]);
+    bytes[k..65536].fill(0);
     Answer::Done(k)
 }

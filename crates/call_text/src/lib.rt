@@ -22,7 +22,7 @@ fn fill(toks: &[u16], bytes: &mut [u8]) -> usize
         → Fills t bytes.old bytes.new result }
 {
     let m = text_write::tree_text(toks, bytes);
-    let _ = byte_write::zeros(2048 - m, &mut bytes[m..]);
+    bytes[m..2048].fill(0);
     m
 }
 

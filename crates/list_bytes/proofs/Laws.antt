@@ -6,12 +6,18 @@ use native.Mathlib.Omega.{arith}
 use borrow.Rule.Slice.PartMut.{put_mid}
 use lib.ListN.{length, take, drop, length-append}
 use Rattle.tree_tokens.specs.Tokens.{Wrote}
-use Rattle.tree_tokens.proofs.Writes.{wrote_then}
+use Rattle.tree_tokens.proofs.Writes.{wrote_then, wrote_part}
 use Rattle.list_bytes.specs.Appends.{Appends}
 
 pub part_appends : {xs old part : List ℕ} {at j : ℕ} → Wrote xs (take (length old - at) (drop at old)) part j
     → Appends xs at old (put_mid at (length old - at) old part) (at + j)
 part_appends w = record { past = omega (arith, w.many); after = λ before base v. wrote_then v w }
+
+pub copy_appends : {xs old part : List ℕ} {at n : ℕ} → part ≡ xs → n ≡ length xs → Appends xs at old (put_mid at (at + n - at) old part) (at + n)
+copy_appends {xs} {at = at} {n} e h =
+    let j : length xs ≡ at + n - at = omega arith in
+    let past : at + (at + n - at) ≡ at + n = omega arith in
+    record { past = omega arith; after = λ before base v. subst (Wrote (before ++ xs) base _) past (wrote_part v e j) }
 
 pub appends_none : (old : List ℕ) (at : ℕ) → Appends [] at old old at
 appends_none old at = record { past = omega arith; after = λ before base v. subst (λ (l : List ℕ). Wrote l base old at) (sym (append-nil before)) v }

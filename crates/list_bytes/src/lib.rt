@@ -7,25 +7,14 @@ ghost use Rattle.tree_tokens.specs.Tokens.{Judged, tree, encode, Wrote};
 ghost use Rattle.list_bytes.specs.Appends.{Appends};
 ghost use Rattle.list_bytes.specs.Rooms.{TextFits};
 
-// Copies src to the start of out, and says how many.
-fn copy(src: &[u8], out: &mut [u8]) -> usize
-    requires { length src.now ≤ length out.old }
-    ensures { Wrote src.now out.old out.new result }
-{
-    let mut i = 0;
-    while i < src.len() {
-        out[i] = src[i];
-        i += 1;
-    }
-    i
-}
-
 // Appends the bytes.
 pub fn put(src: &[u8], out: &mut [u8], at: usize) -> usize
     requires { at + length src.now ≤ length out.old }
     ensures { Appends src.now at out.old out.new result }
 {
-    at + copy(src, &mut out[at..])
+    let end = at + src.len();
+    out[at..end].copy_from_slice(src);
+    end
 }
 
 // Appends the decimal digits of v, at most 20.

@@ -9,7 +9,7 @@ use Rattle.spec_orders.proofs.ListLaws.{part_to_end}
 use Rattle.spec_orders.specs.Form.{nodes}
 use Rattle.spec_calls.specs.NodeTable.{entries}
 use Rattle.spec_calls.proofs.NodeTables.{entries-length}
-use Rattle.tree_tokens.specs.Tokens.{Judged, tree, encode}
+use Rattle.tree_tokens.specs.Tokens.{Judged, tree, encode, Wrote}
 use Rattle.tree_tokens.specs.Views.{first_of, rest_of}
 use Rattle.tree_tokens.proofs.Laws.{sizes, size_leaf, size_node}
 use Rattle.tree_tokens.proofs.Counts.{items_more}
@@ -87,3 +87,8 @@ entered_room {toks} {i = i} p left n =
       ),
       rw p.beside (omega (arith, p.last, records_at r toks i n, before_here p.seq p.is q.1)),
     )
+
+-- A row has room for the places.
+pub placed_few : {toks records old new : List ℕ} {m : ℕ} (p : Placed toks records 255)
+    → ((r : ℕ) (j : Judged) → records ≡ records_from r toks → toks ≡ encode j → Wrote (entries r (tree j)) old new m) → m ≤ 255
+placed_few p w = omega (arith, (w p.start p.seq p.beside p.is).many, entries-length p.start (tree p.seq), p.few)

@@ -9,7 +9,7 @@ use borrow.Rule.Slice.PartMut.{put_mid}
 use Rattle.spec_calls.specs.Tables.{padded}
 use Rattle.spec_calls.proofs.NodeTables.{padded-length}
 use Rattle.tree_tokens.specs.Tokens.{Wrote}
-use Rattle.tree_tokens.proofs.Writes.{wrote_then}
+use Rattle.tree_tokens.proofs.Writes.{wrote_then, wrote_filled}
 use Rattle.table_row.specs.Rows.{row, Blank, RowThere}
 use Rattle.table_row.proofs.Rows.{row_size}
 
@@ -58,6 +58,9 @@ there_long p = omega (arith, ap length p.is, length-append (row p.kind p.places)
 pub there_count : {l : List ℕ} (p : RowThere l) → get_or l 1 0 ≡ length p.places
 there_count p = ap (λ (x : List ℕ). get_or x 1 0) p.is
 
+pub there_few : {l : List ℕ} → RowThere l → get_or l 1 0 ≤ 255
+there_few p = omega (arith, there_count p, p.narrow)
+
 pub there_zeros : {l : List ℕ} (n : ℕ) (p : RowThere l) → length p.places ≤ n → n ≤ 255 → drop (suc (suc n)) l ≡ replicate (255 - n) 0 ++ p.more
 there_zeros n p h most =
     let es = p.places in
@@ -81,24 +84,24 @@ wrote_two k c w = record { many = w.many; text = ap (λ (l : List ℕ). set (set
 abbrev with_places : List ℕ → List ℕ → List ℕ
 with_places old part = put_mid 2 (length old - 2) old part
 
-abbrev with_zeros : List ℕ → ℕ → List ℕ → List ℕ
-with_zeros mid m part = put_mid (2 + m) (length mid - (2 + m)) mid part
+abbrev with_zeros : List ℕ → ℕ → ℕ → List ℕ → List ℕ
+with_zeros mid m left part = put_mid (2 + m) left mid part
 
-wrote_front : (k m : ℕ) {es zs part part' : List ℕ} {j : ℕ} (old : List ℕ) → 2 ≤ length old → Wrote es (take (length old - 2) (drop 2 old)) part m
-    → Wrote zs (take (length (with_places old part) - (2 + m)) (drop (2 + m) (with_places old part))) part' j
-    → Wrote (k ∷ m ∷ (es ++ zs)) old (set (set (with_zeros (with_places old part) m part') 0 k) 1 m) (2 + m + j)
-wrote_front k m [] h w v = absurd (omega arith)
-wrote_front k m (x ∷ []) h w v = absurd (omega arith)
-wrote_front k m {es} {zs} (x ∷ y ∷ l) h w v =
+wrote_front : (k m left : ℕ) {es part part' : List ℕ} (old : List ℕ) → 2 ≤ length old → Wrote es (take (length old - 2) (drop 2 old)) part m
+    → 2 + m + left ≤ length (with_places old part) → part' ≡ replicate (length (take left (drop (2 + m) (with_places old part)))) 0
+    → Wrote (k ∷ m ∷ (es ++ replicate left 0)) old (set (set (with_zeros (with_places old part) m left part') 0 k) 1 m) (2 + m + left)
+wrote_front k m left [] h w fits v = absurd (omega arith)
+wrote_front k m left (x ∷ []) h w fits v = absurd (omega arith)
+wrote_front k m left {es} (x ∷ y ∷ l) h w fits v =
     let begun : Wrote (x ∷ y ∷ []) (x ∷ y ∷ l) (x ∷ y ∷ l) 2 = record { many = refl; text = refl } in
-    wrote_two {xs = es ++ zs} k m (wrote_then (wrote_then begun w) v)
+    wrote_two {xs = es ++ replicate left 0} k m (wrote_filled left (wrote_then begun w) fits v)
 
 -- A row over the one that stands there.
-pub wrote_row : (k m left : ℕ) (es old : List ℕ) {part part' : List ℕ} {j : ℕ} (p : RowThere old) → length es ≤ 255 → left ≡ get_or old 1 0 - m
-    → Wrote es (take (length old - 2) (drop 2 old)) part m
-    → Wrote (replicate left 0) (take (length (with_places old part) - (2 + m)) (drop (2 + m) (with_places old part))) part' j
-    → Wrote (row k es) old (set (set (with_zeros (with_places old part) m part') 0 k) 1 m) 257
-wrote_row k m left es old {part} {part'} p h e w v =
+pub wrote_row : (k m left : ℕ) (es old : List ℕ) {part part' : List ℕ} (p : RowThere old) → length es ≤ 255 → left ≡ get_or old 1 0 - m
+    → Wrote es (take (length old - 2) (drop 2 old)) part m → 2 + m + left ≤ length (with_places old part)
+    → part' ≡ replicate (length (take left (drop (2 + m) (with_places old part)))) 0
+    → Wrote (row k es) old (set (set (with_zeros (with_places old part) m left part') 0 k) 1 m) 257
+wrote_row k m left es old {part} {part'} p h e w fits v =
     let zs : List ℕ = replicate left 0 in
     let many : length (es ++ zs) ≡ m + left = omega (arith, length-append es zs, length-replicate {A = ℕ} left 0, w.many) in
     let count = there_count p in
@@ -107,5 +110,5 @@ wrote_row k m left es old {part} {part'} p h e w v =
     let whole : padded 257 (k ∷ m ∷ (es ++ zs)) ≡ row k es =
     rw (rest, w.many) (ap (λ (l : List ℕ). k ∷ length es ∷ l)
     (append_assoc es zs (replicate (255 - length (es ++ zs)) 0) ∙ ap (λ (l : List ℕ). es ++ l) (replicate-append-replicate {A = ℕ} left (255 - length (es ++ zs)) 0 ∙ rw fill))) in
-    subst (λ (x : List ℕ). Wrote x old (set (set (with_zeros (with_places old part) m part') 0 k) 1 m) 257) whole
-    (wrote_over (omega (arith, p.narrow, w.many)) (there_zeros (length (es ++ zs)) p (omega (arith, w.many)) (omega (arith, p.narrow, w.many)) ∙ rw (rest, there_after p)) (wrote_front k m old (omega (arith, there_long p)) w v))
+    subst (λ (x : List ℕ). Wrote x old (set (set (with_zeros (with_places old part) m left part') 0 k) 1 m) 257) whole
+    (wrote_over (omega (arith, p.narrow, w.many)) (there_zeros (length (es ++ zs)) p (omega (arith, w.many)) (omega (arith, p.narrow, w.many)) ∙ rw (rest, there_after p)) (wrote_front k m left old (omega (arith, there_long p)) w fits v))

@@ -13,13 +13,11 @@ pub fn write_records(toks: &[u16], out: &mut [u16]) -> usize
     ensures { Wrote (records_from 0 toks.now) out.old out.new result }
 {
     let mut next = 0;
-    let mut i = 0;
-    while i < toks.len() {
+    for (i, t) in toks.iter().enumerate() {
         out[i] = next;
-        next += toks[i] / 8 % 2;
-        i += 1;
+        next += *t / 8 % 2;
     }
-    i
+    toks.len()
 }
 
 // Writes the places of the items, and says how many; `records` are the numbers that write_records wrote for these tokens.
@@ -45,19 +43,6 @@ fn write_entries(toks: &[u16], records: &[u16], out: &mut [u16]) -> usize
     k
 }
 
-// Writes k zeros, and says how many.
-pub fn zeros(k: usize, out: &mut [u16]) -> usize
-    requires { k ≤ length out.old }
-    ensures { Wrote (replicate k 0) out.old out.new result }
-{
-    let mut i = 0;
-    while i < k {
-        out[i] = 0;
-        i += 1;
-    }
-    i
-}
-
 // Writes the row of a node over the row that stands there, and says how many numbers, 257: `kind` is the number of its kind, `inner` are its items,
 // and `records` the numbers that write_records wrote for their tokens.
 pub fn write_row(kind: u16, inner: &[u16], records: &[u16], out: &mut [u16]) -> usize
@@ -67,8 +52,7 @@ pub fn write_row(kind: u16, inner: &[u16], records: &[u16], out: &mut [u16]) -> 
 {
     let old = out[1] as usize;
     let m = write_entries(inner, records, &mut out[2..]);
-    let left = if m < old { old - m } else { 0 };
-    let _ = zeros(left, &mut out[2 + m..]);
+    out[2 + m..2 + m.max(old)].fill(0);
     out[0] = kind;
     out[1] = m as u16;
     257

@@ -8,7 +8,7 @@ use lib.Seq.{get_or-drop, drop-drop}
 use borrow.Rule.Slice.PartMut.{put_mid}
 use Rattle.spec_calls.specs.Tables.{padded}
 use Rattle.tree_tokens.specs.Tokens.{Wrote}
-use Rattle.tree_tokens.proofs.Writes.{wrote_none, wrote_then}
+use Rattle.tree_tokens.proofs.Writes.{wrote_none, wrote_filled}
 use Rattle.table_row.specs.Rows.{RowThere, RowsThere, blank, used}
 use Rattle.table_row.proofs.Writing.{blank_after, wrote_after, wrote_over, there_long, there_count, there_zeros, there_after}
 use Rattle.table_store.proofs.Standing.{first_there, later_there}
@@ -64,9 +64,9 @@ module _ {room k : ℕ} {old new : List ℕ} (g : Erasing room old new k) where
         zeros_more {k = k} (omega arith) (blanks ∙ rw (drop-drop (257 * g.left) k old, g.whole, n)) g.wrote
 
     -- With zeros over its used numbers it is all zero.
-    pub erasing_row : {part : List ℕ} {j : ℕ} → Wrote (replicate (2 + get_or new (k + 1) 0) 0) (take (length new - k) (drop k new)) part j
-        → Erasing room old (put_mid k (length new - k) new part) (k + 257)
-    erasing_row {part} {j} w =
+    pub erasing_row : {part : List ℕ} (j : ℕ) → j ≡ 2 + get_or new (k + 1) 0 → part ≡ replicate (length (take j (drop k new))) 0
+        → Erasing room old (put_mid k j new part) (k + 257)
+    erasing_row {part} j is w =
         let m = get_or new (k + 1) 0 in
         let two : 2 + m ≡ suc (suc m) = omega arith in
         let more : 255 - m ≡ k + 257 - (k + (2 + m)) = omega arith in
@@ -79,6 +79,6 @@ module _ {room k : ℕ} {old new : List ℕ} (g : Erasing room old new k) where
         record {
           left = g.left - 1;
           whole = omega (arith, g.whole);
-          wrote = zeros_more {k = k + (2 + m)} (omega (arith, row_next)) left (subst (λ (x : List ℕ). Wrote x old (put_mid k (length new - k) new part) (k + j)) (replicate-append-replicate {A = ℕ} k (2 + m) 0) (wrote_then g.wrote w));
+          wrote = zeros_more {k = k + (2 + m)} (omega (arith, row_next)) left (subst (λ (x : List ℕ). Wrote x old (put_mid k j new part) (k + j)) (replicate-append-replicate {A = ℕ} k j 0 ∙ ap (λ (x : ℕ). replicate (k + x) 0) is) (wrote_filled j g.wrote (omega (arith, row_next)) w));
           there = subst (RowsThere (g.left - 1)) (drop-drop 257 k old) (later_there (subst (λ (x : ℕ). RowsThere x (drop k old)) one g.there));
         }

@@ -29,19 +29,16 @@ fn write_rows(toks: &[u16], records: &[u16], out: &mut [u16]) -> usize
     ensures { (j : Judged) → toks.now ≡ encode j → Wrote (rows 0 (tree j)) out.old out.new result }
 {
     let mut k = 0;
-    let mut i = 0;
-    while i < toks.len() {
+    for i in 0..toks.len() {
         let shape = tree_tokens::shape(&toks[i..]);
         if let ItemShape::Leaf = shape {
-            i += 1;
             continue;
         }
         let inner = tree_tokens::items(&toks[i..]);
-        i += 1;
         k += table_row::write_row(
             kind_number(shape),
             inner,
-            &records[i..i + inner.len()],
+            &records[i + 1..i + 1 + inner.len()],
             &mut out[k..],
         );
     }
@@ -59,7 +56,7 @@ fn erase_rows(room: usize, out: &mut [u16])
         if m == 0 {
             return;
         }
-        let _ = table_row::zeros(2 + m, &mut out[k..]);
+        out[k..k + 2 + m].fill(0);
         k += 257;
     }
 }
@@ -80,7 +77,7 @@ pub fn store(toks: &[u16], table: &mut [u16])
     ensures { (t : Forest) → toks.now ≡ flat t
         → table.new ≡ over (table_of t) table.old }
 {
-    let _ = table_row::zeros(65792, table);
+    table[..65792].fill(0);
     let _ = write_tree(toks, table);
 }
 

@@ -4,7 +4,7 @@ use mathlib.Core.List.{List, [], ◌∷◌, ◌++◌, append_assoc, append-nil}
 use Prim.Native.Nat.{ℕ, suc, ◌+◌, ◌-◌, ◌≤◌, ◌<◌}
 use native.Mathlib.Omega.{arith}
 use native.Mathlib.Numerals.{add-one}
-use lib.ListN.{length, take, drop, get_or, set, replicate, length-append, length-drop, length-replicate, replicate-append-replicate, drop_of_length-le}
+use lib.ListN.{length, take, drop, get_or, set, replicate, length-append, length-drop, length-replicate, drop_of_length-le}
 use lib.Seq.{take-append_seam, drop-append_seam, drop-drop, drop-cons, set_at, length-take-le, append_snoc, take-suc, take-length}
 use borrow.Rule.Slice.PartMut.{put_mid}
 use Rattle.tree_tokens.specs.Tokens.{Wrote}
@@ -40,6 +40,25 @@ wrote_then {xs} {ys} {old} {mid} {part} {k} {j} a b = record {
     text : take k mid ++ (part ++ drop (length mid - k) (drop k mid)) ≡ (xs ++ ys) ++ drop (length (xs ++ ys)) old
     text = rw (none, front, append-nil, append_assoc) (ap (λ (l : List ℕ). xs ++ l) mid_part)
 
+-- A text, then another put into the j places after it; zeros that fill them.
+pub wrote_part : {xs ys old mid part : List ℕ} {k j : ℕ} → Wrote xs old mid k → part ≡ ys → length ys ≡ j → Wrote (xs ++ ys) old (put_mid k j mid part) (k + j)
+wrote_part {xs} {ys} {old} {mid} {part} {k} {j} a e long = record {
+  many = omega (arith, a.many, long, length-append xs ys);
+  text = rw (front, back, e, drop-drop, length-append, long, append_assoc) refl;
+}
+  where
+    front : take k mid ≡ xs
+    front = rw (a.text, a.many) (take-append_seam xs _)
+
+    back : drop k mid ≡ drop (length xs) old
+    back = rw (a.text, a.many) (drop-append_seam xs _)
+
+pub wrote_filled : {xs old mid part : List ℕ} {k : ℕ} (j : ℕ) → Wrote xs old mid k → k + j ≤ length mid → part ≡ replicate (length (take j (drop k mid))) 0
+    → Wrote (xs ++ replicate j 0) old (put_mid k j mid part) (k + j)
+wrote_filled {mid = mid} {k = k} j a fits e =
+    let room : length (take j (drop k mid)) ≡ j = length-take-le j (drop k mid) (omega (arith, length-drop k mid)) in
+    wrote_part a (e ∙ ap (λ (n : ℕ). replicate n 0) room) (length-replicate {A = ℕ} j 0)
+
 -- One more value, at index i.
 pub write_step : (xs d : List ℕ) (i v : ℕ) → length xs ≡ i → i < length d → set (xs ++ drop i d) i v ≡ (xs ++ (v ∷ [])) ++ drop (i + 1) d
 write_step xs d i v e h =
@@ -56,16 +75,6 @@ copy_step s d i hs hd = write_step (take i s) d i (get_or s i 0) (length-take-le
 
 pub wrote_all : (s old new : List ℕ) (i : ℕ) → i ≡ length s → new ≡ take i s ++ drop i old → Wrote s old new i
 wrote_all s old new i e h = record { many = e; text = h ∙ rw (e, take-length) }
-
--- One more zero, at index i.
-pub zero_step : (d : List ℕ) (i : ℕ) → i < length d → set (replicate i 0 ++ drop i d) i 0 ≡ replicate (i + 1) 0 ++ drop (i + 1) d
-zero_step d i h = write_step (replicate i 0) d i 0 (length-replicate {A = ℕ} i 0) h ∙ rw (replicate-append-replicate {A = ℕ} i 1 0)
-
-pub wrote_zeros : (k i : ℕ) (old new : List ℕ) → i ≡ k → new ≡ replicate i 0 ++ drop i old → Wrote (replicate k 0) old new i
-wrote_zeros k i old new e h = record {
-  many = e ∙ rw (length-replicate {A = ℕ} k 0);
-  text = h ∙ rw (e, length-replicate {A = ℕ} k 0);
-}
 
 -- What was written, and a byte after it.
 pub wrote_byte : {xs old new : List ℕ} {k : ℕ} (v : ℕ) → Wrote xs old new k → length xs < length old → Wrote (xs ++ (v ∷ [])) old (set new k v) (k + 1)

@@ -14,25 +14,25 @@ use Rattle.table_store.proofs.Rowing.{rowing_leaf, rowing_node, rowed_long, next
 use Rattle.table_store.proofs.write_rows.Goals as goal
 
 pub loop-i-preserved-in-Leaf : goal.loop-i-preserved-in-Leaf
-loop-i-preserved-in-Leaf c = (omega arith, c.loop-i.invariant.1, next_token c.loop-i.invariant.2 c.loop-i-test.true (λ j h p g. rowing_leaf p c.loop-i-test.true (sym (c.shape-shape.ensures h p.part) ∙ ap some c.in-Leaf.is) g))
+loop-i-preserved-in-Leaf c = (c.loop-i.invariant.0, next_token c.loop-i.invariant.1 c.loop-i-test.true (λ j h p g. rowing_leaf p c.loop-i-test.true (sym (c.shape-shape.ensures h p.part) ∙ ap some c.in-Leaf.is) g))
 
 pub slice_bounds-write_row-end : goal.slice_bounds-write_row-end
 slice_bounds-write_row-end c =
-    let room : (c.loop-i.k + 257 ≤ length c.args.out.now) × (c.loop-i.i + 1 + length c.items-inner.result.now ≤ length c.args.records.now) = (let q = here c.loop-i.invariant.2 c.loop-i-test.true c.requires.0.seq c.requires.0.is in
+    let room : (c.loop-i.k + 257 ≤ length c.args.out.now) × (c.loop-i.i + 1 + length c.items-inner.result.now ≤ length c.args.records.now) = (let q = here c.loop-i.invariant.1 c.loop-i-test.true c.requires.0.seq c.requires.0.is in
     (next-room c.requires.0 q.1 (λ h. c.in_default.not-Leaf (shape_read (c.shape-shape.ensures q.0 q.1.part) h)) q.2 c.requires.1, omega (arith, rowed_long c.requires.0, c.items-inner.ensures.0))) in
     omega (arith, room)
 
 pub write_row-k-requires : goal.write_row-k-requires
 write_row-k-requires c =
-    let q = here c.loop-i.invariant.2 c.loop-i-test.true c.requires.0.seq c.requires.0.is in
+    let q = here c.loop-i.invariant.1 c.loop-i-test.true c.requires.0.seq c.requires.0.is in
     let s : shape_of q.0 ≡ some Leaf → ⊥ = λ h. c.in_default.not-Leaf (shape_read (c.shape-shape.ensures q.0 q.1.part) h) in
     (next-items c.requires.0 q.1 s q.2 c.loop-i-test.true (c.items-inner.ensures.1 q.0 q.1.part), next-over c.requires.0 q.1 s q.2 c.requires.1)
 
 pub overflow_add-k : goal.overflow_add-k
 overflow_add-k c =
-    let room : (c.loop-i.k + 257 ≤ length c.args.out.now) × (c.loop-i.i + 1 + length c.items-inner.result.now ≤ length c.args.records.now) = (let q = here c.loop-i.invariant.2 c.loop-i-test.true c.requires.0.seq c.requires.0.is in
+    let room : (c.loop-i.k + 257 ≤ length c.args.out.now) × (c.loop-i.i + 1 + length c.items-inner.result.now ≤ length c.args.records.now) = (let q = here c.loop-i.invariant.1 c.loop-i-test.true c.requires.0.seq c.requires.0.is in
     (next-room c.requires.0 q.1 (λ h. c.in_default.not-Leaf (shape_read (c.shape-shape.ensures q.0 q.1.part) h)) q.2 c.requires.1, omega (arith, rowed_long c.requires.0, c.items-inner.ensures.0))) in
-    let q = here c.loop-i.invariant.2 c.loop-i-test.true c.requires.0.seq c.requires.0.is in
+    let q = here c.loop-i.invariant.1 c.loop-i-test.true c.requires.0.seq c.requires.0.is in
     let e = c.items-inner.ensures.1 q.0 q.1.part in
     let b = records_items c.requires.0.beside q.1 c.loop-i-test.true (λ h. c.in_default.not-Leaf (shape_read (c.shape-shape.ensures q.0 q.1.part) h)) e in
     omega (arith, room, (rw c.kind_number.ensures at (c.write_row-k.ensures _ _ b e)).many ∙ here_long c.shape-shape.result (before c.args.toks.now c.loop-i.i) q.0 (q.2.narrow c.requires.0.narrow))
@@ -40,12 +40,11 @@ overflow_add-k c =
 pub loop-i-preserved : goal.loop-i-preserved
 loop-i-preserved c = (
   omega arith,
-  omega arith,
-  next_token c.loop-i.invariant.2 c.loop-i-test.true (λ j h p g.
+  next_token c.loop-i.invariant.1 c.loop-i-test.true (λ j h p g.
       let e = c.items-inner.ensures.1 h p.part in
       let b = records_items c.requires.0.beside p c.loop-i-test.true (λ x. c.in_default.not-Leaf (shape_read (c.shape-shape.ensures h p.part) x)) e in
       rowing_node c.shape-shape.result p c.loop-i-test.true (c.shape-shape.ensures h p.part) c.in_default.not-Leaf (rw c.kind_number.ensures at (c.write_row-k.ensures _ _ b e)) g),
 )
 
 pub returns : goal.returns
-returns c = λ j e. written_end (at_last c.loop-i.invariant.2 (omega arith) j e).written
+returns c = λ j e. written_end (at_last c.loop-i.invariant.1 (omega arith) j e).written
