@@ -18,10 +18,7 @@ fn state_beside(work: &[u64], r: usize, t: u16) -> u16
     if t / 8 % 2 != 0 {
         return (work[8 + r] / 262144 % 5) as u16;
     }
-    if mark_words::test(&work[0..4], t / 16) {
-        return 1;
-    }
-    0
+    u16::from(mark_words::test(&work[0..4], t / 16))
 }
 
 // Writes the tokens to the start of out, each with the state of its item.
@@ -30,12 +27,9 @@ fn label(toks: &[u16], work: &[u64], out: &mut [u16])
     ensures { Wrote (labelled_from work.now 0 toks.now) out.old out.new (length toks.now) }
 {
     let mut r = 0;
-    let mut i = 0;
-    while i < toks.len() {
-        let t = toks[i];
+    for (i, &t) in toks.iter().enumerate() {
         out[i] = t - t % 8 + state_beside(work, r, t);
         r += (t / 8 % 2) as usize;
-        i += 1;
     }
 }
 

@@ -39,10 +39,7 @@ fn walk_items(table: &[u16], places: &[u16], out: &mut [u16]) -> usize
     ensures { ItemsWritten table.now places.now out.old out.new result }
 {
     let mut k = 0;
-    let mut i = 0;
-    while i < places.len() {
-        let v = places[i];
-        i += 1;
+    for &v in places {
         if v > 256 {
             k += walk_node(table, (v - 256) as usize, &mut out[k..]);
             continue;

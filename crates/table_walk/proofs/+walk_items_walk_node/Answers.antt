@@ -5,22 +5,22 @@ use Rattle.table_walk.proofs.Walking.{part_length, inner_there, walk_node_writte
 use Rattle.table_walk.proofs.+walk_items_walk_node.Goals as goal
 
 pub walk_items-walk_node-k-requires : goal.walk_items-walk_node-k-requires
-walk_items-walk_node-k-requires t c = (omega (arith, part_length c.loop-i.out c.loop-i.k), (node_there (c.loop-i.invariant.3 c.requires.0 c.requires.1 c.requires.2) c.loop-i-test.true c.if-v-gt256.true c.loop-i.invariant.2))
+walk_items-walk_node-k-requires t c = (omega (arith, part_length c.loop-v.out c.loop-v.k), (node_there (c.loop-v.invariant.2 c.requires.0 c.requires.1 c.requires.2) c.loop-v-test.true c.if-v-gt256.true c.loop-v.invariant.1))
 
 pub walk_items-overflow_add-k : goal.walk_items-overflow_add-k
-walk_items-overflow_add-k t c = omega (arith, node_fits (node_there (c.loop-i.invariant.3 c.requires.0 c.requires.1 c.requires.2) c.loop-i-test.true c.if-v-gt256.true c.loop-i.invariant.2) c.walk_node-k.ensures, part_length c.loop-i.out c.loop-i.k)
+walk_items-overflow_add-k t c = omega (arith, node_fits (node_there (c.loop-v.invariant.2 c.requires.0 c.requires.1 c.requires.2) c.loop-v-test.true c.if-v-gt256.true c.loop-v.invariant.1) c.walk_node-k.ensures, part_length c.loop-v.out c.loop-v.k)
 
-pub walk_items-loop-i-preserved-then-v-gt256 : goal.walk_items-loop-i-preserved-then-v-gt256
-walk_items-loop-i-preserved-then-v-gt256 t c = (omega arith, omega (arith, node_fits (node_there (c.loop-i.invariant.3 c.requires.0 c.requires.1 c.requires.2) c.loop-i-test.true c.if-v-gt256.true c.loop-i.invariant.2) c.walk_node-k.ensures, part_length c.loop-i.out c.loop-i.k), omega arith, λ r f s. walking_node (c.loop-i.invariant.3 r f s) c.loop-i-test.true c.if-v-gt256.true c.loop-i.invariant.2 c.walk_node-k.ensures)
+pub walk_items-loop-v-preserved-then-v-gt256 : goal.walk_items-loop-v-preserved-then-v-gt256
+walk_items-loop-v-preserved-then-v-gt256 t c = (omega (arith, node_fits (node_there (c.loop-v.invariant.2 c.requires.0 c.requires.1 c.requires.2) c.loop-v-test.true c.if-v-gt256.true c.loop-v.invariant.1) c.walk_node-k.ensures, part_length c.loop-v.out c.loop-v.k), omega arith, λ r f s. walking_node (c.loop-v.invariant.2 r f s) c.loop-v-test.true c.if-v-gt256.true c.loop-v.invariant.1 c.walk_node-k.ensures)
 
 pub walk_items-bounds-out-k : goal.walk_items-bounds-out-k
-walk_items-bounds-out-k t c = omega (arith, leaf_room (c.loop-i.invariant.3 c.requires.0 c.requires.1 c.requires.2) c.loop-i-test.true c.if-v-gt256.false)
+walk_items-bounds-out-k t c = omega (arith, leaf_room (c.loop-v.invariant.2 c.requires.0 c.requires.1 c.requires.2) c.loop-v-test.true c.if-v-gt256.false)
 
-pub walk_items-loop-i-preserved : goal.walk_items-loop-i-preserved
-walk_items-loop-i-preserved t c = (omega arith, omega (arith, leaf_room (c.loop-i.invariant.3 c.requires.0 c.requires.1 c.requires.2) c.loop-i-test.true c.if-v-gt256.false), simp length-set c.loop-i.invariant.2, λ r f s. walking_leaf (c.loop-i.invariant.3 r f s) c.loop-i-test.true c.if-v-gt256.false)
+pub walk_items-loop-v-preserved : goal.walk_items-loop-v-preserved
+walk_items-loop-v-preserved t c = (omega (arith, leaf_room (c.loop-v.invariant.2 c.requires.0 c.requires.1 c.requires.2) c.loop-v-test.true c.if-v-gt256.false), simp length-set c.loop-v.invariant.1, λ r f s. walking_leaf (c.loop-v.invariant.2 r f s) c.loop-v-test.true c.if-v-gt256.false)
 
 pub walk_items-returns : goal.walk_items-returns
-walk_items-returns t c = λ r f s. walking_end (c.loop-i.invariant.3 r f s) c.loop-i-test.false
+walk_items-returns t c = λ r f s. walking_end (c.loop-v.invariant.2 r f s) c.loop-v-test.false
 
 pub walk_node-bounds-table-at : goal.walk_node-bounds-table-at
 walk_node-bounds-table-at t c = omega (arith, node_record c.requires.2)
