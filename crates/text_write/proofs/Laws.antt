@@ -2,15 +2,17 @@
 use mathlib.Core.Option.{some}
 use mathlib.Core.Path.{◌≡◌, refl, ap}
 use mathlib.Core.List.{List, [], ◌∷◌, ◌++◌}
-use Prim.Native.Nat.{ℕ, suc, ◌+◌, ◌≤◌, ◌<◌}
+use Prim.Native.Nat.{ℕ, suc, ◌+◌, ◌-◌, ◌≤◌, ◌<◌}
 use native.Mathlib.Omega.{arith}
-use lib.ListN.{length, drop, length-append, length-drop}
+use borrow.Rule.Slice.PartMut.{put_mid}
+use lib.ListN.{length, take, drop, set, length-append, length-drop}
 use Rattle.spec_orders.specs.Tree.{Forest, nil, leaf, node}
 use Rattle.spec_orders.specs.TreeText.{digits, letter, text, more, tree_text}
 use Rattle.tree_tokens.specs.Tokens.{Judged, j_nil, j_leaf, j_node, tree, encode, Wrote}
 use Rattle.tree_tokens.specs.declared.ItemShape.TheVariants.{Leaf, PNode, CNode}
 use Rattle.tree_tokens.specs.Views.{shape_of, leaf_of, items_of, rest_of}
 use Rattle.tree_tokens.proofs.Laws.{is_leaf, is_p, is_c}
+use Rattle.tree_tokens.proofs.Writes.{wrote_one, wrote_then}
 use Rattle.text_write.specs.Around.{opening, gap, closing}
 
 -- Further items, each with a space before it.
@@ -66,3 +68,13 @@ tree_text_split t = ap (λ (l : List ℕ). 49 ∷ l) (more_gap t)
 
 pub tree_text-room : (j : Judged) {n : ℕ} → length (tree_text (tree j)) ≤ n → suc (length (gap (tree j)) + length (text (tree j))) ≤ n
 tree_text-room j h = omega (arith, ap length (tree_text_split (tree j)), length-append (gap (tree j)) (text (tree j)))
+
+-- Leaf 1 and the gap were written: there is room for the text.
+pub begun : (t : Forest) {old part : List ℕ} {k : ℕ} → 0 < length old → Wrote (gap t) (take (length (set old 0 49) - 1) (drop 1 (set old 0 49))) part k
+    → Wrote (49 ∷ gap t) old (put_mid 1 (length (set old 0 49) - 1) (set old 0 49) part) (1 + k)
+begun t {old} room w = wrote_then (wrote_one 49 old room) w
+
+pub begun-room : (j : Judged) {old new : List ℕ} {k : ℕ} → length (tree_text (tree j)) ≤ length old → Wrote (49 ∷ gap (tree j)) old new k → k + length (text (tree j)) ≤ length new
+begun-room j h w =
+    let r = tree_text-room j h in
+    omega (arith, w.many, wrote_length w (omega (arith, r)), r)

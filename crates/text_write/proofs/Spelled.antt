@@ -1,17 +1,21 @@
 -- The text of a sequence, written item by item.
+use mathlib.Core.Option.{some}
 use mathlib.Core.Path.{◌≡◌, refl, sym, ap, ◌∙◌}
 use mathlib.Core.List.{List, ◌++◌}
 use Prim.Native.Nat.{ℕ, ◌+◌, ◌-◌, ◌/◌, ◌%◌, ◌≤◌, ◌<◌}
 use native.Mathlib.Omega.{arith}
+use borrow.Rule.Slice.PartMut.{put_mid}
 use lib.ListN.{length, take, drop, get_or, length-append}
 use Rattle.spec_orders.specs.Tree.{P, C}
 use Rattle.spec_orders.specs.TreeText.{text}
 use Rattle.spec_orders.proofs.ListLaws.{part_to_end}
-use Rattle.tree_tokens.specs.Tokens.{Judged, j_nil, j_leaf, j_node, tree, encode, node_token}
-use Rattle.tree_tokens.specs.Views.{items_of, rest_of}
-use Rattle.tree_tokens.proofs.Laws.{number_small}
-use Rattle.tree_tokens.proofs.Steps.{Left, Here, here}
-use Rattle.tree_tokens.proofs.Writes.{Written, written_length}
+use Rattle.tree_tokens.specs.Tokens.{Judged, j_nil, j_leaf, j_node, tree, encode, Tokens, Wrote}
+use Rattle.tree_tokens.specs.declared.ItemShape.{ItemShape}
+use Rattle.tree_tokens.specs.declared.ItemShape.TheVariants.{Leaf}
+use Rattle.tree_tokens.specs.Views.{shape_of, first_of, items_of, rest_of}
+use Rattle.tree_tokens.proofs.Laws.{node_odd}
+use Rattle.tree_tokens.proofs.Steps.{Left, Here, here, next_item}
+use Rattle.tree_tokens.proofs.Writes.{Written, written_length, written_same, written_then}
 use Rattle.tree_frontier.specs.Room.{Room}
 use Rattle.text_write.specs.Around.{opening, closing}
 use Rattle.text_write.proofs.Laws.{wrote_length, text_split}
@@ -38,16 +42,19 @@ same_place {l} {i} left n go = record {
       (q.0, sym (part_to_end l i) ∙ q.1.part, go j q.0 q.1 q.2);
 }
 
--- An item that is no node has no items.
-no_items : (h : Judged) → (get_or (encode h) 0 0 / 8 % 4 ≡ 1 → ⊥) → (get_or (encode h) 0 0 / 8 % 4 ≡ 3 → ⊥) → items_of h ≡ j_nil
-unfolding encode items_of node_token
-no_items j_nil p c = refl
-no_items (j_leaf s b h) p c = refl
-no_items (j_node s P i h) p c = absurd (p (omega (arith, number_small s)))
-no_items (j_node s C i h) p c = absurd (c (omega (arith, number_small s)))
+-- A leaf has no items; its token is even, a node's is odd.
+leaf_inside : (h : Judged) → some Leaf ≡ shape_of h → inside h ≡ behind h
+unfolding items_of shape_of
+leaf_inside j_nil e = refl
+leaf_inside (j_leaf s b h) e = refl
+leaf_inside (j_node s P i h) e = cc
+leaf_inside (j_node s C i h) e = cc
 
-pub inside_leaf : {l : List ℕ} {i : ℕ} {h : Judged} → Here l i h → (get_or l i 0 / 8 % 4 ≡ 1 → ⊥) → (get_or l i 0 / 8 % 4 ≡ 3 → ⊥) → inside h ≡ behind h
-inside_leaf {h = h} q p c = ap (λ (i : Judged). text (tree i) ++ behind h) (no_items h (rw (← q.head) at p) (rw (← q.head) at c))
+node_token_odd : (h : Judged) (v : ItemShape) → (v ≡ Leaf → ⊥) → some v ≡ shape_of h → get_or (encode h) 0 0 / 8 % 2 ≡ 0 → ⊥
+unfolding encode shape_of
+node_token_odd j_nil v n e z = cc
+node_token_odd (j_leaf s b h) v n e z = n (cc)
+node_token_odd (j_node s k i h) v n e z = omega (arith, node_odd s k (length (encode i)))
 
 -- There is room for what is left.
 module _ (F : Judged → List ℕ) {toks : List ℕ} {i k : ℕ} {old new : List ℕ} (p : Room text toks (length old)) (left : Left toks i (Spelled F old new k)) (l : i < length toks) where
@@ -76,3 +83,30 @@ module _ {toks : List ℕ} {i k : ℕ} {old new : List ℕ} (p : Room text toks 
   closing-room left l =
       let q = next behind p left l in
       (q.0, q.1.part, omega (arith, (spelled-room behind p left l).1, length-append (closing (tree q.0)) (text (tree (rest_of q.0)))))
+
+pub node_next : {toks : List ℕ} {i : ℕ} {Q : Judged → Judged → Type 0} (v : ItemShape) → Tokens toks → Left toks i Q → i < length toks → (v ≡ Leaf → ⊥)
+    → ((h : Judged) → take (length toks - i) (drop i toks) ≡ encode h → some v ≡ shape_of h) → get_or toks i 0 / 8 % 2 ≡ 0 → ⊥
+node_next v p left l n shaped z = let q = here left l p.0 p.1 in node_token_odd q.0 v n (shaped q.0 q.1.part) (rw (← q.1.head) at z)
+
+-- What was written of an item: its opening; its items, or of a leaf none; what stands behind them.
+module _ {toks : List ℕ} {i : ℕ} (l : i < length toks) {k : ℕ} {old new : List ℕ} where
+  pub after_opening : {part : List ℕ} {m : ℕ} → Left toks i (Spelled whole old new k)
+      → ((h : Judged) → take (length toks - i) (drop i toks) ≡ encode h → Wrote (opening (tree h)) (take (length new - k) (drop k new)) part m)
+      → Left toks i (Spelled inside old (put_mid k (length new - k) new part) (k + m))
+  after_opening left w = same_place left l (λ j h p g. written_then (inside h) (text_split h) (w h p.part) g)
+
+  pub after_leaf : Left toks i (Spelled inside old new k) → ((h : Judged) → take (length toks - i) (drop i toks) ≡ encode h → some Leaf ≡ shape_of h)
+      → Left toks i (Spelled behind old new k)
+  after_leaf left shaped = same_place left l (λ j h p g. written_same (behind h) (leaf_inside h (shaped h p.part)) g)
+
+  pub after_items : {part inner : List ℕ} {m : ℕ} → Left toks i (Spelled inside old new k)
+      → ((h : Judged) → take (length toks - i) (drop i toks) ≡ encode h → inner ≡ encode (items_of h))
+      → ((j : Judged) → inner ≡ encode j → Wrote (text (tree j)) (take (length new - k) (drop k new)) part m)
+      → Left toks i (Spelled behind old (put_mid k (length new - k) new part) (k + m))
+  after_items left items w = same_place left l (λ j h p g. written_then (behind h) refl (w (items_of h) (items h p.part)) g)
+
+  pub after_closing : {part : List ℕ} {m n : ℕ} → Left toks i (Spelled behind old new k)
+      → ((h : Judged) → take (length toks - i) (drop i toks) ≡ encode h → Wrote (closing (tree h)) (take (length new - k) (drop k new)) part m)
+      → ((h : Judged) → take (length toks - i) (drop i toks) ≡ encode h → n ≡ length (encode (first_of h)))
+      → Left toks (i + n) (Spelled whole old (put_mid k (length new - k) new part) (k + m))
+  after_closing left w size = next_item left l size (λ j h p g. written_then (whole (rest_of h)) refl (w h p.part) g)

@@ -35,7 +35,7 @@ fn write_gap(toks: &[u16], out: &mut [u8]) -> usize
     requires { Room gap toks.now (length out.old) }
     ensures { (j : Judged) → toks.now ≡ encode j → Wrote (gap (tree j)) out.old out.new result }
 {
-    if toks.len() == 0 {
+    if toks.is_empty() {
         return 0;
     }
     out[0] = b' ';
@@ -64,13 +64,11 @@ fn write_p(toks: &[u16], out: &mut [u8]) -> usize
     let mut i = 0;
     while i < toks.len() {
         let next = &toks[i..];
-        // 1 a P-node, 3 a C-node
-        let kind = toks[i] / 8 % 4;
         k += write_opening(next, &mut out[k..]);
-        if kind == 3 {
-            k += write_c(tree_tokens::items(next), &mut out[k..]);
-        } else if kind == 1 {
-            k += write_p(tree_tokens::items(next), &mut out[k..]);
+        match tree_tokens::shape(next) {
+            ItemShape::Leaf => {}
+            ItemShape::PNode => k += write_p(tree_tokens::items(next), &mut out[k..]),
+            ItemShape::CNode => k += write_c(tree_tokens::items(next), &mut out[k..]),
         }
         k += write_closing(next, &mut out[k..]);
         i += tree_tokens::size(next);
@@ -88,13 +86,11 @@ fn write_c(toks: &[u16], out: &mut [u8]) -> usize
     let mut i = 0;
     while i < toks.len() {
         let next = &toks[i..];
-        // 1 a P-node, 3 a C-node
-        let kind = toks[i] / 8 % 4;
         k += write_opening(next, &mut out[k..]);
-        if kind == 1 {
-            k += write_p(tree_tokens::items(next), &mut out[k..]);
-        } else if kind == 3 {
-            k += write_c(tree_tokens::items(next), &mut out[k..]);
+        match tree_tokens::shape(next) {
+            ItemShape::Leaf => {}
+            ItemShape::PNode => k += write_p(tree_tokens::items(next), &mut out[k..]),
+            ItemShape::CNode => k += write_c(tree_tokens::items(next), &mut out[k..]),
         }
         k += write_closing(next, &mut out[k..]);
         i += tree_tokens::size(next);

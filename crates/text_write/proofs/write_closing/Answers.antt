@@ -22,15 +22,13 @@ bounds-out-0 c =
 
 pub slice_bounds-write_gap-count : goal.slice_bounds-write_gap-count
 slice_bounds-write_gap-count c =
-    let room : 0 < length c.args.out.now = (let p = c.requires.0 in
-    omega (arith, p.2, ap length (closing_node p.0 p.1 c.requires.1 (shape_no c.shape.ensures c.in_default.not-Leaf p.0 p.1)))) in
-    simp length-set (omega (arith, room))
+    let p = c.requires.0 in
+    simp length-set (omega (arith, p.2, ap length (closing_node p.0 p.1 c.requires.1 (shape_no c.shape.ensures c.in_default.not-Leaf p.0 p.1))))
 
 pub slice_bounds-write_gap-start : goal.slice_bounds-write_gap-start
 slice_bounds-write_gap-start c =
-    let room : 0 < length c.args.out.now = (let p = c.requires.0 in
-    omega (arith, p.2, ap length (closing_node p.0 p.1 c.requires.1 (shape_no c.shape.ensures c.in_default.not-Leaf p.0 p.1)))) in
-    simp length-set (omega (arith, room))
+    let p = c.requires.0 in
+    simp length-set (omega (arith, p.2, ap length (closing_node p.0 p.1 c.requires.1 (shape_no c.shape.ensures c.in_default.not-Leaf p.0 p.1))))
 
 pub write_gap-requires-2 : goal.write_gap-requires-2
 write_gap-requires-2 c =
@@ -39,7 +37,7 @@ write_gap-requires-2 c =
 
 pub returns : goal.returns
 returns c =
-    let room : 0 < length c.args.out.now = (let p = c.requires.0 in
-    omega (arith, p.2, ap length (closing_node p.0 p.1 c.requires.1 (shape_no c.shape.ensures c.in_default.not-Leaf p.0 p.1)))) in
+    let p = c.requires.0 in
+    let room : 0 < length c.args.out.now = omega (arith, p.2, ap length (closing_node p.0 p.1 c.requires.1 (shape_no c.shape.ensures c.in_default.not-Leaf p.0 p.1))) in
     λ j e. rw (closing_node j e c.requires.1 (shape_no c.shape.ensures c.in_default.not-Leaf j e))
     (wrote_then (wrote_one 41 _ room) (c.write_gap-2.ensures _ (c.rest-2.ensures.1 j e)))
