@@ -6,6 +6,8 @@ ghost use Rattle.text_leaf.specs.Passages.{Marks, ItemRead, ItemsRead, OpenedRea
 
 use text_leaf::Reached;
 
+// The parameters stay single ones: a struct of the numbers would be made anew at three of the four calls, and `out` is lent on in parts.
+
 // Reads the item at byte `at` and writes its tokens; or answers the byte of the refusal. Its node wants `few` items, it among them, and the nodes
 // round that want `want` leaves.
 #[cycle(item_items_opened)]

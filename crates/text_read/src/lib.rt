@@ -40,7 +40,7 @@ fn short(text: &[u8], n: usize, out: &mut [u16]) -> Result<usize, usize>
     requires { (1 ≤ n) × (n ≤ 2) × (512 ≤ length out.old) }
     ensures { ReadText n text.now out.old out.new result }
 {
-    let word = [b'1', b' ', b'2'];
+    let word = b"1 2";
     text_shape::word_read(text, &word[..2 * n - 1])?;
     Ok(tree_tokens::fresh(n, out))
 }

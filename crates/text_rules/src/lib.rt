@@ -79,7 +79,7 @@ fn see_items(toks: &[u16], rising: bool, o: usize) -> Seen
     ensures { (result.end ≤ o + 6 * length toks.now)
         × ((j : Judged) (k : Kind) → toks.now ≡ encode j → rising ≡ is_p k → Saw k o (tree j) result) }
 {
-    if toks.len() == 0 {
+    if toks.is_empty() {
         return Seen {
             first: 0,
             last: 0,

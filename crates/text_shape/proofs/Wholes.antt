@@ -5,6 +5,7 @@ use mathlib.Core.Bool.{false}
 use mathlib.Core.List.{List, [], ◌∷◌, ◌++◌}
 use Prim.Native.Nat.{ℕ, zero, suc, ◌+◌, ◌-◌, ◌≤◌, ◌<◌}
 use native.Mathlib.Omega.{arith}
+use native.Mathlib.Numerals.{add-one}
 use borrow.Rule.Slice.PartMut.{put_mid}
 use lib.ListN.{length, take, drop, get_or, set, replicate, length-replicate, drop_of_length-le}
 use Rattle.spec_orders.specs.Lists.{numbers_from}
@@ -146,13 +147,13 @@ start-unused zero h = absurd (omega arith)
 start-unused (suc n) h = let z : suc n - 1 ≡ n = omega arith in rw z (unused_zeros n 2)
 
 module _ (n k : ℕ) (h : 1 ≤ n) (g : n ≤ 256) (m : n ≤ suc k) where
-  marked : take (n + 1 - 0) (first_marks k) ≡ first_marks (n - 1)
-  marked = let z : n + 1 - 0 ≡ suc n = omega arith in rw z (start_marks n k h m)
+  marked : take (n + 1) (first_marks k) ≡ first_marks (n - 1)
+  marked = rw add-one (start_marks n k h m)
 
-  pub all_unused : unused 0 (take (n + 1 - 0) (first_marks k)) ≡ others n
+  pub all_unused : unused 0 (take (n + 1) (first_marks k)) ≡ others n
   all_unused = ap (unused 0) marked ∙ start-unused n h
 
-  pub marks_start : Marks (n - 1) (take (n + 1 - 0) (first_marks k))
+  pub marks_start : Marks (n - 1) (take (n + 1) (first_marks k))
   marks_start = record {
     count = sym (ap length all_unused ∙ others-length n);
     wide = omega (arith, ap length marked, length-replicate (n - 1) zero);

@@ -61,5 +61,5 @@ pub fn shape(text: &[u8], n: usize, out: &mut [u16]) -> Result<usize, usize>
     let mut used = [0u8; 257];
     used[0] = 1;
     used[1] = 1;
-    whole(text, n - 1, &mut used[0..n + 1], out)
+    whole(text, n - 1, &mut used[..n + 1], out)
 }

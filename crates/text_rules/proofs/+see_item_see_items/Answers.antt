@@ -1,6 +1,7 @@
 use mathlib.Core.Path.{refl, sym, ap, ◌∙◌}
 use Prim.Native.Nat.{◌+◌}
 use native.Mathlib.Omega.{arith}
+use borrow.Author.Tests.{eqb-true, eqb-false}
 use lib.ListN.{length, length-drop}
 use Rattle.std.specs.Option.{option_or}
 use Rattle.spec_orders.specs.TreeText.{digits}
@@ -34,8 +35,8 @@ see_item-returns t c = λ j e.
       saw_node j c.args.o there kinds.2 kinds.1 w refl refl refl (c.or.ensures ∙ ap (λ p. option_or p c.see_items-r.result.broken) c.broken_here.ensures),
     )
 
-pub see_items-returns-then-toks-eq0 : goal.see_items-returns-then-toks-eq0
-see_items-returns-then-toks-eq0 t c = (omega arith, λ j k e r. rw (at_end j e c.if-toks-eq0.true) (saw_none k c.args.o refl refl refl refl))
+pub see_items-returns-then-is_empty : goal.see_items-returns-then-is_empty
+see_items-returns-then-is_empty t c = (omega arith, λ j k e r. rw (at_end j e (eqb-true _ 0 (sym c.is_empty.ensures ∙ c.if-is_empty.true))) (saw_none k c.args.o refl refl refl refl))
 
 pub see_items-loop-i-init : goal.see_items-loop-i-init
 see_items-loop-i-init t c =
@@ -44,7 +45,7 @@ see_items-loop-i-init t c =
       omega (arith, (c.see_item-seen.ensures p.0 p.1).0, c.size-i.ensures.2 p.0 p.1),
       record {
         at = λ j e.
-            let there : 0 < length (encode j) = omega (arith, ap length e, c.if-toks-eq0.false) in
+            let there : 0 < length (encode j) = omega (arith, ap length e, eqb-false _ 0 (sym c.is_empty.ensures ∙ c.if-is_empty.false)) in
             (rest_of j, sym (part_to_end c.args.toks.now c.size-i.result) ∙ part_rest j e (c.size-i.ensures.2 j e), λ k r. goes_start k c.args.o j c.requires.1 there (c.see_item-seen.ensures j e).1);
       },
     )
