@@ -40,10 +40,8 @@ fn number_places(places: &mut [u16])
     requires { length places.old ≤ 256 }
     ensures { places.new ≡ numbers_from 1 (length places.old) }
 {
-    let mut i = 0;
-    while i < places.len() {
-        places[i] = (i + 1) as u16;
-        i += 1;
+    for (i, place) in places.iter_mut().enumerate() {
+        *place = (i + 1) as u16;
     }
 }
 
@@ -53,15 +51,10 @@ fn shuffle(generator: Generator, places: &mut [u16]) -> Generator
         × (places.new ≡ shuffled (length places.old) generator.state places.old) }
 {
     let mut from = generator;
-    let mut i = places.len();
-    while i > 1 {
-        let draw = from.draw(i);
-        let j = draw.number - 1;
-        let bin = places[i - 1];
-        places[i - 1] = places[j];
-        places[j] = bin;
+    for i in (1..places.len()).rev() {
+        let draw = from.draw(i + 1);
+        places.swap(i, draw.number - 1);
         from = draw.next;
-        i -= 1;
     }
     from
 }

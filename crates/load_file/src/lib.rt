@@ -42,11 +42,8 @@ fn mark(bins: &[u16], line: &mut [u8])
     requires { All (λ b. (1 ≤ b) × (2 * b ≤ length line.old)) bins.now }
     ensures { (n : ℕ) → All (λ b. (1 ≤ b) × (b ≤ n)) bins.now → Marked n bins.now line.old line.new }
 {
-    let mut i = 0;
-    while i < bins.len() {
-        let b = bins[i] as usize;
-        line[2 * (b - 1)] = b'1';
-        i += 1;
+    for &b in bins {
+        line[2 * (b as usize - 1)] = b'1';
     }
 }
 
