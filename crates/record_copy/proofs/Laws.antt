@@ -5,10 +5,11 @@ use native.Mathlib.Omega.{arith}
 use mathlib.Core.Path.{◌≡◌, refl, sym, ◌∙◌, ap, subst}
 use mathlib.Core.Logic.{◌⊎◌, inl, inr}
 use mathlib.Core.List.{List, [], ◌∷◌, ◌++◌, append_assoc, append-nil}
+use borrow.Rule.Slice.PartMut.{put_mid}
 use lib.ListN.{length, get_or, take, drop, set, length-set, length-append, length-drop, drop_of_length-le}
-use lib.Seq.{take_at, take-suc, drop-append-add, drop-drop, drop-cons, set_at, paste, paste-suc, length-paste, take-suc-set, take_all, drop-set-lt, get_or-drop, length-take-le}
+use lib.Seq.{take_at, take-suc, drop-append-add, drop-drop, drop-cons, set_at, take-suc-set, take_all, drop-set-lt, length-take-le}
 use Rattle.record_copy.specs.declared.Node.{Node}
-use Rattle.record_copy.specs.Rows.{zero_node, row_of, rows_of, put_row, node_at, nodes_of, with_rows, node_rows, zero_rows, Sound}
+use Rattle.record_copy.specs.Rows.{zero_node, row_of, rows_of, put_row, node_at, nodes_of, with_rows, Sound}
 
 -- what `cap` says: h of n records are copied
 abbrev pub Capped : ℕ → ℕ → Type 0
@@ -121,64 +122,28 @@ stored_all ys ns zs h i over c S =
     let e : i ≡ h = omega (arith, S.below) in
     S.is ∙ ap (λ (m : ℕ). nodes_of ys i ++ drop m ns) e ∙ ap (λ (l : List Node). nodes_of ys i ++ l) (cap_drop ns h c) ∙ ap (λ (m : ℕ). nodes_of ys m ++ drop 256 ns) (e ∙ cap_length ns h c)
 
--- what `load` makes of zeros
-pub flat_is : (ns : List Node) (ys zs : List ℕ) → ys ≡ zero_rows 65792 → zs ≡ rows_of (take 256 ns) ++ drop (length (take 256 ns) * 257) ys → zs ≡ node_rows ns
-unfolding node_rows
-flat_is ns ys zs b e = e ∙ ap (λ (l : List ℕ). rows_of (take 256 ns) ++ drop (length (take 256 ns) * 257) l) b
-
 -- ---- one row: what `put_row` writes
 abbrev pub started : List ℕ → ℕ → ℕ → ℕ → List ℕ
 started f at k c = set (set f (at * 257) k) (at * 257 + 1) c
 
-pub length_started : (f : List ℕ) (at k c : ℕ) → length (started f at k c) ≡ length f
-length_started f at k c = simp length-set
-
-pub put_row-next : (f items : List ℕ) (at k c j : ℕ) (l : List ℕ) → at * 257 + 257 ≤ length f → length items ≡ 255 → j < 255 → l ≡ paste (started f at k c) (at * 257 + 2) items j
-    → set l (at * 257 + 2 + j) (get_or items j 0) ≡ paste (started f at k c) (at * 257 + 2) items (j + 1)
-put_row-next f items at k c j l fits e small is =
-    let n : length (started f at k c) ≡ length f = length_started f at k c in
-    ap (λ (m : List ℕ). set m (at * 257 + 2 + j) (get_or items j 0)) is ∙ paste-suc (started f at k c) (at * 257 + 2) items j 0 (omega (arith, n)) (omega arith) ∙ ap (paste (started f at k c) (at * 257 + 2) items) (sym (add-one j))
-
-pub put_row-length : (f items : List ℕ) (at k c j : ℕ) (l : List ℕ) → at * 257 + 257 ≤ length f → length items ≡ 255 → j ≤ 255 → l ≡ paste (started f at k c) (at * 257 + 2) items j → length l ≡ length f
-put_row-length f items at k c j l fits e small is =
-    let n : length (started f at k c) ≡ length f = length_started f at k c in
-    ap length is ∙ length-paste (started f at k c) (at * 257 + 2) items j (omega (arith, n)) (omega arith) ∙ n
-
-pub put_row_done : (f items : List ℕ) (at k c j : ℕ) (l : List ℕ) → at * 257 + 257 ≤ length f → length items ≡ 255 → j ≤ 255 → 255 ≤ j → l ≡ paste (started f at k c) (at * 257 + 2) items j
-    → l ≡ put_row f at (k ∷ c ∷ items)
+pub put_row_is : (f items part : List ℕ) (at k c j : ℕ) → at * 257 + 257 ≤ length f → j ≡ 255 → part ≡ items
+    → put_mid (at * 257 + 2) j (started f at k c) part ≡ put_row f at (k ∷ c ∷ items)
 unfolding put_row
-put_row_done f items at k c j l fits e le ge is =
+put_row_is f items part at k c j fits j-is e =
     let B : ℕ = at * 257 in
     let f₁ : List ℕ = set f B k in
-    let j-is : j ≡ 255 = omega arith in
     let n₁ : length f₁ ≡ length f = length-set f B k in
     let two : B + 2 ≡ suc (B + 1) = omega arith in
     let one : B + 1 ≡ suc B = omega arith in
     let t : take (B + 2) (set f₁ (B + 1) c) ≡ (take B f ++ (k ∷ [])) ++ (c ∷ []) =
     ap (λ (m : ℕ). take m (set f₁ (B + 1) c)) two ∙ take-suc-set f₁ (B + 1) c (omega (arith, n₁)) ∙ ap (λ (m : List ℕ). m ++ (c ∷ [])) (ap (λ (m : ℕ). take m f₁) one ∙ take-suc-set f B k (omega arith)) in
-    let all : take 255 items ≡ items = take_all 255 items (omega arith) in
-    let far : B + 2 + 255 ≡ B + 257 = omega arith in
-    let d : drop (B + 2 + 255) (set f₁ (B + 1) c) ≡ drop (B + 257) f =
-    ap (λ (m : ℕ). drop m (set f₁ (B + 1) c)) far ∙ drop-set-lt (B + 257) f₁ (B + 1) c (omega arith) ∙ drop-set-lt (B + 257) f B k (omega arith) in
-    is ∙ ap (paste (set f₁ (B + 1) c) (B + 2) items) j-is
-    ∙ ap (λ (m : List ℕ). m ++ take 255 items ++ drop (B + 2 + 255) (set f₁ (B + 1) c)) t
-    ∙ ap (λ (m : List ℕ). ((take B f ++ (k ∷ [])) ++ (c ∷ [])) ++ m ++ drop (B + 2 + 255) (set f₁ (B + 1) c)) all
-    ∙ ap (λ (m : List ℕ). ((take B f ++ (k ∷ [])) ++ (c ∷ [])) ++ items ++ m) d
-    ∙ simp append_assoc
+    let far : B + 2 + j ≡ B + 257 = omega arith in
+    let d : drop j (drop (B + 2) (set f₁ (B + 1) c)) ≡ drop (B + 257) f =
+    drop-drop j (B + 2) (set f₁ (B + 1) c) ∙ ap (λ (m : ℕ). drop m (set f₁ (B + 1) c)) far ∙ drop-set-lt (B + 257) f₁ (B + 1) c (omega arith) ∙ drop-set-lt (B + 257) f B k (omega arith) in
+    rw (t, e, d) (simp append_assoc)
 
 -- ---- one record: what `row_at` reads
-pub row_at-next : (f items : List ℕ) (at j : ℕ) → at * 257 + 257 ≤ length f → length items ≡ 255 → j < 255 → take j items ≡ take j (drop (at * 257 + 2) f)
-    → take (j + 1) (set items j (get_or f (at * 257 + 2 + j) 0)) ≡ take (j + 1) (drop (at * 257 + 2) f)
-row_at-next f items at j fits e small is =
-    let n : length (drop (at * 257 + 2) f) ≡ length f - (at * 257 + 2) = length-drop (at * 257 + 2) f in
-    ap (λ (m : ℕ). take m (set items j (get_or f (at * 257 + 2 + j) 0))) (add-one j) ∙ take-suc-set items j (get_or f (at * 257 + 2 + j) 0) (omega arith)
-    ∙ ap (λ (l : List ℕ). l ++ (get_or f (at * 257 + 2 + j) 0 ∷ [])) is ∙ ap (λ (m : ℕ). take j (drop (at * 257 + 2) f) ++ (m ∷ [])) (sym (get_or-drop (at * 257 + 2) f j 0))
-    ∙ sym (take-suc (drop (at * 257 + 2) f) j 0 (omega (arith, n))) ∙ ap (λ (m : ℕ). take m (drop (at * 257 + 2) f)) (sym (add-one j))
-
-pub row_at_done : (f items : List ℕ) (at j : ℕ) → length items ≡ 255 → j ≤ 255 → 255 ≤ j → take j items ≡ take j (drop (at * 257 + 2) f)
+pub row_at_is : (f items : List ℕ) (at j : ℕ) → j ≡ 255 → items ≡ take j (drop (at * 257 + 2) f)
     → ◌≡◌ {A = Node} (record { kind = get_or f (at * 257) 0 % 256; count = get_or f (at * 257 + 1) 0; items = items }) (node_at f at)
 unfolding node_at
-row_at_done f items at j e le ge is =
-    let j-is : j ≡ 255 = omega arith in
-    let all : items ≡ take 255 (drop (at * 257 + 2) f) = sym (take_all 255 items (omega arith)) ∙ ap (λ (m : ℕ). take m items) (sym j-is) ∙ is ∙ ap (λ (m : ℕ). take m (drop (at * 257 + 2) f)) j-is in
-    λ i. record { kind = get_or f (at * 257) 0 % 256; count = get_or f (at * 257 + 1) 0; items = all i }
+row_at_is f items at j j-is is = rw (is, j-is) refl

@@ -13,35 +13,16 @@ pub struct Node {
     pub items: [u16; 255],
 }
 
-// The record in place i.
-fn get(nodes: &[Node], i: usize) -> Node
-    requires { i < length nodes.now }
-    ensures { result ≡ get_or nodes.now i zero_node }
-{
-    nodes[i]
-}
-
-// Puts a record in place i.
-fn put(nodes: &mut [Node], i: usize, node: Node)
-    requires { i < length nodes.old }
-    ensures { nodes.new ≡ set nodes.old i node }
-{
-    nodes[i] = node;
-}
-
 // Writes a record to row `at`.
-fn put_row(node: Node, flat: &mut [u16], at: usize)
+fn put_row(node: &Node, flat: &mut [u16], at: usize)
     requires { at * 257 + 257 ≤ length flat.old }
-    ensures { flat.new ≡ put_row flat.old at (row_of node) }
+    ensures row { flat.new ≡ put_row flat.old at (row_of node.now) }
+    ensures whole { (node.now.kind < 256) × (length node.now.items ≡ 255) }
 {
     let base = at * 257;
-    flat[base] = node.kind as u16;
+    flat[base] = u16::from(node.kind);
     flat[base + 1] = node.count;
-    let mut j = 0;
-    while j < 255 {
-        flat[base + 2 + j] = node.items[j];
-        j += 1;
-    }
+    flat[base + 2..base + 257].copy_from_slice(&node.items);
 }
 
 // The record in row `at`.
@@ -51,11 +32,7 @@ fn row_at(flat: &[u16], at: usize) -> Node
 {
     let base = at * 257;
     let mut items = [0u16; 255];
-    let mut j = 0;
-    while j < 255 {
-        items[j] = flat[base + 2 + j];
-        j += 1;
-    }
+    items.copy_from_slice(&flat[base + 2..base + 257]);
     Node {
         kind: (flat[base] % 256) as u8,
         count: flat[base + 1],
@@ -67,10 +44,7 @@ fn row_at(flat: &[u16], at: usize) -> Node
 pub fn cap(n: usize) -> usize
     ensures { (result ≤ 256) × ((result ≤ n) × ((result ≡ n) ⊎ (result ≡ 256))) }
 {
-    if n < 256 {
-        return n;
-    }
-    256
+    n.min(256)
 }
 
 // Writes the first 256 records to their rows. Returns how many records there are.
@@ -80,14 +54,10 @@ pub fn load(nodes: &[Node], flat: &mut [u16]) -> usize
         × ((flat.new ≡ rows_of (take 256 nodes.now) ++ drop (length (take 256 nodes.now) * 257) flat.old)
         × Sound (take 256 nodes.now)) }
 {
-    let all = nodes.len();
-    let have = cap(all);
-    let mut i = 0;
-    while i < have {
-        put_row(get(nodes, i), flat, i);
-        i += 1;
+    for i in 0..cap(nodes.len()) {
+        put_row(&nodes[i], flat, i);
     }
-    all
+    nodes.len()
 }
 
 // Puts the records of the rows in the first 256 places.
@@ -95,11 +65,7 @@ pub fn store(flat: &[u16], nodes: &mut [Node])
     requires { length flat.now ≡ 65792 }
     ensures { nodes.new ≡ with_rows flat.now nodes.old }
 {
-    let all = nodes.len();
-    let have = cap(all);
-    let mut i = 0;
-    while i < have {
-        put(nodes, i, row_at(flat, i));
-        i += 1;
+    for i in 0..cap(nodes.len()) {
+        nodes[i] = row_at(flat, i);
     }
 }

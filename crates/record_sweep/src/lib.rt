@@ -14,11 +14,8 @@ pub fn sweep(nodes: &[Node], n: usize, work: &mut [u64])
     ensures { (length (node_rows nodes.now) ≡ 65792)
         × ((S : Restriction) → Started n S work.old → Swept n S (node_rows nodes.now) 0 work.new) }
 {
-    let all = nodes.len();
-    let mut r = record_copy::cap(all);
-    while r > 0 {
-        r -= 1;
+    for r in (0..record_copy::cap(nodes.len())).rev() {
         let node = &nodes[r];
-        table_sweep::record(r, node.kind as u16, node.count, &node.items, n, work);
+        table_sweep::record(r, u16::from(node.kind), node.count, &node.items, n, work);
     }
 }

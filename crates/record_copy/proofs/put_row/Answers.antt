@@ -1,14 +1,6 @@
-use Rattle.std.proofs.Common.{arith, refl}
-use Rattle.record_copy.proofs.Laws.{put_row-next, put_row_done}
+use Rattle.std.proofs.Common.{arith}
+use Rattle.record_copy.proofs.Laws.{put_row_is}
 use Rattle.record_copy.proofs.put_row.Goals as goal
 
-pub loop-j-preserved : goal.loop-j-preserved
-loop-j-preserved c = record {
-  below = omega arith;
-  base_is = refl;
-  items_long = c.loop-j.invariant.items_long;
-  is = put_row-next c.args.flat.now c.args.node.items c.args.at c.args.node.kind c.args.node.count c.loop-j.j c.loop-j.flat c.requires c.loop-j.invariant.items_long c.loop-j-test.true c.loop-j.invariant.is;
-}
-
-pub returns : goal.returns
-returns c = put_row_done c.args.flat.now c.args.node.items c.args.at c.args.node.kind c.args.node.count c.loop-j.j c.loop-j.flat c.requires c.loop-j.invariant.items_long c.loop-j.invariant.below c.loop-j-test.false c.loop-j.invariant.is
+pub returns-clause-row : goal.returns-clause-row
+returns-clause-row c = rw c.from.ensures (put_row_is c.args.flat.now c.args.node.now.items c.copy_from_slice.new.self c.args.at c.args.node.now.kind c.args.node.now.count _ c.requires (omega arith) c.copy_from_slice.ensures.after)

@@ -1,5 +1,6 @@
-use Rattle.record_copy.proofs.Laws.{row_at_done}
+use Rattle.std.proofs.Common.{arith}
+use Rattle.record_copy.proofs.Laws.{row_at_is}
 use Rattle.record_copy.proofs.row_at.Goals as goal
 
 pub returns : goal.returns
-returns c = row_at_done c.args.flat.now c.loop-j.items c.args.at c.loop-j.j c.loop-j.invariant.items_long c.loop-j.invariant.below c.loop-j-test.false c.loop-j.invariant.is
+returns c = row_at_is c.args.flat.now c.copy_from_slice.new.self c.args.at _ (omega arith) c.copy_from_slice.ensures.after
