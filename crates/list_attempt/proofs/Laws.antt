@@ -9,7 +9,8 @@ use Rattle.spec_orders.specs.CircularOrder.{group_of}
 use Rattle.spec_orders.specs.Tree.{Forest}
 use Rattle.spec_orders.specs.Join.{join}
 use Rattle.mark_words.specs.Marks.{marked, words_of}
-use Rattle.std.specs.Prelude.{Some, None}
+use Rattle.std.specs.Prelude.{Option as Maybe, Some, None}
+use Rattle.std.specs.Option.{ok_or}
 use Rattle.tree_update.specs.Update.{Answers, written}
 use Rattle.spec_calls.specs.declared.Refusal.{Refusal}
 use Rattle.spec_calls.specs.declared.Refusal.TheVariants.{BookFull, Impossible}
@@ -17,7 +18,7 @@ use Rattle.spec_calls.specs.Refusals.{refuse, first_refusal, bad_list}
 use Rattle.spec_calls.specs.Calls.{is_none}
 use Rattle.table_book.proofs.Lists.{group_held}
 use Rattle.spec_calls.proofs.Checks.{first_refusal-left, first_refusal-one}
-use Rattle.list_attempt.specs.Attempts.{group_refusal, JoinedTree}
+use Rattle.list_attempt.specs.Attempts.{group_refusal, Attempts}
 
 module _ (t : Forest) (n count : ℕ) (list : List ℕ) where
   pub list_passed : group_refusal t n count list ≡ none → bad_list n list ≡ none
@@ -43,18 +44,14 @@ module _ (t : Forest) (n count : ℕ) (list : List ℕ) where
     marks_are : (words : List ℕ) → n ≤ 256 → words ≡ words_of 4 (group_of n list) → marked words ≡ group_of n list
     marks_are words h w = ap marked w ∙ group_held n list h e
 
-    pub none_joined : (words old new : List ℕ) → n ≤ 256 → words ≡ words_of 4 (group_of n list) → (count ≡ 96 → ⊥) → Answers (join (marked words) t) old new None
-        → group_refusal t n count list ≡ some Impossible
-    none_joined words old new h w q a = judged q ∙ go (join (group_of n list) t) (subst (λ G. Answers (join G t) old new None) (marks_are words h w) a)
+    -- What the work comes to, where no check before it refuses.
+    pub attempted : (words old new : List ℕ) (m : Maybe ℕ) → n ≤ 256 → words ≡ words_of 4 (group_of n list) → (count ≡ 96 → ⊥) → Answers (join (marked words) t) old new m
+        → Attempts t n count list words old new (ok_or m Impossible)
+    attempted words old new m h w q a = go m (join (group_of n list) t) refl (subst (λ G. Answers (join G t) old new m) (marks_are words h w) a)
       where
-        go : (o : Option Forest) → Answers o old new None → first_refusal (refuse (is_none o) Impossible ∷ []) ≡ some Impossible
-        go (some _) a = elim a [ ]
-        go none a = refl
-
-    pub one-joined : (words old new : List ℕ) (k : ℕ) → n ≤ 256 → words ≡ words_of 4 (group_of n list) → (count ≡ 96 → ⊥) → Answers (join (marked words) t) old new (Some k)
-        → JoinedTree t n count list words old new k
-    one-joined words old new k h w q a = go (join (group_of n list) t) refl (subst (λ G. Answers (join G t) old new (Some k)) (marks_are words h w) a)
-      where
-        go : (o : Option Forest) → join (group_of n list) t ≡ o → Answers o old new (Some k) → JoinedTree t n count list words old new k
-        go none p x'' = elim x'' [ ]
-        go (some u) p (written x) = record { passes = judged q ∙ ap (λ o. first_refusal (refuse (is_none o) Impossible ∷ [])) p; not_full = q; group = w; tree = u; is = p; wrote = x }
+        go : (m : Maybe ℕ) (o : Option Forest) → join (group_of n list) t ≡ o → Answers o old new m
+            → Attempts t n count list words old new (ok_or m Impossible)
+        go None none p a = judged q ∙ ap (λ o. first_refusal (refuse (is_none o) Impossible ∷ [])) p
+        go None (some u) p a = elim a [ ]
+        go (Some k) none p a = elim a [ ]
+        go (Some k) (some u) p (written x) = record { passes = judged q ∙ ap (λ o. first_refusal (refuse (is_none o) Impossible ∷ [])) p; not_full = q; group = w; tree = u; is = p; wrote = x }

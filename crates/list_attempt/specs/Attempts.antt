@@ -1,5 +1,5 @@
 -- What an attempt to join a group answers and writes.
-use Rattle.std.specs.Prelude.{◌≡◌, ◌≢◌, List, [], ◌∷◌, ℕ, eqb}
+use Rattle.std.specs.Prelude.{◌≡◌, ◌≢◌, List, [], ◌∷◌, ℕ, eqb, Result, Ok, Err}
 use Rattle.std.proofs.Math.Option.{Option, none, some}
 use Rattle.spec_orders.specs.CircularOrder.{group_of}
 use Rattle.spec_orders.specs.Tree.{Forest}
@@ -10,8 +10,6 @@ use Rattle.spec_calls.specs.declared.Refusal.{Refusal}
 use Rattle.spec_calls.specs.declared.Refusal.TheVariants.{BookFull, Impossible}
 use Rattle.spec_calls.specs.Refusals.{refuse, first_refusal, bad_list}
 use Rattle.spec_calls.specs.Calls.{is_none}
-use Rattle.list_attempt.specs.declared.Tried.{Tried}
-use Rattle.list_attempt.specs.declared.Tried.TheVariants.{Joined, Refused}
 
 -- Checks 5 to 8, for a tree t.
 unfoldable pub group_refusal : Forest → ℕ → ℕ → List ℕ → Option Refusal
@@ -27,6 +25,6 @@ pub record JoinedTree (t : Forest) (n count : ℕ) (list marks old new : List �
   pub is : join (group_of n list) t ≡ some tree
   pub wrote : Wrote (flat tree) old new k
 
-abbrev pub Attempts : Forest → ℕ → ℕ → List ℕ → List ℕ → List ℕ → List ℕ → Tried → Type 0
-Attempts t n count list marks old new (Joined k) = JoinedTree t n count list marks old new k
-Attempts t n count list marks old new (Refused r) = group_refusal t n count list ≡ some r
+abbrev pub Attempts : Forest → ℕ → ℕ → List ℕ → List ℕ → List ℕ → List ℕ → Result ℕ Refusal → Type 0
+Attempts t n count list marks old new (Ok k) = JoinedTree t n count list marks old new k
+Attempts t n count list marks old new (Err r) = group_refusal t n count list ≡ some r

@@ -9,15 +9,8 @@ ghost use Rattle.list_attempt.specs.Attempts.{Attempts};
 use spec_calls::Refusal;
 use table_book::Checked;
 
-// What an attempt to join a group comes to: the tree with it, in this many tokens; or why it is refused.
-#[derive(Drop)]
-pub enum Tried {
-    Joined(usize),
-    Refused(Refusal),
-}
-
 // Checks 5 to 8 on a tree and the count of a book in form. Writes the group's four words to marks, and the tree with the group joined to it to
-// the start of out.
+// the start of out. Returns how many tokens it has.
 pub fn attempt(
     toks: &[u16],
     n: usize,
@@ -25,19 +18,16 @@ pub fn attempt(
     list: &[u16],
     marks: &mut [u64],
     out: &mut [u16],
-) -> Tried
+) -> Result<usize, Refusal>
     requires { (TreeTokens n toks.now) × (length marks.old ≡ 4) × (512 ≤ length out.old) }
     ensures { (t : Forest) → toks.now ≡ flat t
         → Attempts t n count list.now marks.new out.old out.new result }
 {
     if let Checked::Bad(refusal) = table_book::check_list(list, n, marks) {
-        return Tried::Refused(refusal);
+        return Err(refusal);
     }
     if count == 96 {
-        return Tried::Refused(Refusal::BookFull);
+        return Err(Refusal::BookFull);
     }
-    let Some(m) = tree_update::join(toks, marks, n, out) else {
-        return Tried::Refused(Refusal::Impossible);
-    };
-    Tried::Joined(m)
+    tree_update::join(toks, marks, n, out).ok_or(Refusal::Impossible)
 }

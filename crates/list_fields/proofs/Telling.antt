@@ -2,9 +2,9 @@
 use mathlib.Core.Path.{◌≡◌, refl, sym, ap, ap₂, subst, ◌∙◌}
 use mathlib.Core.Option.{Option, none, some}
 use mathlib.Core.List.{List, [], ◌∷◌, ◌++◌}
-use Prim.Native.Nat.{ℕ, ◌-◌, ◌≤◌, ◌<◌}
+use Prim.Native.Nat.{ℕ, ◌≤◌, ◌<◌}
 use native.Mathlib.Omega.{arith}
-use lib.ListN.{length, take, drop, length-append}
+use lib.ListN.{length, take, length-append}
 use Rattle.spec_orders.specs.declared.Layout.TheVariants.{Ring}
 use Rattle.spec_orders.specs.Lists.{elem}
 use Rattle.spec_orders.specs.Tree.{Forest}
@@ -15,6 +15,7 @@ use Rattle.spec_calls.specs.Book.{groups}
 use Rattle.spec_calls.specs.Calls.{conflicts_of}
 use Rattle.spec_listing.specs.Listing.{Outcome, RingState, joined, outcome, next, commas, aim_field, fields}
 use Rattle.list_ring.specs.Stands.{RingStands}
+use Rattle.list_ring.specs.declared.Ring.{Ring as Stood}
 use Rattle.list_ring.proofs.Outcomes.{outcome_full, outcome-joined}
 use Rattle.list_fields.proofs.Conflicting.{conflicts_listed}
 
@@ -23,36 +24,33 @@ module _ (names : List (List ℕ)) (ord : List ℕ) (n : ℕ) (s : RingState) (l
   unfolding fields
   tells_full e = rw (outcome_full n s list e)
 
-  module _ (k : ℕ) (toks : List ℕ) (m : ℕ) (book table : List ℕ) (after : ℕ) where
+  module _ (k : ℕ) (r : Stood) where
     abbrev After : Outcome → Type 0
-    After o = RingStands n (next s k list o) toks m book table after
+    After o = RingStands n (next s k list o) r
 
-    kept_told : (o : Option Forest) → After (joined n s (elem list) o) → length s.groups < after
+    kept_told : (o : Option Forest) → After (joined n s (elem list) o) → length s.groups < r.count
         → bytes " kept " ++ (aim_field names ord list ++ bytes " -") ≡ fields names ord s list (joined n s (elem list) o)
     unfolding fields
     kept_told (some t) h l = refl
     kept_told none h l = absurd (omega (arith, h.counted))
 
-    refused_told : (o : Option Forest) → After (joined n s (elem list) o) → after ≤ length s.groups
-        → bytes " refused - " ++ commas (take (length s.groups - 0) (drop 0 table)) (conflicts_of Ring n (lent_book book (length s.groups)) (elem list))
+    refused_told : (o : Option Forest) → After (joined n s (elem list) o) → r.count ≤ length s.groups
+        → bytes " refused - " ++ commas (take r.count r.table) (conflicts_of Ring n (lent_book r.book r.count) (elem list))
         ≡ fields names ord s list (joined n s (elem list) o)
     unfolding fields
     refused_told (some t) h l = absurd (omega (arith, h.counted, length-append s.groups (elem list ∷ [])))
     refused_told none h l =
-        let e = h.counted in
-        ap₂ (λ (lines ns : List ℕ). bytes " refused - " ++ commas lines ns) (subst (λ i. take (i - 0) (drop 0 table) ≡ s.lines) e h.in_table)
-        (conflicts_listed n book s.groups (elem list) (subst (λ i. groups (lent_book book i) ≡ s.groups) e h.in_book))
+        ap₂ (λ (lines ns : List ℕ). bytes " refused - " ++ commas lines ns) h.in_table
+        (ap (λ (i : ℕ). conflicts_of Ring n (lent_book r.book i) (elem list)) h.counted
+        ∙ conflicts_listed n r.book s.groups (elem list) (subst (λ i. groups (lent_book r.book i) ≡ s.groups) h.counted h.in_book))
 
     module _ (place : length s.groups ≡ 96 → ⊥) (h : After (outcome n s list)) where
       is : outcome n s list ≡ joined n s (elem list) (join (elem list) s.tree)
       is = outcome-joined n s list place
 
-      pub tells_kept : length s.groups < after → bytes " kept " ++ (aim_field names ord list ++ bytes " -") ≡ fields names ord s list (outcome n s list)
+      pub tells_kept : length s.groups < r.count → bytes " kept " ++ (aim_field names ord list ++ bytes " -") ≡ fields names ord s list (outcome n s list)
       tells_kept l = kept_told (join (elem list) s.tree) (subst After is h) l ∙ ap (fields names ord s list) (sym is)
 
-      pub tells_refused : {count : ℕ} → count ≡ length s.groups → after ≤ length s.groups
-          → bytes " refused - " ++ commas (take (count - 0) (drop 0 table)) (conflicts_of Ring n (lent_book book count) (elem list)) ≡ fields names ord s list (outcome n s list)
-      tells_refused {count} e l =
-          ap (λ (i : ℕ). bytes " refused - " ++ commas (take (i - 0) (drop 0 table)) (conflicts_of Ring n (lent_book book i) (elem list))) e
-          ∙ refused_told (join (elem list) s.tree) (subst After is h) l
-          ∙ ap (fields names ord s list) (sym is)
+      pub tells_refused : r.count ≤ length s.groups
+          → bytes " refused - " ++ commas (take r.count r.table) (conflicts_of Ring n (lent_book r.book r.count) (elem list)) ≡ fields names ord s list (outcome n s list)
+      tells_refused l = refused_told (join (elem list) s.tree) (subst After is h) l ∙ ap (fields names ord s list) (sym is)

@@ -2,70 +2,48 @@
 use mathlib.Core.Path.{◌≡◌, refl, sym, ap, subst, ◌∙◌}
 use mathlib.Core.Logic.{◌⊎◌, inl, inr}
 use mathlib.Core.List.{List, [], ◌∷◌, map}
-use Prim.Native.Nat.{ℕ, ◌-◌, ◌≤◌, ◌<◌}
+use Prim.Native.Nat.{ℕ, ◌≤◌, ◌<◌}
 use native.Mathlib.Omega.{arith}
-use lib.ListN.{length, take, drop}
+use lib.ListN.{length, take}
 use Rattle.spec_orders.specs.Tree.{Forest}
-use Rattle.spec_orders.specs.Form.{InForm, standard}
+use Rattle.spec_orders.specs.Form.{standard}
 use Rattle.spec_orders.specs.TreeText.{digits}
 use Rattle.spec_orders.specs.Circles.{bytes}
 use Rattle.spec_orders.proofs.TextTree.{form_length}
 use Rattle.spec_calls.specs.declared.Refusal.{Refusal}
 use Rattle.spec_calls.specs.Refusals.{reported}
-use Rattle.tree_tokens.specs.Tokens.{tree, plain, Wrote, flat, TreeTokens}
+use Rattle.tree_tokens.specs.Tokens.{tree, plain, Wrote, flat}
 use Rattle.tree_tokens.proofs.Sequences.{tree_plain}
-use Rattle.tree_tokens.proofs.Writes.{read_part}
+use Rattle.tree_tokens.proofs.Writes.{read_back}
 use Rattle.list_bytes.specs.Appends.{Appends}
 use Rattle.list_bytes.proofs.Laws.{appends_then}
 use Rattle.file_read.specs.RingFile.{Value, leaves_on, Accepted, FileRefused, FileHolds, Says, told_of}
 use Rattle.file_read.proofs.Answers.{refused_at}
 use Rattle.spec_orders.proofs.FirstByte.{not_refused, refused_once}
 use Rattle.file_syntax.proofs.Exact.{parts_once}
-use Rattle.spec_listing.specs.Listing.{RingState, opened, run, state_at, listing, error_line, Lists, accepted, too_long, malformed}
+use Rattle.spec_listing.specs.Listing.{listing, error_line, Lists, accepted, too_long, malformed}
 use Rattle.list_ring.specs.Stands.{lists_of, StandsAt}
-use Rattle.list_ring.proofs.Runs.{state_all}
-use Rattle.list_ring.proofs.Files.{few_names, lists_length}
-use Rattle.list_fields.specs.Ordered.{Ordered}
+use Rattle.list_ring.specs.declared.Ring.{Ring}
+use Rattle.list_ring.proofs.Files.{few_names}
 use Rattle.list_part.specs.declared.Piece.{Piece}
-use Rattle.list_line.specs.Printing.{final, Final}
+use Rattle.list_line.specs.Printing.{final}
+use Rattle.list_line.proofs.Last.{last_tree, last_form, some_leaf}
 use Rattle.list_part.specs.Parts.{Parts, Listed}
 use Rattle.list_part.proofs.Parts.{shown_none, shown_more, whole_part}
 
 -- The ring after all lines.
-module _ {x : List ℕ} {n h k : ℕ} (f : FileHolds x n h k) {toks book table : List ℕ} {m count : ℕ} (s : StandsAt f k toks m book table count) where
+module _ {x : List ℕ} {n h k : ℕ} (f : FileHolds x n h k) {r : Ring} (s : StandsAt f k r) where
   abbrev t : Forest
   t = final f.ns (lists_of f)
 
-  last_tree : (state_at n (lists_of f) k).tree ≡ t
-  unfolding final
-  last_tree =
-      ap (λ (u : RingState). u.tree) (state_all n (lists_of f) k (sym (lists_length f)))
-      ∙ ap (λ (i : ℕ). (run i (opened i) 1 (lists_of f)).tree) f.leaves
-
-  pub final_tokens : take (m - 0) (drop 0 toks) ≡ flat t
-  final_tokens = s.tokens ∙ ap flat last_tree
-
-  final_form : InForm n t
-  final_form = subst (InForm n) last_tree s.form
-
-  pub final_in_form : TreeTokens n (take (m - 0) (drop 0 toks))
-  final_in_form = record { shown = t; is = final_tokens; in_form = final_form; few_leaves = few_names f }
-
-  some_leaf : 1 ≤ n
-  some_leaf = omega (arith, f.leaves, f.rules.names.some_name)
+  pub final_tokens : take r.tokens r.toks ≡ flat t
+  final_tokens = s.tokens ∙ ap flat (last_tree f)
 
   pub order_room : length (standard (tree (plain t))) ≤ 256
-  order_room = rw (tree_plain t) (omega (arith, form_length n t final_form, some_leaf, few_names f))
+  order_room = rw (tree_plain t) (omega (arith, form_length n t (last_form f), some_leaf f, few_names f))
 
-  module _ {old order : List ℕ} {j : ℕ} (w : Wrote (standard (tree (plain t))) old order j) where
-    order_read : take (j - 0) (drop 0 order) ≡ standard t
-    order_read = read_part w ∙ ap standard (tree_plain t)
-
-    pub is_final : Final f (take (m - 0) (drop 0 toks)) (take (j - 0) (drop 0 order))
-    is_final = record { tokens = final_tokens; standard_order = order_read }
-
-    pub is_ordered : Ordered n (take (j - 0) (drop 0 order))
-    is_ordered = record { tree = t; form = final_form; is = order_read; some_leaf = some_leaf; few_leaves = few_names f }
+  pub order_read : {old order : List ℕ} {j : ℕ} → Wrote (standard (tree (plain t))) old order j → take j order ≡ standard t
+  order_read w = read_back w ∙ ap standard (tree_plain t)
 
 -- The error line.
 pub error_part : (byte : ℕ) {from : ℕ} {old a b new : List ℕ} {i j r : ℕ} → from ≡ 0 → 4096 ≤ length old → Appends (bytes "error 11 at byte ") 0 old a i

@@ -13,16 +13,9 @@ use Rattle.tree_tokens.specs.Tokens.{Wrote}
 use Rattle.tree_tokens.proofs.Writes.{wrote_none, read_back}
 use Rattle.list_bytes.specs.Appends.{Appends}
 use Rattle.list_bytes.proofs.Laws.{appends_then}
-use Rattle.file_read.specs.RingFile.{line, value_lines, FileHolds}
-use Rattle.file_read.proofs.Values.{lines_long}
 use Rattle.list_part.specs.declared.Piece.{Piece}
 use Rattle.spec_listing.specs.Listing.{printed, printable, lines_from}
 use Rattle.list_part.specs.Parts.{Parts}
-
--- A file has fewer group lines than bytes.
-pub lines-few : {x : List ℕ} {n h k : ℕ} → FileHolds x n h k → k ≤ 65536
-lines-few f =
-    omega (arith, f.lines, f.size, ap length f.bytes, length-append (line f.ns) (value_lines f.vss), lines_long f.vss)
 
 printed-append : (a b : List (List ℕ)) → printed (a ++ b) ≡ printed a ++ printed b
 printed-append [] b = refl

@@ -1,13 +1,14 @@
 -- What a group line comes to, and what the attempt to join its group; the ring in its tables before and after it.
-use mathlib.Core.Path.{◌≡◌, refl, sym, ap, subst, ◌∙◌}
+use mathlib.Core.Path.{◌≡◌, refl, sym, ap, ap₂, subst, ◌∙◌}
 use mathlib.Core.Bool.{Bool, true, false, cond}
 use mathlib.Core.Option.{Option, none, some}
 use mathlib.Core.List.{List, [], ◌∷◌, ◌++◌}
-use Prim.Native.Nat.{ℕ, suc, ◌+◌, ◌-◌, ◌≤◌, ◌<◌}
+use Prim.Native.Nat.{ℕ, ◌+◌, ◌≤◌, ◌<◌}
 use native.Mathlib.Omega.{arith}
+use native.Mathlib.Numerals.{add-one}
 use borrow.Author.Tests.{eq-eqb, ne_eqb}
 use lib.Dec.{eqb}
-use lib.ListN.{length, take, drop, set, length-append}
+use lib.ListN.{length, take, set, length-append}
 use lib.Seq.{take-suc-set}
 use Rattle.spec_orders.specs.Lists.{elem}
 use Rattle.spec_orders.specs.CircularOrder.{group_of}
@@ -25,22 +26,23 @@ use Rattle.spec_calls.proofs.Demands.{well_formed_passes}
 use Rattle.spec_calls.proofs.Books.{groups-booked}
 use Rattle.table_book.proofs.Lists.{group_held}
 use Rattle.tree_tokens.specs.Tokens.{Wrote, flat, TreeTokens}
-use Rattle.tree_tokens.proofs.Writes.{read_part, wrote_most}
+use Rattle.tree_tokens.proofs.Writes.{read_back, wrote_most}
 use Rattle.list_attempt.specs.Attempts.{group_refusal, JoinedTree}
 use Rattle.list_attempt.proofs.Laws.{list_passed}
 use Rattle.spec_listing.specs.Listing.{Outcome, kept, refused, full, RingState, opened, joined, outcome, next}
 use Rattle.list_ring.specs.Stands.{RingStands, Line}
+use Rattle.list_ring.specs.declared.Ring.{Ring}
 
 -- The fresh ring.
-pub opened_stands : (n : ℕ) {old toks : List ℕ} {m : ℕ} → Wrote (flat (fresh n)) old toks m → (book table : List ℕ) → RingStands n (opened n) toks m book table 0
+pub opened_stands : (n : ℕ) {old : List ℕ} (r : Ring) → Wrote (flat (fresh n)) old r.toks r.tokens → r.count ≡ 0 → RingStands n (opened n) r
 unfolding groups
-opened_stands n w book table = record {
+opened_stands n r w e = record {
   form = fresh_form n;
-  tokens = read_part w;
+  tokens = read_back w;
   all_tokens = wrote_most w;
-  in_book = refl;
-  in_table = refl;
-  counted = refl;
+  in_book = rw e;
+  in_table = rw e;
+  counted = e;
   few = omega arith;
 }
 
@@ -76,49 +78,45 @@ refused_next (refused ns) r e s line list = refl
 refused_next full r e s line list = refl
 
 -- A line more in the table.
-table_more : (table : List ℕ) (c line : ℕ) → c < length table
-    → take (c + 1 - 0) (drop 0 (set table c line)) ≡ take (c - 0) (drop 0 table) ++ (line ∷ [])
-table_more table c line h =
-    let e : c + 1 - 0 ≡ suc c = omega arith in
-    let f : c - 0 ≡ c = omega arith in
-    rw (e, f) (take-suc-set table c line h)
+table_more : (table : List ℕ) (c line : ℕ) → c < length table → take (c + 1) (set table c line) ≡ take c table ++ (line ∷ [])
+table_more table c line h = rw add-one (take-suc-set table c line h)
 
 -- The ring after a line.
-module _ (n : ℕ) (s : RingState) (line : ℕ) (list : List ℕ) {toks book table : List ℕ} {m count : ℕ} (h : RingStands n s toks m book table count) where
-  pub tree_tokens : n ≤ 256 → TreeTokens n (take (m - 0) (drop 0 toks))
+module _ (n : ℕ) (s : RingState) (line : ℕ) (list : List ℕ) (r : Ring) (h : RingStands n s r) where
+  pub tree_tokens : n ≤ 256 → TreeTokens n (take r.tokens r.toks)
   tree_tokens l = record { shown = s.tree; is = h.tokens; in_form = h.form; few_leaves = l }
 
-  pub stays : Line n list → (r : Refusal) → group_refusal s.tree n count list ≡ some r
-      → RingStands n (next s line list (outcome n s list)) toks m book table count
-  stays l r e =
+  pub stays : Line n list → (why : Refusal) → group_refusal s.tree n r.count list ≡ some why → RingStands n (next s line list (outcome n s list)) r
+  stays l why e =
       let q = sym (outcome_refusal n s list l) ∙ ap (λ (c : ℕ). group_refusal s.tree n c list) (sym h.counted) ∙ e in
-      subst (λ (u : RingState). RingStands n u toks m book table count) (sym (refused_next (outcome n s list) r q s line list)) h
+      subst (λ (u : RingState). RingStands n u r) (sym (refused_next (outcome n s list) why q s line list)) h
 
-  module _ {marks old tree : List ℕ} {k : ℕ} (a : JoinedTree s.tree n count list marks old tree k) where
+  module _ {marks old tree : List ℕ} {k : ℕ} (a : JoinedTree s.tree n r.count list marks old tree k) where
     passed : bad_list n list ≡ none
-    passed = list_passed s.tree n count list a.passes
+    passed = list_passed s.tree n r.count list a.passes
 
     is_kept : outcome n s list ≡ kept a.tree
     is_kept = outcome-joined n s list (λ e. a.not_full (h.counted ∙ e)) ∙ ap (joined n s (elem list)) a.is
 
-    pub kept_few : count < 96
+    pub kept_few : r.count < 96
     kept_few = omega (arith, h.few, a.not_full)
 
-    pub kept_stands : {toks' book' : List ℕ} {j : ℕ} → n ≤ 256 → Wrote (take (k - 0) (drop 0 tree)) toks toks' j
-        → book' ≡ booked book count (group_of n list) → 384 ≤ length book → 96 ≤ length table
-        → RingStands n (next s line list (outcome n s list)) toks' k book' (set table count line) (count + 1)
-    kept_stands {toks'} {book'} {j} l w b all_words all_places =
-        let v : Wrote (flat a.tree) toks toks' j = subst (λ (u : List ℕ). Wrote u toks toks' j) (read_part a.wrote) w in
-        let q : j ≡ k = v.many ∙ sym a.wrote.many in
+    pub kept_stands : (r' : Ring) {j : ℕ} → n ≤ 256 → Wrote (take k tree) r.toks r'.toks j → r'.tokens ≡ k
+        → r'.book ≡ booked r.book r.count (group_of n list) → r'.table ≡ set r.table r.count line → r'.count ≡ r.count + 1
+        → 384 ≤ length r.book → 96 ≤ length r.table
+        → RingStands n (next s line list (outcome n s list)) r'
+    kept_stands r' {j} l w t b v c all_words all_places =
+        let u : Wrote (flat a.tree) r.toks r'.toks j = subst (λ (u : List ℕ). Wrote u r.toks r'.toks j) (read_back a.wrote) w in
+        let q : j ≡ r'.tokens = u.many ∙ sym a.wrote.many ∙ sym t in
         rw is_kept
         (record {
           form = (join_some n (group_of n list) s.tree a.tree h.form a.is).form;
-          tokens = subst (λ (i : ℕ). take (i - 0) (drop 0 toks') ≡ flat a.tree) q (read_part v);
-          all_tokens = omega (arith, wrote_most v, q);
-          in_book = ap (λ (c : List ℕ). groups (lent_book c (count + 1))) b
-              ∙ groups-booked book count (group_of n list) (omega (arith, kept_few))
+          tokens = subst (λ (i : ℕ). take i r'.toks ≡ flat a.tree) q (read_back u);
+          all_tokens = omega (arith, wrote_most u, q);
+          in_book = ap₂ (λ (book : List ℕ) (i : ℕ). groups (lent_book book i)) b c
+              ∙ groups-booked r.book r.count (group_of n list) (omega (arith, kept_few))
               ∙ rw (h.in_book, group_held n list l passed);
-          in_table = table_more table count line (omega (arith, kept_few)) ∙ rw h.in_table;
-          counted = omega (arith, h.counted, length-append s.groups (elem list ∷ []));
-          few = omega (arith, kept_few);
+          in_table = ap₂ take c v ∙ table_more r.table r.count line (omega (arith, kept_few)) ∙ rw h.in_table;
+          counted = omega (arith, h.counted, c, length-append s.groups (elem list ∷ []));
+          few = omega (arith, kept_few, c);
         })

@@ -1,107 +1,77 @@
-// The ring of a ring file as its group lines join it, one after another, in lent tables.
+// The ring of a ring file as its group lines join it, one after another.
 #![tactic(auto)]
 
-ghost use Rattle.std.specs.Prelude.{List, ℕ, ◌+◌, ◌≤◌, ◌<◌, length};
-ghost use Rattle.file_read.specs.RingFile.{FileHolds};
+ghost use Rattle.std.specs.Prelude.{ℕ, ◌+◌, ◌≤◌, ◌<◌};
 ghost use Rattle.spec_listing.specs.Listing.{RingState, opened, outcome, next};
-ghost use Rattle.list_ring.specs.Stands.{RingStands, Line, StandsAt, Tables};
+ghost use Rattle.list_ring.specs.Stands.{RingStands, Line, StandsAt};
 
-use list_attempt::Tried;
+use file_read::RingFile;
 
-// The sizes of a ring in lent tables: how many tokens its tree has, and how many groups its book.
+// A ring: its tree in the first `tokens` of the tokens; its groups in the book, `count` of them, and the input line of each in the table.
 #[derive(Drop)]
 pub struct Ring {
+    pub toks: [u16; 512],
     pub tokens: usize,
+    pub book: [u64; 384],
+    pub table: [usize; 96],
     pub count: usize,
 }
 
-// Opens the ring of n leaves: writes its fresh tree, and has no group.
-fn fresh_ring(n: usize, toks: &mut [u16]) -> Ring
-    requires { (n ≤ 256) × (512 ≤ length toks.old) }
-    ensures { (book table : List ℕ) → RingStands n (opened n) toks.new result.tokens book table result.count }
-{
-    let m = tree_tokens::fresh(n, toks);
-    Ring {
-        tokens: m,
-        count: 0,
+impl Ring {
+    // The ring after the first `upto` group lines of the file.
+    pub fn replay(file: RingFile, upto: usize) -> Ring
+        requires { upto ≤ file.lines }
+        ensures { StandsAt file.entry.holds upto result }
+    {
+        let mut ring = Ring::fresh(file.names);
+        for l in 0..upto {
+            ring.join_line(file, l);
+        }
+        ring
     }
-}
 
-// Joins the group line with this number and these leaves to the ring in the tables. Returns the ring's sizes after it.
-pub fn advance(
-    n: usize,
-    line: usize,
-    list: &[u16],
-    ring: Ring,
-    toks: &mut [u16],
-    book: &mut [u64],
-    table: &mut [usize],
-) -> Ring
-    requires { (s : RingState) × (RingStands n s toks.old ring.tokens book.old table.old ring.count)
-        × (Line n list.now) × (Tables toks.old book.old table.old) }
-    ensures { (s : RingState) → RingStands n s toks.old ring.tokens book.old table.old ring.count
-        → RingStands n (next s line list.now (outcome n s list.now)) toks.new result.tokens book.new table.new result.count }
-{
-    let m = ring.tokens;
-    let count = ring.count;
-    let mut marks = [0u64; 4];
-    let mut tree = [0u16; 512];
-    let tried = list_attempt::attempt(&toks[0..m], n, count, list, &mut marks, &mut tree);
-    let Tried::Joined(k) = tried else {
-        return ring;
-    };
-    tree_tokens::copy(&tree[0..k], toks);
-    table_book::put(book, count, &marks);
-    table[count] = line;
-    Ring {
-        tokens: k,
-        count: count + 1,
+    // The ring of n leaves with no group.
+    fn fresh(n: usize) -> Ring
+        requires { n ≤ 256 }
+        ensures { RingStands n (opened n) result }
+    {
+        let mut toks = [0; 512];
+        let tokens = tree_tokens::fresh(n, &mut toks);
+        Ring {
+            toks,
+            tokens,
+            book: [0; 384],
+            table: [0; 96],
+            count: 0,
+        }
     }
-}
 
-// Joins group line l, from 0, of an accepted file to the ring in the tables. Returns the ring's sizes after it.
-fn join_line(
-    file: &[u8],
-    names: usize,
-    head: usize,
-    lines: usize,
-    l: usize,
-    ring: Ring,
-    toks: &mut [u16],
-    book: &mut [u64],
-    table: &mut [usize],
-) -> Ring
-    requires { (f : FileHolds file.now names head lines) × (l < lines) × (Tables toks.old book.old table.old)
-        × (StandsAt f l toks.old ring.tokens book.old table.old ring.count) }
-    ensures { (f : FileHolds file.now names head lines)
-        → StandsAt f l toks.old ring.tokens book.old table.old ring.count
-        → StandsAt f (l + 1) toks.new result.tokens book.new table.new result.count }
-{
-    let mut list = [0u16; 256];
-    let k = file_read::group_of(file, names, head, l, &mut list);
-    advance(names, l + 1, &list[0..k], ring, toks, book, table)
-}
-
-// Joins the first `upto` group lines of an accepted file to a fresh ring in the tables. Returns the ring's sizes after them.
-pub fn replay(
-    file: &[u8],
-    names: usize,
-    head: usize,
-    lines: usize,
-    upto: usize,
-    toks: &mut [u16],
-    book: &mut [u64],
-    table: &mut [usize],
-) -> Ring
-    requires { (FileHolds file.now names head lines) × (upto ≤ lines) × (Tables toks.old book.old table.old) }
-    ensures { (f : FileHolds file.now names head lines)
-        → StandsAt f upto toks.new result.tokens book.new table.new result.count }
-{
-    let mut ring = fresh_ring(names, toks);
-    let mut l = 0;
-    while l < upto {
-        ring = join_line(file, names, head, lines, l, ring, toks, book, table);
-        l += 1;
+    // Joins group line l, from 0, of the file to the ring.
+    fn join_line(&mut self, file: RingFile, l: usize)
+        requires { (l < file.lines) × (StandsAt file.holds l self.old) }
+        ensures { StandsAt file.entry.holds (l + 1) self.new }
+    {
+        let mut list = [0; 256];
+        let k = file.group(l, &mut list);
+        self.advance(file.names, l + 1, &list[..k]);
     }
-    ring
+
+    // Joins the group line with this number and these leaves to the ring of n leaves.
+    pub fn advance(&mut self, n: usize, line: usize, list: &[u16])
+        requires { (s : RingState) × (RingStands n s self.old) × (Line n list.now) }
+        ensures { (s : RingState) → RingStands n s self.old
+            → RingStands n (next s line list.now (outcome n s list.now)) self.new }
+    {
+        let mut marks = [0; 4];
+        let mut tree = [0; 512];
+        let toks = &self.toks[..self.tokens];
+        let Ok(k) = list_attempt::attempt(toks, n, self.count, list, &mut marks, &mut tree) else {
+            return;
+        };
+        tree_tokens::copy(&tree[..k], &mut self.toks);
+        self.tokens = k;
+        table_book::put(&mut self.book, self.count, &marks);
+        self.table[self.count] = line;
+        self.count += 1;
+    }
 }

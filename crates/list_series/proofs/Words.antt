@@ -1,12 +1,11 @@
 -- Words with one byte between, element by element.
 use mathlib.Core.Path.{◌≡◌, refl}
 use mathlib.Core.List.{List, [], ◌∷◌, ◌++◌, map, append_assoc}
-use Prim.Native.Nat.{ℕ, ◌≤◌, ◌<◌}
+use Prim.Native.Nat.{ℕ}
 use native.Mathlib.Omega.{arith}
 use lib.ListN.{length, get_or}
 use Rattle.spec_orders.specs.Lists.{All}
-use Rattle.spec_orders.proofs.ListLaws.{all_at, tail, tail_is}
-use Rattle.file_read.specs.RingFile.{Name, FileHolds}
+use Rattle.spec_orders.proofs.ListLaws.{tail, tail_is}
 use Rattle.spec_listing.specs.Listing.{between}
 
 module _ (c : ℕ) (g : ℕ → List ℕ) where
@@ -33,7 +32,3 @@ module _ (P : ℕ → Type 0) where
   pub all_tail : (l : List ℕ) → All P l → (length l ≡ 0 → ⊥) → All P (tail l)
   all_tail [] h k = absurd (k refl)
   all_tail (x ∷ l) h k = rw (tail_is x l) h.1
-
--- A name has at most 8 bytes.
-pub name-few : {x : List ℕ} {n h k : ℕ} (f : FileHolds x n h k) (i : ℕ) → i < n → length (get_or f.ns i []) ≤ 8
-name-few f i l = (all_at Name [] f.ns i f.rules.names.each (omega (arith, f.leaves))).few_bytes

@@ -4,9 +4,9 @@
 ghost use Rattle.std.specs.Prelude.{◌+◌, ◌*◌, ◌≤◌, length};
 ghost use Rattle.spec_orders.specs.Lists.{All};
 ghost use Rattle.list_bytes.specs.Appends.{Appends};
-ghost use Rattle.file_read.specs.RingFile.{FileHolds};
 ghost use Rattle.spec_listing.specs.Listing.{spaced_names, commas};
 
+use file_read::RingFile;
 use list_bytes::{put, put_number};
 
 // Appends the input lines of the groups with these numbers, joined by commas. `table` has the input line of each group.
@@ -28,27 +28,18 @@ pub fn put_conflicts(numbers: &[u16], table: &[usize], out: &mut [u8], at: usize
 }
 
 // Appends the names of the leaves, with one space between.
-pub fn put_names(
-    file: &[u8],
-    names: usize,
-    head: usize,
-    lines: usize,
-    order: &[u16],
-    out: &mut [u8],
-    at: usize,
-) -> usize
-    requires { (FileHolds file.now names head lines) × (All (λ b. (1 ≤ b) × (b ≤ names)) order.now) × (at + 9 * length order.now ≤ length out.old) }
-    ensures { (result ≤ at + 9 * length order.now) × ((f : FileHolds file.now names head lines)
-        → Appends (spaced_names f.ns order.now) at out.old out.new result) }
+pub fn put_names(file: RingFile, order: &[u16], out: &mut [u8], at: usize) -> usize
+    requires { (All (λ b. (1 ≤ b) × (b ≤ file.names)) order.now) × (at + 9 * length order.now ≤ length out.old) }
+    ensures { (result ≤ at + 9 * length order.now)
+        × (Appends (spaced_names file.entry.holds.ns order.now) at out.old out.new result) }
 {
     if order.len() == 0 {
         return at;
     }
-    let i = order[0] as usize - 1;
-    let a = put(file_read::name_of(file, i), out, at);
+    let a = put(file.name(order[0] as usize), out, at);
     if order.len() == 1 {
         return a;
     }
     let b = put(b" ", out, a);
-    put_names(file, names, head, lines, &order[1..], out, b)
+    put_names(file, &order[1..], out, b)
 }

@@ -1,11 +1,8 @@
 use mathlib.Core.Path.{subst}
-use Rattle.spec_orders.specs.Join.{join}
-use Rattle.mark_words.specs.Marks.{marked}
 use Rattle.table_book.specs.declared.Checked.TheVariants.{Fine}
 use Rattle.table_book.specs.Lists.{ListChecked}
-use Rattle.tree_update.specs.Update.{Answers}
 use Rattle.tree_update.proofs.Updates.{form_tokens}
-use Rattle.list_attempt.proofs.Laws.{list_refused, full_refused, none_joined, one-joined}
+use Rattle.list_attempt.proofs.Laws.{list_refused, full_refused, attempted}
 use borrow.Author.Rules.{rules}
 use Rattle.list_attempt.proofs.attempt.Goals as goal
 
@@ -20,14 +17,8 @@ returns-then-count-eq96 c =
 pub join-requires : goal.join-requires
 join-requires c = search (rules, form_tokens)
 
-pub returns-in_default-join : goal.returns-in_default-join
-returns-in_default-join c =
-    let fine : ListChecked c.args.n c.args.list.now c.check_list.new.marks Fine = (subst (ListChecked c.args.n c.args.list.now c.check_list.new.marks) c.in_default.is c.check_list.ensures) in
-    λ t e. none_joined t c.args.n c.args.count c.args.list.now fine.0 c.check_list.new.marks c.args.out.now c.join.new.out c.requires.0.few_leaves fine.1 c.if-count-eq96.false
-    (subst (Answers (join (marked c.check_list.new.marks) t) c.args.out.now c.join.new.out) c.in_default-join.is (c.join.ensures t e))
-
 pub returns : goal.returns
 returns c =
     let fine : ListChecked c.args.n c.args.list.now c.check_list.new.marks Fine = (subst (ListChecked c.args.n c.args.list.now c.check_list.new.marks) c.in_default.is c.check_list.ensures) in
-    λ t e. one-joined t c.args.n c.args.count c.args.list.now fine.0 c.check_list.new.marks c.args.out.now c.join.new.out c.in-Some.m c.requires.0.few_leaves fine.1 c.if-count-eq96.false
-    (subst (Answers (join (marked c.check_list.new.marks) t) c.args.out.now c.join.new.out) c.in-Some.is (c.join.ensures t e))
+    λ t e. rw c.ok_or.ensures.value
+    (attempted t c.args.n c.args.count c.args.list.now fine.0 c.check_list.new.marks c.args.out.now c.join.new.out c.join.result c.requires.0.few_leaves fine.1 c.if-count-eq96.false (c.join.ensures t e))
