@@ -15,10 +15,8 @@ fn add(words: &mut [u64], more: &[u64])
     requires { length words.old ≡ length more.now }
     ensures { words.new ≡ words_of (length words.old) (either (marked words.old) (marked more.now)) }
 {
-    let mut i = 0;
-    while i < words.len() {
-        words[i] = words[i] | more[i];
-        i += 1;
+    for (i, w) in words.iter_mut().enumerate() {
+        *w |= more[i];
     }
 }
 
@@ -28,12 +26,10 @@ fn add_book(words: &mut [u64], book: &[u64])
     ensures { (Below (marked words.old) (marked words.new))
         × ((j : ℕ) → 1 ≤ j → j ≤ 96 → Below (group_numbered book.now j) (marked words.new)) }
 {
-    let mut k = 0;
-    while k < 96 {
+    for k in 0..96 {
         let at = 4 * k;
         let end = at + 4;
         add(words, &book[at..end]);
-        k += 1;
     }
 }
 
@@ -42,14 +38,12 @@ fn first_unmarked(words: &[u64], n: usize) -> usize
     requires { n ≤ 256 }
     ensures { FirstUnmarked (marked words.now) n result }
 {
-    let mut b = 1;
-    while b <= n {
+    for b in 1..n + 1 {
         if !mark_words::test(words, b as u16) {
             return b;
         }
-        b += 1;
     }
-    b
+    n + 1
 }
 
 // Four words mark the new group. Marks in them the leaves to go by: those of the book's groups too, and the first leaf in none of the groups,
@@ -69,13 +63,11 @@ fn leaves(words: &[u64], n: usize, out: &mut [u16]) -> usize
     ensures { Wrote (flat (leaf_items (those_of (marked words.now) (others n)))) out.old out.new result }
 {
     let mut k = 0;
-    let mut b = 2;
-    while b <= n {
+    for b in 2..n + 1 {
         if mark_words::test(words, b as u16) {
             out[k] = (16 * b) as u16;
             k += 1;
         }
-        b += 1;
     }
     k
 }

@@ -87,8 +87,9 @@ pub fn replace(old: &[u16], new: &[u16], table: &mut [u16])
     ensures { (t : Forest) → new.now ≡ flat t
         → table.new ≡ over (table_of t) table.old }
 {
-    if !tree_tokens::equal(old, new) {
-        let k = write_tree(new, table);
-        erase_rows(65792 - k, &mut table[k..]);
+    if old == new {
+        return;
     }
+    let k = write_tree(new, table);
+    erase_rows(65792 - k, &mut table[k..]);
 }

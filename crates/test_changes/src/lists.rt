@@ -119,7 +119,7 @@ fn is_list(line: &[u8], at: usize, filled: usize, table: &[u16]) -> bool {
     let _ = fields::list(line, at, &mut want);
     let k = least(filled, 256);
     let end = least(k, table.len());
-    if !tree_tokens::equal(&table[0..end], &want[0..k]) {
+    if table[0..end] != want[0..k] {
         return false;
     }
     test_tables::all_are(&table[end..], 7)

@@ -71,7 +71,7 @@ fn is_joined(line: &[u8], at: usize, nodes: &[u16], book: &[u64]) -> bool {
         return false;
     }
     let past = least(65792, nodes.len());
-    if !tree_tokens::equal(&nodes[past..], &old[65792..]) {
+    if nodes[past..] != old[65792..] {
         return false;
     }
     add_group(line, want.next, lent.count, &mut groups);
@@ -89,7 +89,7 @@ fn is_kept(line: &[u8], nodes: &[u16], book: &[u64]) -> bool {
     let mut old = [0u16; 66049];
     let mut groups = [0u64; 388];
     let _ = rings::ring(line, &mut old, &mut groups);
-    if !tree_tokens::equal(nodes, &old) {
+    if nodes != old.as_slice() {
         return false;
     }
     test_tables::same_words(book, &groups)

@@ -19,14 +19,11 @@ fn mark_leaves(toks: &[u16], words: &mut [u64])
     ensures { (j : Judged) → toks.now ≡ encode j
         → words.new ≡ words_of (length words.old) (either (elem (frontier (tree j))) (marked words.old)) }
 {
-    let mut i = 0;
-    while i < toks.len() {
-        let t = toks[i];
-        i += 1;
-        if t / 8 % 2 != 0 {
+    for t in toks {
+        if *t / 8 % 2 != 0 {
             continue;
         }
-        mark_words::set(words, t / 16);
+        mark_words::set(words, *t / 16);
     }
 }
 
@@ -103,10 +100,8 @@ fn join_groups(toks: &[u16], n: usize, into: &mut [u16], many: usize) -> Option<
         → Grows (joins (map elem (characteristic (tree j))) t) into.new result }
 {
     let mut k = many;
-    let mut i = 0;
-    while i < toks.len() {
+    for i in 0..toks.len() {
         k = join_node(&toks[i..], n, into, k)?;
-        i += 1;
     }
     Some(k)
 }

@@ -1,15 +1,16 @@
 -- Where a leaf stands among the tokens.
 use mathlib.Core.Path.{◌≡◌, refl, sym, ap, ◌∙◌}
 use mathlib.Core.Logic.{◌⊎◌, inl, inr}
-use mathlib.Core.Bool.{Bool, true, false}
+use mathlib.Core.Bool.{Bool, true, false, not, cond}
 use mathlib.Core.List.{List, [], ◌∷◌, ◌++◌}
 use Prim.Native.Nat.{ℕ, suc, ◌+◌, ◌*◌, ◌/◌, ◌%◌, ◌≤◌, ◌<◌}
 use native.Mathlib.Omega.{arith}
 use borrow.Author.Tests.{eqb-true, eqb-false, eq-eqb, ne_eqb, ltb-true, ltb-false}
 use lib.Dec.{eqb, ltb}
-use native.Mathlib.Numerals.{add-one}
-use lib.ListN.{length, drop, get_or, length-append, drop_of_length-le}
-use lib.Seq.{drop-cons}
+use lib.ListN.{length, length-append}
+use Rattle.std.specs.Prelude.{Some, None}
+use Rattle.std.specs.Option.{unwrap_or}
+use Rattle.std.specs.List.{prefix_len, position}
 use Rattle.spec_orders.specs.Lists.{In}
 use Rattle.spec_orders.specs.Tree.{Kind, Forest, nil, leaf, node, frontier}
 use Rattle.spec_orders.proofs.Members.{in_left, in_right, in_append}
@@ -53,15 +54,23 @@ module _ (r : ℕ) where
       go (inl e) h = omega (arith, index_hit t l e)
       go (inr e) h = omega (arith, index_miss t l e)
 
-  -- At an index.
-  pub index_here : (l : List ℕ) (i : ℕ) → i < length l → get_or l i 0 ≡ 16 * r → index_of r (drop i l) ≡ 0
-  index_here l i h e = rw (drop-cons l i 0 h) (index_hit (get_or l i 0) (drop (suc i) l) e)
+  -- The place of the first such token, or how many there are.
+  index_passed : (l : List ℕ) → prefix_len (λ t. not (eqb t (16 * r))) l ≡ index_of r l
+  unfolding index_of
+  index_passed [] = refl
+  index_passed (t ∷ l) = go (eqb t (16 * r)) (index_passed l)
+    where
+      go : (b : Bool) → prefix_len (λ x. not (eqb x (16 * r))) l ≡ index_of r l
+          → cond (not b) (1 + prefix_len (λ x. not (eqb x (16 * r))) l) 0 ≡ cond b 0 (suc (index_of r l))
+      go true e = refl
+      go false e = omega (arith, e)
 
-  pub index_next : (l : List ℕ) (i : ℕ) → i < length l → (get_or l i 0 ≡ 16 * r → ⊥) → index_of r (drop i l) ≡ suc (index_of r (drop (i + 1) l))
-  index_next l i h e = rw (drop-cons l i 0 h, add-one) (index_miss (get_or l i 0) (drop (suc i) l) e)
-
-  pub index_end : (l : List ℕ) (i : ℕ) → length l ≤ i → index_of r (drop i l) ≡ 0
-  index_end l i h = rw (drop_of_length-le l {i = i} h) index_none
+  pub index_position : (l : List ℕ) → unwrap_or (position (λ t. eqb t (16 * r)) l) (length l) ≡ index_of r l
+  index_position l = rw (index_passed l) (go (ltb (index_of r l) (length l)) refl)
+    where
+      go : (b : Bool) → ltb (index_of r l) (length l) ≡ b → unwrap_or (cond b (Some (index_of r l)) None) (length l) ≡ index_of r l
+      go true e = refl
+      go false e = omega (arith, index_le l, ltb-false (index_of r l) (length l) e)
 
   -- In the first list, or after it.
   pub index_in : (l m : List ℕ) → index_of r l < length l → index_of r (l ++ m) ≡ index_of r l

@@ -2,7 +2,7 @@
 // left behind have become lies in the middle of a buffer, and the other items of the next node are laid round it.
 #![tactic(auto)]
 
-ghost use Rattle.std.specs.Prelude.{◌≡◌, ℕ, ◌+◌, ◌-◌, ◌<◌, ◌≤◌, length};
+ghost use Rattle.std.specs.Prelude.{◌≡◌, ◌==◌, position, ℕ, ◌+◌, ◌-◌, ◌<◌, ◌≤◌, length};
 ghost use Rattle.spec_orders.specs.Tree.{Kind, Forest, Item, node_item};
 ghost use Rattle.spec_orders.specs.Reduce.{one};
 ghost use Rattle.spec_orders.specs.SeenFrom.{place, sees, seen_from};
@@ -13,20 +13,19 @@ ghost use Rattle.tree_seen.specs.Seen.{index_of, Held, NodeAt, ItemTokens, HasLe
 use tree_laid::Laid;
 use tree_tokens::ItemShape;
 
+// The index of a token, where it is one.
+fn place_of(toks: &[u16], token: u16) -> Option<usize>
+    ensures { result ≡ position (λ t. t == token) toks.now }
+{
+    toks.iter().position(|t| *t == token)
+}
+
 // The index of the leaf b; the length where it is none.
 fn index_of(toks: &[u16], b: u16) -> usize
     requires { b ≤ 4095 }
     ensures { result ≡ index_of b toks.now }
 {
-    let t = 16 * b;
-    let mut i = 0;
-    while i < toks.len() {
-        if toks[i] == t {
-            return i;
-        }
-        i += 1;
-    }
-    i
+    place_of(toks, 16 * b).unwrap_or(toks.len())
 }
 
 // How many tokens stand before the item that holds the token p.

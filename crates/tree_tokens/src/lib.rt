@@ -4,7 +4,7 @@
 
 ghost use Rattle.std.specs.Prelude.{◌≡◌, ◌<◌, ◌≤◌, length};
 ghost use Rattle.std.proofs.Math.Option.{some};
-ghost use Rattle.spec_orders.specs.Lists.{same, numbers_from};
+ghost use Rattle.spec_orders.specs.Lists.{numbers_from};
 ghost use Rattle.spec_orders.specs.Tree.{rev, items};
 ghost use Rattle.spec_orders.specs.Form.{first};
 ghost use Rattle.spec_orders.specs.Join.{fresh, leaf_items};
@@ -98,16 +98,13 @@ pub fn first_leaf(toks: &[u16]) -> u16
     requires { Tokens toks.now }
     ensures { (j : Judged) → toks.now ≡ encode j → result ≡ first (tree j) }
 {
-    let mut i = 0;
-    while i < toks.len() {
-        let t = toks[i];
-        if t / 8 % 2 == 0 {
-            return t / 16;
+    for t in toks {
+        if *t / 8 % 2 == 0 {
+            return *t / 16;
         }
-        if t / 32 == 0 {
+        if *t / 32 == 0 {
             return 0;
         }
-        i += 1;
     }
     0
 }
@@ -153,12 +150,9 @@ pub fn copy(src: &[u16], out: &mut [u16]) -> usize
     requires { length src.now ≤ length out.old }
     ensures { Wrote src.now out.old out.new result }
 {
-    let mut i = 0;
-    while i < src.len() {
-        out[i] = src[i];
-        i += 1;
-    }
-    i
+    let n = src.len();
+    out[..n].copy_from_slice(src);
+    n
 }
 
 // Writes the tokens without their states.
@@ -167,13 +161,10 @@ pub fn strip(toks: &[u16], out: &mut [u16]) -> usize
     ensures { (result ≡ length toks.now)
         × ((j : Judged) → toks.now ≡ encode j → Wrote (flat (tree j)) out.old out.new result) }
 {
-    let mut i = 0;
-    while i < toks.len() {
-        let t = toks[i];
-        out[i] = t - t % 8;
-        i += 1;
+    for (i, t) in toks.iter().enumerate() {
+        out[i] = *t - *t % 8;
     }
-    i
+    toks.len()
 }
 
 // Writes the items in the other direction, each as it was.
@@ -189,33 +180,15 @@ pub fn reverse(toks: &[u16], out: &mut [u16]) -> usize
     k + copy(first(toks), &mut out[k..])
 }
 
-// Whether the two hold the same tokens.
-pub fn equal(a: &[u16], b: &[u16]) -> bool
-    ensures { result ≡ same a.now b.now }
-{
-    if a.len() != b.len() {
-        return false;
-    }
-    let mut differ = 0;
-    let mut i = 0;
-    while i < a.len() {
-        differ = differ | (a[i] ^ b[i]);
-        i += 1;
-    }
-    differ == 0
-}
-
 // Writes the leaves 2, 3, .. as items, k of them.
 fn leaf_items(k: usize, out: &mut [u16]) -> usize
     requires { (k ≤ 4000) × (k ≤ length out.old) }
     ensures { Wrote (flat (leaf_items (numbers_from 2 k))) out.old out.new result }
 {
-    let mut i = 0;
-    while i < k {
+    for i in 0..k {
         out[i] = (16 * (i + 2)) as u16;
-        i += 1;
     }
-    i
+    k
 }
 
 // Writes the fresh tree of n leaves: one P-node with the leaves 2 to n; for n = 2 leaf 2 alone.

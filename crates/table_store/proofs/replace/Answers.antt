@@ -1,6 +1,7 @@
 use mathlib.Core.Path.{sym, ◌∙◌}
 use native.Mathlib.Omega.{arith}
-use Rattle.spec_orders.proofs.FormTests.{same_decides}
+use Rattle.std.proofs.lemmas.Bool.Decides.{Decides-eqb}
+use Rattle.std.proofs.lemmas.Slice.Eq.{slice_eq-Decides}
 use Rattle.tree_tokens.proofs.Sequences.{flat_injective}
 use Rattle.spec_calls.proofs.NodeTables.{over-same}
 use Rattle.table_store.proofs.Standing.{held_there}
@@ -19,12 +20,12 @@ erase_rows-requires c =
     let f = p.4 in
     old_rows f (c.write_tree-k.ensures f.shown f.is) (held_there p.1 f.few_leaves p.2)
 
-pub returns-then-not-equal : goal.returns-then-not-equal
-returns-then-not-equal c = λ t e. rows-then_zeros t (c.write_tree-k.ensures t e) c.erase_rows.ensures
+pub returns : goal.returns
+returns c = λ t e. rows-then_zeros t (c.write_tree-k.ensures t e) c.erase_rows.ensures
 
-pub returns-else-not-equal : goal.returns-else-not-equal
-returns-else-not-equal c =
+pub returns-then-eq : goal.returns-then-eq
+returns-then-eq c =
     λ t e.
     let p = c.requires in
-    let same = (same_decides c.args.old.now c.args.new.now).0 (sym c.equal.ensures ∙ c.if-not-equal.false) in
+    let same = (slice_eq-Decides Decides-eqb _ _ _ c.eq.ensures).0 c.if-eq.true in
     rw (flat_injective t p.1 (sym e ∙ sym same ∙ p.3)) (sym (over-same p.0 p.1 c.args.table.now p.4.few_leaves p.2))

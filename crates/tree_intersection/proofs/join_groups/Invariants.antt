@@ -1,6 +1,3 @@
-use mathlib.Core.Path.{◌≡◌}
-use Prim.Native.Nat.{◌-◌, ◌≤◌}
-use lib.ListN.{length}
 use Rattle.spec_intersection.specs.Intersection.{characteristic}
 use Rattle.tree_tokens.proofs.Steps.{Left}
 use Rattle.tree_intersection.specs.Intersect.{Growing}
@@ -8,7 +5,4 @@ use Rattle.tree_intersection.proofs.Growth.{Joining}
 use Rattle.tree_intersection.proofs.join_groups.Given as goal
 
 abbrev pub invariant-loop-i : goal.invariant-loop-i
-invariant-loop-i l = (l.i ≤ length l.toks) × (length l.into ≡ length l.initial.into) × Growing l.n l.into l.k × Left l.toks l.i (Joining characteristic l.initial.into l.many l.into l.k)
-
-abbrev pub decreases-loop-i : goal.decreases-loop-i
-decreases-loop-i l = length l.toks - l.i
+invariant-loop-i l = Growing l.n l.into l.k × Left l.toks l.i (Joining characteristic l.initial.into l.many l.into l.k)

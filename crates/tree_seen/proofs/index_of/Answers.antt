@@ -1,12 +1,7 @@
-use Rattle.tree_seen.proofs.Index.{index_here, index_next, index_end}
-use native.Mathlib.Omega.{arith}
+use Rattle.std.proofs.Common.{◌∙◌, ap, length}
+use Rattle.std.specs.Option.{unwrap_or}
+use Rattle.tree_seen.proofs.Index.{index_position}
 use Rattle.tree_seen.proofs.index_of.Goals as goal
 
-pub returns-then-toks-i : goal.returns-then-toks-i
-returns-then-toks-i c = omega (arith, index_here c.args.b c.args.toks.now c.loop-i.i c.loop-i-test.true c.if-toks-i.true)
-
-pub loop-i-preserved : goal.loop-i-preserved
-loop-i-preserved c = (omega arith, omega (arith, index_next c.args.b c.args.toks.now c.loop-i.i c.loop-i-test.true c.if-toks-i.false))
-
 pub returns : goal.returns
-returns c = omega (arith, index_end c.args.b c.args.toks.now c.loop-i.i (omega arith))
+returns c = c.unwrap_or.ensures ∙ ap (λ o. unwrap_or o (length c.args.toks.now)) c.place_of.ensures ∙ index_position c.args.b c.args.toks.now

@@ -1,13 +1,8 @@
 use mathlib.Core.Path.{◌≡◌}
-use Prim.Native.Nat.{◌-◌, ◌≤◌}
-use lib.ListN.{length}
 use Rattle.spec_orders.specs.Form.{first}
 use Rattle.tree_tokens.specs.Tokens.{tree}
 use Rattle.tree_tokens.proofs.Steps.{Left}
 use Rattle.tree_tokens.proofs.first_leaf.Given as goal
 
-abbrev pub invariant-loop-i : goal.invariant-loop-i
-invariant-loop-i l = (l.i ≤ length l.toks) × Left l.toks l.i (λ j k. first (tree j) ≡ first (tree k))
-
-abbrev pub decreases-loop-i : goal.decreases-loop-i
-decreases-loop-i l = length l.toks - l.i
+abbrev pub invariant-loop-t : goal.invariant-loop-t
+invariant-loop-t l = Left l.toks l.t-index (λ j k. first (tree j) ≡ first (tree k))
