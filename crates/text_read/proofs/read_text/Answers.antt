@@ -1,4 +1,4 @@
-use Rattle.std.proofs.Common.{arith, Some, None}
+use Rattle.std.proofs.Common.{Some, None}
 use Rattle.std.proofs.lemmas.Result.{err_from_is_err_and}
 use Rattle.spec_orders.specs.TreeText.{no_shape}
 use Rattle.tree_tokens.proofs.Writes.{read_back}
@@ -15,9 +15,6 @@ broken-requires c = spelled_tokens c.in_ok-k.ensures
 
 pub returns-in-Some : goal.returns-in-Some
 returns-in-Some c = ruled_by c.in_ok-k.ensures (Some _) c.in-Some.ensures
-
-pub relabel-requires : goal.relabel-requires
-relabel-requires c = let t = spelled_tokens c.in_ok-k.ensures in (t.0, omega (arith, t.1, c.requires.2))
 
 pub returns : goal.returns
 returns c = let s = c.in_ok-k.ensures in (_, ruled_by s None c.in_default.ensures, c.relabel.ensures s.shown (read_back s.wrote))
