@@ -2,7 +2,7 @@
 use mathlib.Core.Path.{◌≡◌, refl, sym, ap, ◌∙◌, subst}
 use Rattle.std.specs.Prelude.{Some, None, EachIndex}
 use mathlib.Core.List.{List, ◌++◌}
-use Prim.Native.Nat.{ℕ, zero, suc, ◌+◌, ◌-◌, ◌*◌, ◌≤◌, ◌<◌}
+use Prim.Native.Nat.{ℕ, suc, ◌+◌, ◌-◌, ◌*◌, ◌≤◌, ◌<◌}
 use native.Mathlib.Omega.{arith}
 use lib.ListN.{length, get_or, take, drop, set, replicate, length-set, length-drop, take-append-drop}
 use lib.Seq.{take-append_seam, drop_at, take-set-le, drop-set-add, get_or-set_same, get_or-set_other, length-take-le}
@@ -25,20 +25,12 @@ use Rattle.table_reading.proofs.Same.{reads_same}
 use Rattle.table_sweep.proofs.Zeros.{zeros_are, are_zeros}
 use Rattle.table_sweep.proofs.Keeping.{labels_same, roots_same}
 
-pub kind_range : (k : Kind) → (1 ≤ kind_number k) × (kind_number k ≤ 2)
-kind_range P = (omega arith, omega arith)
-kind_range C = (omega arith, omega arith)
-
--- A node has more items than its kind's number.
-pub kind_fewest : (k : Kind) → fewest k ≡ suc (kind_number k)
-kind_fewest P = refl
-kind_fewest C = refl
-
-pub kind_from : (kind : ℕ) → (kind ≡ 0 → ⊥) → kind ≤ 2 → (k : Kind) × (kind ≡ kind_number k)
-kind_from zero h l = absurd (h refl)
-kind_from (suc zero) h l = (P, refl)
-kind_from (suc (suc zero)) h l = (C, refl)
-kind_from (suc (suc (suc m))) h l = absurd (omega arith)
+-- A kind is known by its number.
+pub same_kind : (k j : Kind) → kind_number k ≡ kind_number j → k ≡ j
+same_kind P P e = refl
+same_kind C C e = refl
+same_kind P C e = absurd (omega arith)
+same_kind C P e = absurd (omega arith)
 
 -- The places of a node's entries.
 module _ (places vs : List ℕ) (count : ℕ) (e : count ≡ length vs) (p : places ≡ padded 255 vs) where
@@ -91,7 +83,7 @@ node_inside S {new} {x} {f} k i r v h e q m n l =
 
 module _ (n : ℕ) (S : Restriction) (r kind count : ℕ) (places : List ℕ) (g : Forest) (ls new : List ℕ) where
   pub node_good : (a : Row) (w : ℕ) (k : Kind) → kind ≡ kind_number k → RowSmall r (Some a) → RowSays n S k r g ls (take count places) new (Some a) → a.first < a.last
-      → EachIndex (take (length places - count) (drop count places)) (λ j. get_or (take (length places - count) (drop count places)) j 0 ≡ 0) → kind < count → count ≤ 255 → length places ≡ 255 → r < 256
+      → EachIndex (take (length places - count) (drop count places)) (λ j. get_or (take (length places - count) (drop count places)) j 0 ≡ 0) → fewest k ≤ count → count ≤ 255 → length places ≡ 255 → r < 256
       → ((p : Run) → a.run ≡ code p → w ≡ number (verdict p)) → NodeIs n S r kind count places g ls (set new (8 + r) (a.first + 512 * ((a.next - r) + 512 * w)))
   unfolding packed
   node_good a w k e small o rise none enough most long low told =
@@ -111,7 +103,7 @@ module _ (n : ℕ) (S : Restriction) (r kind count : ℕ) (places : List ℕ) (g
         kind_is = e;
         count_is = sym many;
         places_are = sym (take-append-drop count places) ∙ ap (λ (y : List ℕ). vs ++ y) (zeros ∙ ap (λ (y : ℕ). replicate (255 - y) 0) (sym many));
-        enough = omega (arith, kind_fewest k);
+        enough = omega arith;
         most = omega arith;
         reads = o.reads;
         rises = omega (arith, o.its_first, o.its_last);

@@ -3,7 +3,7 @@ use Rattle.std.specs.Prelude.{◌≡◌, ◌≢◌, ◌⊎◌, Option, Some, Non
 use Rattle.std.proofs.Math.Option.{none, some}
 use Rattle.spec_orders.specs.Lists.{elem}
 use Rattle.spec_orders.specs.CircularOrder.{Restriction}
-use Rattle.spec_orders.specs.Tree.{Kind, Forest, nil, leaf, node}
+use Rattle.spec_orders.specs.Tree.{Kind, P, C, Forest, nil, leaf, node}
 use Rattle.spec_orders.specs.Form.{first, fewest, nodes}
 use Rattle.spec_orders.specs.Reduce.{reduce}
 use Rattle.mark_words.specs.Marks.{marked, words_of}
@@ -13,6 +13,8 @@ use Rattle.tree_tokens.specs.Tokens.{number}
 use Rattle.tree_judge.specs.Judge.{leaf_state, node_state, states, judge}
 use Rattle.tree_judge.specs.Automaton.{code}
 use Rattle.table_sweep.specs.declared.Item.{Item}
+use Rattle.table_sweep.specs.declared.NodeKind.{NodeKind}
+use Rattle.table_sweep.specs.declared.NodeKind.TheVariants as kinds
 use Rattle.table_sweep.specs.declared.Row.{Row}
 use Rattle.table_sweep.specs.declared.Verdict.{Verdict}
 use Rattle.table_sweep.specs.declared.Verdict.TheVariants.{NoTree, Impossible, Possible}
@@ -61,6 +63,15 @@ pub record Inside (S : Restriction) (work : List ℕ) (x : ℕ) (g : Forest) (ls
 -- What is kept of the records stays.
 abbrev pub SameRecords : List ℕ → List ℕ → Type 0
 SameRecords old new = (j : ℕ) → 8 ≤ j → get_or new j 0 ≡ get_or old j 0
+
+-- The kind of a node in the tree; what the number of a record's kind says.
+abbrev pub tree_kind : NodeKind → Kind
+tree_kind kinds.P = P
+tree_kind kinds.C = C
+
+abbrev pub KindSays : ℕ → Option NodeKind → Type 0
+KindSays m (Some k) = m ≡ kind_number (tree_kind k)
+KindSays m None = (k : Kind) → m ≡ kind_number k → ⊥
 
 -- An item's numbers are small, whatever `work` holds.
 abbrev pub Small : Option Item → Type 0

@@ -9,13 +9,14 @@
 
 ghost use Rattle.std.specs.Prelude.{◌≡◌, ◌↔◌, not, IsTrue, EachIndex, List, ◌∷◌, ℕ, suc, ◌+◌, ◌≤◌, ◌<◌, length, slice_index};
 ghost use Rattle.spec_orders.specs.CircularOrder.{Restriction};
-ghost use Rattle.spec_orders.specs.Tree.{Kind, Forest};
-ghost use Rattle.spec_calls.specs.NodeTable.{kind_number, tree_in};
+ghost use Rattle.spec_orders.specs.Tree.{Forest};
+ghost use Rattle.spec_orders.specs.Form.{fewest};
+ghost use Rattle.spec_calls.specs.NodeTable.{tree_in};
 ghost use Rattle.spec_calls.specs.Calls.{is_none};
 ghost use Rattle.tree_judge.specs.Automaton.{start, code};
 ghost use Rattle.table_reading.specs.Reading.{least, head, row_at};
 ghost use Rattle.mark_words.specs.Marks.{marked};
-ghost use Rattle.table_sweep.specs.Kept.{Inside, Small, SameRecords, LeafSays, RootSays, EntrySays, RowSays, RowSmall, NodeSays, Finished, Swept, Started, Told};
+ghost use Rattle.table_sweep.specs.Kept.{tree_kind, KindSays, Inside, Small, SameRecords, LeafSays, RootSays, EntrySays, RowSays, RowSmall, NodeSays, Finished, Swept, Started, Told};
 
 // What an item comes to: its first leaf, how many records it takes, and its state.
 #[derive(Clone, Copy)]
@@ -76,24 +77,52 @@ fn read_entry(v: u16, next: usize, n: usize, work: &mut [u64]) -> Option<Item>
     read_root(next, work)
 }
 
-// What the first leaf of the next item of a node must be above: `last`, that of the item before it, in a P-node.
-fn least(kind: u16, last: u16) -> u16
-    ensures { (k : Kind) → kind ≡ kind_number k → result ≡ least k last }
+// The kind of a node.
+#[derive(Clone, Copy)]
+enum NodeKind {
+    P,
+    C,
+}
+
+// The kind that a record tells by this number; None where it tells none.
+fn kind_of(number: u16) -> Option<NodeKind>
+    ensures { KindSays number result }
 {
-    if kind == 1 {
-        return last;
+    match number {
+        1 => Some(NodeKind::P),
+        2 => Some(NodeKind::C),
+        _ => None,
     }
-    0
+}
+
+// How many items a node has at least.
+fn fewest(kind: NodeKind) -> u16
+    ensures { result ≡ fewest (tree_kind kind) }
+{
+    match kind {
+        NodeKind::P => 2,
+        NodeKind::C => 3,
+    }
+}
+
+// What the first leaf of the next item of a node must be above: `last`, that of the item before it, in a P-node.
+fn least(kind: NodeKind, last: u16) -> u16
+    ensures { result ≡ least (tree_kind kind) last }
+{
+    match kind {
+        NodeKind::P => last,
+        NodeKind::C => 0,
+    }
 }
 
 // Where the automaton starts on the items of a node.
-fn start(kind: u16) -> u8
-    ensures { (result < 17) × ((k : Kind) → kind ≡ kind_number k → result ≡ code (start k)) }
+fn start(kind: NodeKind) -> u8
+    ensures { (result < 17) × (result ≡ code (start (tree_kind kind))) }
 {
-    if kind == 1 {
-        return 0;
+    match kind {
+        NodeKind::P => 0,
+        NodeKind::C => 8,
     }
-    8
 }
 
 // What a node's items come to: the first leaves of the first and the last item, the record after them, and where they take the automaton.
@@ -106,10 +135,10 @@ struct Row {
 }
 
 // What the items in these places come to, of a node in record r; None where one of them can't stand there.
-fn read_entries(kind: u16, places: &[u16], r: usize, n: usize, work: &mut [u64]) -> Option<Row>
+fn read_entries(kind: NodeKind, places: &[u16], r: usize, n: usize, work: &mut [u64]) -> Option<Row>
     requires { (r < 256) × (length places.now ≤ 255) × (length work.old ≡ 265) }
-    ensures { (RowSmall r result) × ((S : Restriction) (k : Kind) (g : Forest) (ls : List ℕ) → kind ≡ kind_number k
-        → Inside S work.old (suc r) g ls → RowSays n S k r g ls places.now work.new result) }
+    ensures { (RowSmall r result) × ((S : Restriction) (g : Forest) (ls : List ℕ) → Inside S work.old (suc r) g ls
+        → RowSays n S (tree_kind kind) r g ls places.now work.new result) }
 {
     let moves = tree_judge::MOVES;
     let mut first = 0;
@@ -164,11 +193,8 @@ fn read_node(
     ensures { (S : Restriction) (g : Forest) (ls : List ℕ) → Inside S work.old (suc r) g ls
         → NodeSays n S r kind count places.now g ls work.new result }
 {
-    if kind == 0 || kind > 2 {
-        return None;
-    }
-    // A P-node (1) has two items or more, a C-node (2) three.
-    if count <= kind || count > 255 {
+    let kind = kind_of(kind)?;
+    if count < fewest(kind) || count > 255 {
         return None;
     }
     let k = count as usize;

@@ -1,9 +1,12 @@
+use mathlib.Core.Path.{refl}
 use native.Mathlib.Omega.{arith}
-use Rattle.table_sweep.proofs.Small.{start_p, start_c}
+use Rattle.tree_judge.specs.Automaton.{code}
 use Rattle.table_sweep.proofs.start.Goals as goal
 
-pub returns-then-kind-eq1 : goal.returns-then-kind-eq1
-returns-then-kind-eq1 c = (omega arith, λ k e. start_p k _ c.if-kind-eq1.true e)
+pub returns-in-P : goal.returns-in-P
+unfolding code
+returns-in-P c = rw c.in-P.is (omega arith, refl)
 
-pub returns : goal.returns
-returns c = (omega arith, λ k e. start_c k _ c.if-kind-eq1.false e)
+pub returns-in-C : goal.returns-in-C
+unfolding code
+returns-in-C c = rw c.in-C.is (omega arith, refl)
