@@ -1,7 +1,9 @@
 -- Where the words of a first line stand.
 use mathlib.Core.Path.{◌≡◌, refl, sym, ◌∙◌, ap, ap₂}
-use mathlib.Core.Logic.{◌⊎◌, inl, inr}
-use mathlib.Core.Bool.{Bool, true, false, cond}
+use mathlib.Core.Bool.{Bool, true, false, cond, not, ◌||◌}
+use Rattle.std.specs.Prelude.{◌==◌, nat_lt, Some, None, position, unwrap_or}
+use Rattle.std.specs.List.{position_or_len}
+use Rattle.std.proofs.lemmas.List.Sums.{prefix_len-le-length}
 use mathlib.Core.List.{List, [], ◌∷◌}
 use Prim.Native.Nat.{ℕ, zero, suc, ◌+◌, ◌-◌, ◌≤◌, ◌<◌}
 use native.Mathlib.Omega.{arith}
@@ -15,30 +17,26 @@ use Rattle.file_syntax.specs.RingFile.{place_of, in_front, words_in, name_in, na
 use Rattle.file_syntax.specs.Words.{word_end, place_in}
 use Rattle.file_syntax.proofs.FirstLine.{some_word, at_word, name_part}
 
-end_cons : (b : ℕ) (x : List ℕ) → (b ≡ 32 → ⊥) → (b ≡ 10 → ⊥) → word_end (b ∷ x) ≡ 1 + word_end x
-end_cons b x n m = ap (λ c. cond c 0 (cond (eqb b 10) 0 (1 + word_end x))) (ne_eqb b 32 n) ∙ ap (λ c. cond c 0 (1 + word_end x)) (ne_eqb b 10 m)
+-- word_end, by the first byte that ends a word.
+abbrev pub ends : ℕ → Bool
+ends b = (b == 32) || (b == 10)
 
--- word_end, by a loop.
-pub end_on_loop : (x : List ℕ) (i : ℕ) → i < length x → (get_or x i 0 ≡ 32 → ⊥) → (get_or x i 0 ≡ 10 → ⊥) → word_end x ≡ i + word_end (drop i x)
-    → word_end x ≡ (i + 1) + word_end (drop (i + 1) x)
-end_on_loop x i h n m e =
-    let s : word_end (drop i x) ≡ 1 + word_end (drop (suc i) x) = ap word_end (drop-cons x i 0 h) ∙ end_cons (get_or x i 0) (drop (suc i) x) n m in
-    let t : word_end (drop (suc i) x) ≡ word_end (drop (i + 1) x) = ap (λ j. word_end (drop j x)) (sym (add-one i)) in
-    omega (arith, e, s, t)
-
-pub end_hit : (x : List ℕ) (i : ℕ) → i < length x → (get_or x i 0 ≡ 32) ⊎ (get_or x i 0 ≡ 10) → word_end x ≡ i + word_end (drop i x) → i ≡ word_end x
-end_hit x i h n e =
-    let s : word_end (drop i x) ≡ 0 = ap word_end (drop-cons x i 0 h) ∙ stop (get_or x i 0) (drop (suc i) x) n in
-    omega (arith, e, s)
+end_first : (x : List ℕ) → position_or_len ends x ≡ word_end x
+end_first [] = refl
+end_first (b ∷ x) = go (eqb b 32) (eqb b 10) (end_first x)
   where
-    stop : (b : ℕ) (z : List ℕ) → (b ≡ 32) ⊎ (b ≡ 10) → word_end (b ∷ z) ≡ 0
-    stop b z (inl q) = ap (λ k. word_end (k ∷ z)) q
-    stop b z (inr q) = ap (λ k. word_end (k ∷ z)) q
+    go : (c d : Bool) → position_or_len ends x ≡ word_end x
+        → cond (not (c || d)) (1 + position_or_len ends x) 0 ≡ cond c 0 (cond d 0 (1 + word_end x))
+    go true d e = refl
+    go false true e = refl
+    go false false e = ap (λ n. 1 + n) e
 
-pub end_out : (x : List ℕ) (i : ℕ) → length x ≤ i → word_end x ≡ i + word_end (drop i x) → i ≡ word_end x
-end_out x i h e =
-    let s : word_end (drop i x) ≡ 0 = ap word_end (drop_of_length-le x h) in
-    omega (arith, e, s)
+pub end_position : (x : List ℕ) → unwrap_or (position ends x) (length x) ≡ word_end x
+end_position x = go (nat_lt (position_or_len ends x) (length x)) refl ∙ end_first x
+  where
+    go : (c : Bool) → nat_lt (position_or_len ends x) (length x) ≡ c → unwrap_or (cond c (Some (position_or_len ends x)) None) (length x) ≡ position_or_len ends x
+    go true e = refl
+    go false e = omega (arith, ltb-false (position_or_len ends x) (length x) e, prefix_len-le-length (λ b. not (ends b)) x)
 
 -- place_in, by a loop: at the word, at the end of the line, and one byte on.
 pub place-first : (x : List ℕ) (k : ℕ) → k ≡ 0 → place_in x k ≡ 0

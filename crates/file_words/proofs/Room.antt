@@ -1,5 +1,6 @@
 -- Room for a name, and new names, as the code finds them.
 use mathlib.Core.Path.{◌≡◌, refl, sym, ◌∙◌, ap, ap₂}
+use mathlib.Core.Logic.{inl, inr}
 use mathlib.Core.Bool.{Bool, true, false, cond, not}
 use mathlib.Core.List.{List, [], ◌∷◌}
 use Prim.Native.Nat.{ℕ, ◌≤◌, ◌<◌}
@@ -7,13 +8,22 @@ use native.Mathlib.Omega.{arith}
 use lib.Dec.{eqb, ltb}
 use lib.ListN.{length}
 use borrow.Author.Tests.{eq-eqb, ne_eqb, lt-ltb, le-ltb}
-use Rattle.spec_orders.specs.Lists.{All, Distinct, those_of, begins_with}
+use Rattle.std.specs.Bool.{MatchBool}
+use Rattle.std.specs.Char.{IsAsciiAlphanumeric, IsNotAsciiAlphanumeric}
+use Rattle.spec_orders.specs.Lists.{All, Distinct, elem, those_of, begins_with}
 use Rattle.spec_orders.proofs.Members.{all_in, in_all}
-use Rattle.file_syntax.specs.RingFile.{NameByte, Name}
+use Rattle.file_syntax.specs.RingFile.{alphabet, NameByte, Name}
 use Rattle.file_syntax.specs.Words.{Word, is_among}
 use Rattle.file_syntax.specs.Scanner.{is_new, room, spare, longer}
-use Rattle.file_syntax.proofs.Words.{no_space}
+use Rattle.file_syntax.proofs.Words.{no_space, upper, lower, digit, no_letter}
 use Rattle.file_words.proofs.Counting.{spare_count}
+
+-- The alphabet is the letters and digits.
+pub alphabet_tested : (t : Bool) (b : ℕ) → MatchBool t (IsAsciiAlphanumeric b) (IsNotAsciiAlphanumeric b) → t ≡ elem alphabet b
+alphabet_tested true b (inl (inl h)) = sym (digit b h.0 (omega (arith, h.1)))
+alphabet_tested true b (inl (inr h)) = sym (upper b h.0 (omega (arith, h.1)))
+alphabet_tested true b (inr h) = sym (lower b h.0 (omega (arith, h.1)))
+alphabet_tested false b h = sym (no_letter b (λ k. grind (arith, h, k)) (λ k. grind (arith, h, k)) (λ k. grind (arith, h, k)))
 
 pub name_words : (ns : List (List ℕ)) → All Name ns → All Word ns
 name_words ns h = in_all Word ns (λ w i. in_all (λ b. b ≡ 32 → ⊥) w (λ b j. no_space b (all_in NameByte b w (all_in Name w ns h i).each j)))

@@ -1,7 +1,7 @@
 // The words of a names line: whether one can be new, and where one stands.
 #![tactic(auto)]
 
-ghost use Rattle.std.specs.Prelude.{◌≡◌, List, ℕ, ◌≤◌, length};
+ghost use Rattle.std.specs.Prelude.{◌≡◌, List, ℕ, ◌≤◌, length, ◌==◌, ◌||◌};
 ghost use Rattle.spec_orders.specs.Lists.{All, Distinct, elem, those_of, begins_with};
 ghost use Rattle.file_syntax.specs.RingFile.{alphabet, Name};
 ghost use Rattle.file_syntax.specs.Words.{word_end, Word, spaced, is_among, place_in};
@@ -11,12 +11,7 @@ ghost use Rattle.file_syntax.specs.Scanner.{room, is_new};
 pub fn letter(b: u8) -> bool
     ensures { result ≡ elem alphabet b }
 {
-    match b {
-        48..=57 => true,
-        65..=90 => true,
-        97..=122 => true,
-        _ => false,
-    }
+    b.is_ascii_alphanumeric()
 }
 
 // Whether w is one of the words of x, a space after each. j: how many bytes of the word are those of w; m + 1 where it differs.
@@ -25,26 +20,17 @@ fn is_among(x: &[u8], w: &[u8]) -> bool
 {
     let m = w.len();
     let mut j = 0;
-    let mut i = 0;
-    while i < x.len() {
-        let b = x[i];
-        i += 1;
-        if b == 32 {
+    for &b in x {
+        if b == b' ' {
             if j == m {
                 return true;
             }
             j = 0;
-            continue;
-        }
-        if j >= m {
-            j = m + 1;
-            continue;
-        }
-        if w[j] == b {
+        } else if j < m && w[j] == b {
             j += 1;
-            continue;
+        } else {
+            j = m + 1;
         }
-        j = m + 1;
     }
     false
 }
@@ -57,72 +43,51 @@ fn begin_with(x: &[u8], t: &[u8]) -> usize
     let m = t.len();
     let mut count = 0;
     let mut j = 0;
-    let mut i = 0;
-    while i < x.len() {
-        let b = x[i];
-        i += 1;
-        if b == 32 {
+    for &b in x {
+        if b == b' ' {
             if j == m {
                 count += 1;
             }
             j = 0;
-            continue;
+        } else if j < m {
+            j = if t[j] == b { j + 1 } else { m + 1 };
         }
-        if j >= m {
-            continue;
-        }
-        if t[j] == b {
-            j += 1;
-            continue;
-        }
-        j = m + 1;
     }
     count
 }
 
-// Whether the begun name t can become a new name. x: the earlier names, a space after each.
+// Whether the begun name t can become a new name. x: the earlier names, a space after each. Of 63 names that begin with the same 7 bytes one is left
+// where fewer are taken; a shorter name has more.
 pub fn has_room(x: &[u8], t: &[u8]) -> bool
     ensures { (ns : List (List ℕ)) → All Name ns → Distinct ns → x.now ≡ spaced ns → result ≡ room ns t.now }
 {
-    let m = t.len();
-    if m < 7 {
-        return true;
+    match t.len() {
+        0..=6 => true,
+        7 => begin_with(x, t) < 63,
+        8 => begin_with(x, t) < 1,
+        _ => false,
     }
-    let taken = begin_with(x, t);
-    if m == 7 {
-        return taken < 63;
-    }
-    if m == 8 {
-        return taken < 1;
-    }
-    false
 }
 
 // Whether w is a new name. x: the earlier names, a space after each.
 pub fn is_new(x: &[u8], w: &[u8]) -> bool
     ensures { (ns : List (List ℕ)) → All Name ns → x.now ≡ spaced ns → result ≡ is_new ns w.now }
 {
-    if w.len() == 0 {
-        return false;
-    }
-    !is_among(x, w)
+    w.len() != 0 && !is_among(x, w)
+}
+
+// Whether b ends a word: a space or a line end.
+fn ends_word(b: u8) -> bool
+    ensures { result ≡ (b == 32) || (b == 10) }
+{
+    b == b' ' || b == b'\n'
 }
 
 // How many bytes stand before the first space or line end.
 pub fn word_end(x: &[u8]) -> usize
     ensures { result ≡ word_end x.now }
 {
-    let mut i = 0;
-    while i < x.len() {
-        if x[i] == 32 {
-            return i;
-        }
-        if x[i] == 10 {
-            return i;
-        }
-        i += 1;
-    }
-    i
+    x.iter().position(|b| ends_word(*b)).unwrap_or(x.len())
 }
 
 // Where word number k, from 0, of the first line of x starts: after so many spaces. Past the last byte where there is no such word.
@@ -130,19 +95,16 @@ pub fn place(x: &[u8], k: usize) -> usize
     ensures { result ≡ place_in x.now k }
 {
     let mut left = k;
-    let mut i = 0;
-    while left != 0 {
-        if i >= x.len() {
+    for (i, &b) in x.iter().enumerate() {
+        if left == 0 {
+            return i;
+        }
+        if b == b'\n' {
             return x.len() + 1;
         }
-        let b = x[i];
-        if b == 10 {
-            return x.len() + 1;
-        }
-        i += 1;
-        if b == 32 {
+        if b == b' ' {
             left -= 1;
         }
     }
-    i
+    if left == 0 { x.len() } else { x.len() + 1 }
 }

@@ -1,13 +1,18 @@
-use mathlib.Core.Path.{sym, ◌∙◌}
-use mathlib.Core.Bool.{false}
-use native.Mathlib.Omega.{arith}
-use lib.ListN.{length}
+use Rattle.std.proofs.Common.{length, sym, ◌∙◌, arith, false}
 use borrow.Author.Tests.{eq-eqb}
 use Rattle.file_words.proofs.Matching.{all_of, or_else, seek_words, at_space, at_end}
 use Rattle.file_words.proofs.is_among.Goals as goal
 
 pub returns-then-j-m : goal.returns-then-j-m
-returns-then-j-m c = λ ns h e. let x = c.args.x.now in let w = c.args.w.now in sym (sym (seek_words w x ns h e) ∙ c.loop-i.invariant.1 ∙ at_space (all_of w) w or_else false x c.loop-i.i c.loop-i.j (omega arith) c.if-b-eq32.true (eq-eqb c.loop-i.j (length w) c.if-j-m.true))
+returns-then-j-m c = λ ns h e.
+    let x = c.args.x.now in
+    let w = c.args.w.now in
+    sym
+    (sym (seek_words w x ns h e) ∙ c.loop-b.invariant
+    ∙ at_space (all_of w) w or_else false x c.loop-b.b-index c.loop-b.j (omega arith) c.if-b-eq32.true (eq-eqb c.loop-b.j (length w) c.if-j-m.true))
 
 pub returns : goal.returns
-returns c = λ ns h e. let x = c.args.x.now in let w = c.args.w.now in sym (sym (seek_words w x ns h e) ∙ c.loop-i.invariant.1 ∙ at_end (all_of w) w or_else false x c.loop-i.i c.loop-i.j (omega arith))
+returns c = λ ns h e.
+    let x = c.args.x.now in
+    let w = c.args.w.now in
+    sym (sym (seek_words w x ns h e) ∙ c.loop-b.invariant ∙ at_end (all_of w) w or_else false x c.loop-b.b-index c.loop-b.j (omega arith))
