@@ -25,18 +25,15 @@ pub fn read(source: &mut impl Read, table: &mut [u8]) -> io::Result<usize>
 // Prints the listing part by part, until a part is empty. Each part has a line, and there are fewer than 40,000. Fails where a write fails: then
 // what was printed is the beginning of the listing.
 pub fn print(rt: &impl Print, file: &[u8]) -> io::Result<()> {
-    let mut out = [0u8; 65536];
+    let mut out = [0; 65536];
     let mut from = 0;
-    let mut parts: usize = 0;
-    while parts < 40000 {
-        let p = list_part::part(file, from, &mut out);
-        let n = p.bytes;
-        if p.next == from {
-            return Ok(());
+    for _ in 0..40000 {
+        let piece = list_part::part(file, from, &mut out);
+        if piece.next == from {
+            break;
         }
-        rt.write_all(&out[..n])?;
-        from = p.next;
-        parts += 1;
+        rt.write_all(&out[..piece.bytes])?;
+        from = piece.next;
     }
     Ok(())
 }
