@@ -100,9 +100,6 @@ module _ {n : ℕ} {f : ℕ → Restriction} {Gs : List Restriction} where
     unfolding G
     walk_stops e = record { one_more = λ l. joined_not G w.stands (Gs ++ map f (drop (left - 1) js)) (λ ord. (more ord).0) e }
 
-  pub walk_ends : {js : List ℕ} → Stops n f Gs js 0
-  walk_ends = record { one_more = λ h. absurd (omega (arith, h)) }
-
   pub walked_stands : {js : List ℕ} {left : ℕ} {toks : List ℕ} → Walked n f Gs js left toks → n ≤ 256 → TokensRepresent n f toks
   walked_stands {js} {left} w h = (w.tree, Gs ++ map f (drop left js), w.text, w.stands, h)
 

@@ -1,7 +1,7 @@
 // The leaving-out rule over the groups of a book: which of them are needed for an impossibility, none of them needlessly.
 #![tactic(auto)]
 
-ghost use Rattle.std.specs.Prelude.{◌≡◌, List, ◌+◌, ◌≤◌, length, take};
+ghost use Rattle.std.specs.Prelude.{◌≡◌, ℕ, List, ◌+◌, ◌<◌, ◌≤◌, length, take, MatchResult};
 ghost use Rattle.spec_orders.specs.declared.Layout.TheVariants.{Ring};
 ghost use Rattle.spec_orders.specs.CircularOrder.{Restriction};
 ghost use Rattle.spec_orders.specs.Tree.{Forest};
@@ -10,38 +10,34 @@ ghost use Rattle.spec_calls.specs.Calls.{group_numbered};
 ghost use Rattle.tree_tokens.specs.Tokens.{Wrote, flat};
 ghost use Rattle.conflict_rule.specs.LeavingOut.{InBook, Represents, TokensRepresent, Walked, Stops, goes_on};
 
-// Where a walk ended: how many numbers are left, and how many tokens its tree has.
-#[derive(Drop)]
-pub struct Reached {
-    pub left: usize,
-    pub tokens: usize,
-}
-
-// Joins the groups with these numbers to the tree, from the last one on, up to one that cannot join. Writes the tree that comes out.
-fn walk(toks: &[u16], book: &[u64], n: usize, numbers: &[u16], out: &mut [u16]) -> Reached
+// Joins the groups with these numbers to the tree, from the last one on. Writes the tree that comes out, and says how many tokens it has; or how
+// many of the numbers are left where the last of them is that of a group that cannot join.
+fn walk(
+    toks: &[u16],
+    book: &[u64],
+    n: usize,
+    numbers: &[u16],
+    out: &mut [u16],
+) -> Result<usize, usize>
     requires { (TokensRepresent n (group_numbered book.now) toks.now) × (384 ≤ length book.now) × (InBook numbers.now) × (512 ≤ length out.old) }
-    ensures { (result.left ≤ length numbers.now) × (result.tokens ≤ length out.new)
-        × ((t : Forest) (Gs : List Restriction) → toks.now ≡ flat t → Represents n (group_numbered book.now) Gs t
-        → Walked n (group_numbered book.now) Gs numbers.now result.left (take result.tokens out.new)
-        × Stops n (group_numbered book.now) Gs numbers.now result.left) }
+    ensures { MatchResult result
+        (λ tokens. (tokens ≤ length out.new) × ((t : Forest) (Gs : List Restriction) → toks.now ≡ flat t → Represents n (group_numbered book.now) Gs t
+        → Walked n (group_numbered book.now) Gs numbers.now 0 (take tokens out.new)))
+        (λ left. (0 < left) × (left ≤ length numbers.now) × ((t : Forest) (Gs : List Restriction) → toks.now ≡ flat t → Represents n (group_numbered book.now) Gs t
+        → ((l : List ℕ) × Walked n (group_numbered book.now) Gs numbers.now left l) × Stops n (group_numbered book.now) Gs numbers.now left)) }
 {
     let mut m = tree_tokens::copy(toks, out);
-    let mut left = numbers.len();
-    while left > 0 {
-        let at = 4 * (numbers[left - 1] as usize - 1);
+    for i in (0..numbers.len()).rev() {
+        let at = 4 * (numbers[i] as usize - 1);
         let end = at + 4;
         let mut next = [0u16; 512];
         let got = tree_update::join(&out[0..m], &book[at..end], n, &mut next);
         let Some(k) = got else {
-            return Reached {
-                left: left,
-                tokens: m,
-            };
+            return Err(i + 1);
         };
         m = tree_tokens::copy(&next[0..k], out);
-        left -= 1;
     }
-    Reached { left: 0, tokens: m }
+    Ok(m)
 }
 
 // Writes those of the numbers that the leaving-out rule keeps, and says how many. toks is the tree of the groups that stay in any case. The
@@ -60,16 +56,17 @@ fn halves(toks: &[u16], book: &[u64], n: usize, numbers: &[u16], out: &mut [u16]
     }
     let mid = many / 2;
     let mut tree = [0u16; 512];
-    let down = walk(toks, book, n, &numbers[mid..many], &mut tree);
-    let left = down.left;
-    let size = down.tokens;
-    if left > 0 {
-        let from = mid + left;
-        out[0] = numbers[from - 1];
-        return go_on(toks, book, n, 1, &numbers[from..many], out);
+    match walk(toks, book, n, &numbers[mid..many], &mut tree) {
+        Ok(size) => {
+            let k = halves(&tree[0..size], book, n, &numbers[0..mid], out);
+            go_on(toks, book, n, k, &numbers[mid..many], out)
+        }
+        Err(left) => {
+            let from = mid + left;
+            out[0] = numbers[from - 1];
+            go_on(toks, book, n, 1, &numbers[from..many], out)
+        }
     }
-    let k = halves(&tree[0..size], book, n, &numbers[0..mid], out);
-    go_on(toks, book, n, k, &numbers[mid..many], out)
 }
 
 // The first k numbers of out are kept. Writes those that the rule then keeps of the other numbers behind them, and says how many there are in
@@ -83,12 +80,9 @@ fn go_on(toks: &[u16], book: &[u64], n: usize, k: usize, numbers: &[u16], out: &
         → Wrote (goes_on (possible? Ring n) (group_numbered book.now) Gs (take k out.old) numbers.now) out.old out.new result) }
 {
     let mut tree = [0u16; 512];
-    let kept = walk(toks, book, n, &out[0..k], &mut tree);
-    let refused = kept.left;
-    let size = kept.tokens;
-    if refused > 0 {
+    let Ok(size) = walk(toks, book, n, &out[0..k], &mut tree) else {
         return k;
-    }
+    };
     k + halves(&tree[0..size], book, n, numbers, &mut out[k..])
 }
 
@@ -100,11 +94,9 @@ pub fn leave_out(toks: &[u16], book: &[u64], n: usize, numbers: &[u16], out: &mu
         → Wrote (conflict_list (possible? Ring n) (group_numbered book.now) Gs numbers.now) out.old out.new result }
 {
     let mut tree = [0u16; 512];
-    let down = walk(toks, book, n, numbers, &mut tree);
-    let left = down.left;
-    if left == 0 {
+    let Err(left) = walk(toks, book, n, numbers, &mut tree) else {
         return 0;
-    }
+    };
     out[0] = numbers[left - 1];
     go_on(toks, book, n, 1, &numbers[left..numbers.len()], out)
 }

@@ -1,4 +1,4 @@
-use mathlib.Core.Path.{sym, ap, subst}
+use mathlib.Core.Path.{refl, sym, ap, subst}
 use mathlib.Core.List.{[], ◌∷◌}
 use Prim.Native.Nat.{◌-◌}
 use native.Mathlib.Omega.{arith}
@@ -15,22 +15,22 @@ use Rattle.conflict_rule.proofs.Trees.{list_all, first_kept}
 use Rattle.conflict_rule.proofs.Written.{went_on}
 use Rattle.conflict_rule.proofs.leave_out.Goals as goal
 
-pub returns-then-left-eq0 : goal.returns-then-left-eq0
-returns-then-left-eq0 c = λ u Gs e rep. rw (list_all c.args.numbers.now (c.walk-down.ensures.2 u Gs e rep).0 (omega (arith, c.if-left-eq0.true))) (wrote_none _)
+pub returns-in_default : goal.returns-in_default
+returns-in_default c = λ u Gs e rep. rw (list_all c.args.numbers.now (c.in_default.ensures.1 u Gs e rep) refl) (wrote_none _)
 
 pub go_on-requires : goal.go_on-requires
 go_on-requires c =
-    let left = c.walk-down.result.left in
-    let j = (get_or c.args.numbers.now (c.walk-down.result.left - 1) 0) in
-    let h = c.walk-down.ensures.0 in
-    let b : InBook (j ∷ []) = (book_at c.args.numbers.now (left - 1) (omega (arith, h, c.if-left-eq0.false)) c.requires.2, tt) in
-    (c.requires.0, c.requires.1, subst InBook (sym (part_to_end c.args.numbers.now left)) (book_drop left c.args.numbers.now c.requires.2), omega (arith, h, ap length (part_to_end c.args.numbers.now left), length-drop left c.args.numbers.now, c.if-left-eq0.false, c.requires.3, length-set c.args.out.now 0 j), subst InBook (sym (read_back (wrote_one j c.args.out.now (omega (arith, h, c.if-left-eq0.false, c.requires.3))))) b)
+    let left = c.in-Err.left in
+    let j = (get_or c.args.numbers.now (c.in-Err.left - 1) 0) in
+    let h = c.in-Err.ensures.1 in
+    let b : InBook (j ∷ []) = (book_at c.args.numbers.now (left - 1) (omega (arith, h, c.in-Err.ensures.0)) c.requires.2, tt) in
+    (c.requires.0, c.requires.1, subst InBook (sym (part_to_end c.args.numbers.now left)) (book_drop left c.args.numbers.now c.requires.2), omega (arith, h, ap length (part_to_end c.args.numbers.now left), length-drop left c.args.numbers.now, c.in-Err.ensures.0, c.requires.3, length-set c.args.out.now 0 j), subst InBook (sym (read_back (wrote_one j c.args.out.now (omega (arith, h, c.in-Err.ensures.0, c.requires.3))))) b)
 
 pub returns : goal.returns
 returns c = λ u Gs e rep.
-    let left = c.walk-down.result.left in
-    let j = (get_or c.args.numbers.now (c.walk-down.result.left - 1) 0) in
-    let d = c.walk-down.ensures.2 u Gs e rep in
-    rw (first_kept c.args.numbers.now c.walk-down.result.left d.0 d.1 (omega (arith, c.if-left-eq0.false)) c.walk-down.ensures.0)
-    (went_on (possible? Ring c.args.n) (group_numbered c.args.book.now) Gs (drop left c.args.numbers.now) (wrote_one j c.args.out.now (omega (arith, c.walk-down.ensures.0, c.if-left-eq0.false, c.requires.3)))
+    let left = c.in-Err.left in
+    let j = (get_or c.args.numbers.now (c.in-Err.left - 1) 0) in
+    let d = c.in-Err.ensures.2 u Gs e rep in
+    rw (first_kept c.args.numbers.now c.in-Err.left d.0.1 d.1 c.in-Err.ensures.0 c.in-Err.ensures.1)
+    (went_on (possible? Ring c.args.n) (group_numbered c.args.book.now) Gs (drop left c.args.numbers.now) (wrote_one j c.args.out.now (omega (arith, c.in-Err.ensures.1, c.in-Err.ensures.0, c.requires.3)))
     (subst (λ js. Wrote (goes_on (possible? Ring c.args.n) (group_numbered c.args.book.now) Gs (take 1 (set c.args.out.now 0 j)) js) (set c.args.out.now 0 j) c.go_on.new.out c.go_on.result) (part_to_end c.args.numbers.now left) (c.go_on.ensures.1 u Gs e rep)))

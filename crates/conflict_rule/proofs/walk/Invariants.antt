@@ -9,9 +9,6 @@ use Rattle.spec_calls.specs.Calls.{group_numbered}
 use Rattle.conflict_rule.specs.LeavingOut.{Represents, Walked}
 use Rattle.conflict_rule.proofs.walk.Given as goal
 
-abbrev pub invariant-loop-left : goal.invariant-loop-left
-invariant-loop-left l = (l.left ≤ length l.numbers) × (length l.out ≡ length l.initial.out) × (l.m ≤ length l.out)
-    × ((t : Forest) (Gs : List Restriction) → l.toks ≡ flat t → Represents l.n (group_numbered l.book) Gs t → Walked l.n (group_numbered l.book) Gs l.numbers l.left (take l.m l.out))
-
-abbrev pub decreases-loop-left : goal.decreases-loop-left
-decreases-loop-left l = l.left
+abbrev pub invariant-loop-i : goal.invariant-loop-i
+invariant-loop-i l = (length l.out ≡ length l.initial.out) × (l.m ≤ length l.out)
+    × ((t : Forest) (Gs : List Restriction) → l.toks ≡ flat t → Represents l.n (group_numbered l.book) Gs t → Walked l.n (group_numbered l.book) Gs l.numbers l.i (take l.m l.out))
