@@ -1,6 +1,6 @@
 -- What a writer to the part from a place on appends; one text appended after another.
-use mathlib.Core.Path.{◌≡◌, sym, subst}
-use mathlib.Core.List.{List, [], ◌++◌, append_assoc, append-nil}
+use mathlib.Core.Path.{◌≡◌, subst}
+use mathlib.Core.List.{List, ◌++◌, append_assoc}
 use Prim.Native.Nat.{ℕ, ◌+◌, ◌-◌}
 use native.Mathlib.Omega.{arith}
 use borrow.Rule.Slice.PartMut.{put_mid}
@@ -18,9 +18,6 @@ copy_appends {xs} {at = at} {n} e h =
     let j : length xs ≡ at + n - at = omega arith in
     let past : at + (at + n - at) ≡ at + n = omega arith in
     record { past = omega arith; after = λ before base v. subst (Wrote (before ++ xs) base _) past (wrote_part v e j) }
-
-pub appends_none : (old : List ℕ) (at : ℕ) → Appends [] at old old at
-appends_none old at = record { past = omega arith; after = λ before base v. subst (λ (l : List ℕ). Wrote l base old at) (sym (append-nil before)) v }
 
 pub appends_then : {xs ys old mid new : List ℕ} {at k r : ℕ} → Appends xs at old mid k → Appends ys k mid new r → Appends (xs ++ ys) at old new r
 appends_then {xs} {ys} {old} {mid} {new} {at} {k} {r} a b = record {

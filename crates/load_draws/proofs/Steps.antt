@@ -3,24 +3,13 @@ use mathlib.Core.Path.{◌≡◌, refl, ap, ◌∙◌}
 use mathlib.Core.List.{List, ◌++◌, append-nil}
 use Prim.Native.Nat.{ℕ, zero, suc, ◌+◌, ◌-◌, ◌*◌, ◌/◌, ◌%◌, ◌^◌, ◌≤◌, ◌<◌}
 use native.Mathlib.Omega.{arith}
-use lib.Bits.{bit_xor, xor_lt}
+use lib.Bits.{bit_xor}
 use lib.ListN.{length, drop, get_or, set}
 use lib.Seq.{drop-length}
 use Rattle.spec_orders.specs.Lists.{numbers_from}
 use Rattle.spec_orders.proofs.Numbers.{numbers_length, numbers_append}
 use Rattle.tree_tokens.proofs.Writes.{write_step}
-use Rattle.spec_load.specs.TestLoad.{left, right, combined, next_state, state_after, drawn, exchanged, shuffled, circle}
-
--- A state of 32 bits stays one.
-left_fits : (k x : ℕ) → x < 2 ^ 32 → combined (left k) x < 2 ^ 32
-left_fits k x h = xor_lt 32 x (left k x) h (omega arith)
-
-right_fits : (x : ℕ) → x < 2 ^ 32 → combined (right 17) x < 2 ^ 32
-right_fits x h = xor_lt 32 x (right 17 x) h (omega arith)
-
-pub state_fits : (x : ℕ) → x < 2 ^ 32 → next_state x < 2 ^ 32
-unfolding next_state
-state_fits x h = left_fits 5 _ (right_fits _ (left_fits 13 x h))
+use Rattle.spec_load.specs.TestLoad.{next_state, state_after, drawn, exchanged, shuffled, circle}
 
 -- The next state, as the code writes it.
 pub state_is : (x : ℕ) → next_state x ≡ bit_xor (bit_xor (bit_xor x (x * 2 ^ 13 % 2 ^ 32)) (bit_xor x (x * 2 ^ 13 % 2 ^ 32) / 2 ^ 17))

@@ -2,11 +2,11 @@
 use mathlib.Core.Path.{◌≡◌, refl, sym, ap, ap₂, subst, ◌∙◌}
 use mathlib.Core.Logic.{◌≢◌, inl, ⊎_elim}
 use mathlib.Core.Bool.{Bool, true}
-use mathlib.Core.List.{List, [], ◌∷◌, ◌++◌, map, append_assoc, append-nil}
+use mathlib.Core.List.{List, [], ◌∷◌, ◌++◌, map, append_assoc}
 use Prim.Native.Nat.{ℕ, zero, suc, ◌+◌, ◌-◌, ◌*◌, ◌≤◌, ◌<◌}
 use native.Mathlib.Omega.{arith}
 use lib.ListN.{length, take, drop, get_or, set, take-append-drop, length-drop}
-use lib.Seq.{set-append_left, take-append-le, take-append-add, take_all, take-take}
+use lib.Seq.{set-append_left, take-append-le, take-append-add, take-take}
 use Rattle.spec_orders.specs.Lists.{All, elem, numbers_from}
 use Rattle.spec_orders.proofs.ListLaws.{all_left, all_right, all_map, part_to_end}
 use Rattle.spec_orders.proofs.Members.{in_elem, elem_in, in_left, in_right, in_append, in_one}
@@ -81,10 +81,7 @@ mark_step n group rest b h g =
     ∙ ap (λ (l : List ℕ). l ++ rest)
     (sym (ap (λ (vs : List Value). line (map value_word vs)) (values_more n group b h g) ∙ line_set (values n group) (b - 1) on (omega (arith, values_length n group))))
 
--- The first i bins are marked: none, one more, all.
-pub marked_none : (n : ℕ) (bins old : List ℕ) → Marked n (take 0 bins) old old
-marked_none n bins old = λ group rest e. e ∙ ap (λ (l : List ℕ). group_line n l ++ rest) (sym (append-nil group))
-
+-- The first i bins are marked, and one more.
 pub marked_more : (n : ℕ) (bins : List ℕ) (i : ℕ) {old new : List ℕ} → i < length bins → (1 ≤ get_or bins i 0) × (get_or bins i 0 ≤ n) → Marked n (take i bins) old new
     → Marked n (take (i + 1) bins) old (set new (2 * (get_or bins i 0 - 1)) 49)
 marked_more n bins i {old} {new} h within m = λ group rest e.
@@ -92,9 +89,6 @@ marked_more n bins i {old} {new} h within m = λ group rest e.
     ap (λ (l : List ℕ). set l (2 * (b - 1)) 49) (m group rest e)
     ∙ mark_step n (group ++ take i bins) rest b within.0 within.1
     ∙ ap (λ (l : List ℕ). group_line n l ++ rest) (append_assoc group (take i bins) (b ∷ []) ∙ ap (λ (l : List ℕ). group ++ l) (sym (take_more bins i h)))
-
-pub marked_all : (n : ℕ) (bins : List ℕ) (i : ℕ) {old new : List ℕ} → length bins ≤ i → Marked n (take i bins) old new → Marked n bins old new
-marked_all n bins i {old} {new} h m = subst (λ (l : List ℕ). Marked n l old new) (take_all i bins h) m
 
 -- ==== A run of the circle
 

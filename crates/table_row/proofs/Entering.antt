@@ -15,18 +15,13 @@ use Rattle.tree_tokens.proofs.Laws.{sizes, size_leaf, size_node}
 use Rattle.tree_tokens.proofs.Counts.{items_more}
 use Rattle.tree_tokens.proofs.Steps.{Left, Here, here}
 use Rattle.table_row.specs.Rows.{records_from, Placed}
-use Rattle.tree_tokens.proofs.Writes.{Written, written_start, written_one, written_length}
+use Rattle.tree_tokens.proofs.Writes.{Written, written_one, written_length}
 use Rattle.table_row.proofs.Rows.{leaf_here, node_here, leaf_number_here, entries_leaf, entries_node}
 use Rattle.table_row.proofs.Records.{before, before_here, before_item, records_at, records_length}
 
 -- Of the places of j, whose tokens are l, k were written; those of h, at index i, are left.
 pub record Entered (r : ℕ) (l : List ℕ) (i : ℕ) (old new : List ℕ) (k : ℕ) (j h : Judged) : Type 0 where
   pub written : Written (entries r (tree j)) (entries (r + before l i) (tree h)) old new k
-
-pub entered_start : (r : ℕ) (l old : List ℕ) (j : Judged) → Entered r l 0 old old 0 j j
-entered_start r l old j =
-    let e : r + 0 ≡ r = omega arith in
-    record { written = rw e (written_start (entries r (tree j)) old) }
 
 -- The place of the item at index i: its leaf, or 256 and the record of its node.
 abbrev pub Place : ℕ → List ℕ → ℕ → ℕ → Judged → Type 0

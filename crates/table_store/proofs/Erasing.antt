@@ -8,7 +8,7 @@ use lib.Seq.{get_or-drop, drop-drop}
 use borrow.Rule.Slice.PartMut.{put_mid}
 use Rattle.spec_calls.specs.Tables.{padded}
 use Rattle.tree_tokens.specs.Tokens.{Wrote}
-use Rattle.tree_tokens.proofs.Writes.{wrote_none, wrote_filled}
+use Rattle.tree_tokens.proofs.Writes.{wrote_filled}
 use Rattle.table_row.specs.Rows.{RowThere, RowsThere, blank, used}
 use Rattle.table_row.proofs.Writing.{blank_after, wrote_after, wrote_over, there_long, there_count, there_zeros, there_after}
 use Rattle.table_store.proofs.Standing.{first_there, later_there}
@@ -19,9 +19,6 @@ pub record Erasing (room : ℕ) (old new : List ℕ) (k : ℕ) : Type 0 where
   pub whole : k + 257 * left ≡ room
   pub wrote : Wrote (replicate k 0) old new k
   pub there : RowsThere left (drop k old)
-
-pub erasing_start : {room : ℕ} {old : List ℕ} (c : ℕ) → room ≡ 257 * c → RowsThere c old → Erasing room old old 0
-erasing_start {old = old} c e s = record { left = c; whole = omega arith; wrote = wrote_none old; there = s }
 
 -- Zeros up to k, and more of them after those.
 zeros_more : {k room r : ℕ} {old new : List ℕ} → k ≤ room → drop k old ≡ replicate (room - k) 0 ++ drop room old → Wrote (replicate k 0) old new r
@@ -38,10 +35,6 @@ none_used {c} z (blank b) = b.is ∙ ap (λ (x : List ℕ). replicate (257 * c) 
 none_used z (used first n s) = absurd (omega (arith, there_count first))
 
 module _ {room k : ℕ} {old new : List ℕ} (g : Erasing room old new k) where
-  -- No row is left.
-  pub erasing_end : room ≤ k → Wrote (replicate room 0) old new room
-  erasing_end h = let e : k ≡ room = omega (arith, g.whole) in subst (λ (x : ℕ). Wrote (replicate x 0) old new x) e g.wrote
-
   module _ (h : k < room) where
     first : RowThere (drop k old)
     first = first_there (omega (arith, g.whole)) g.there

@@ -14,8 +14,8 @@ use Rattle.tree_tokens.specs.declared.ItemShape.{ItemShape}
 use Rattle.tree_tokens.specs.declared.ItemShape.TheVariants.{Leaf}
 use Rattle.tree_tokens.specs.Views.{shape_of, items_of}
 use Rattle.tree_tokens.proofs.Laws.{shape_read}
-use Rattle.tree_tokens.proofs.Steps.{Here, opened}
-use Rattle.tree_tokens.proofs.Writes.{Written, written_start, written_same, written_then, written_length}
+use Rattle.tree_tokens.proofs.Steps.{Left, Here, here, opened}
+use Rattle.tree_tokens.proofs.Writes.{Written, written_same, written_then, written_length}
 use Rattle.table_row.specs.Rows.{Placed, Rowed, RowThere, RowsThere}
 use Rattle.table_row.proofs.Writing.{wrote_after, there_long}
 use Rattle.table_row.proofs.Rows.{rows_leaf, here_row, rows-first, nodes_node, nodes-items, narrow_open, narrow_items}
@@ -26,9 +26,6 @@ use Rattle.table_store.proofs.Standing.{first_there, left_there}
 pub record Rowing (l : List ℕ) (i : ℕ) (old new : List ℕ) (k : ℕ) (j h : Judged) : Type 0 where
   pub narrow : Narrow (tree j) → Narrow (tree h)
   pub written : Written (rows 0 (tree j)) (rows (before l i) (tree h)) old new k
-
-pub rowing_start : (l old : List ℕ) (j : Judged) → Rowing l 0 old old 0 j j
-rowing_start l old j = record { narrow = λ n. n; written = written_start (rows 0 (tree j)) old }
 
 pub rowing_leaf : {l : List ℕ} {i k : ℕ} {old new : List ℕ} {j h : Judged} → Here l i h → i < length l → shape_of h ≡ some Leaf
     → Rowing l i old new k j h → Rowing l (i + 1) old new k j (opened h)
@@ -92,3 +89,11 @@ module _ {toks records : List ℕ} {i k : ℕ} {old new : List ℕ} {h : Judged}
     last = omega (arith, p.last, before_here p.seq p.is q, nodes_node h q.some s, nodes-items h);
     few = narrow_items h (g.narrow p.narrow);
   }
+
+-- Room for the row of a node that is next, and for the records of its items.
+pub node_room : {toks records old new : List ℕ} {i k : ℕ} (inner : List ℕ) (p : Rowed toks records) → RowsThere 256 old → Left toks i (Rowing toks i old new k)
+    → i < length toks → ((h : Judged) → take (length toks - i) (drop i toks) ≡ encode h → shape_of h ≡ some Leaf → ⊥) → i + 1 + length inner ≤ length toks
+    → (k + 257 ≤ length old) × (i + 1 + length inner ≤ length records)
+node_room inner p there left n s few =
+    let q = here left n p.seq p.is in
+    (next-room p q.1 (s q.0 q.1.part) q.2 there, omega (arith, rowed_long p, few))

@@ -4,7 +4,7 @@ use mathlib.Core.List.{List, [], ◌∷◌, ◌++◌}
 use Prim.Native.Nat.{ℕ, suc, ◌+◌, ◌-◌, ◌*◌, ◌≤◌}
 use native.Mathlib.Omega.{arith}
 use native.Mathlib.Numerals.{add-one}
-use lib.ListN.{length, get_or, set, take, drop, replicate, length-append, length-drop, length-replicate, get_or-replicate, replicate-append-replicate, drop_of_length-le}
+use lib.ListN.{length, get_or, set, take, drop, replicate, length-append, length-replicate, get_or-replicate, replicate-append-replicate, drop_of_length-le}
 use lib.Seq.{take_at, drop_at, drop-cons, get_or-drop, length-take-le}
 use Rattle.spec_orders.specs.Lists.{elem}
 use Rattle.spec_orders.specs.CircularOrder.{Restriction}
@@ -65,9 +65,6 @@ row_of_table table r h =
     ∙ ap (λ (j : ℕ). get_or table a 0 ∷ get_or table (suc a) 0 ∷ take 255 (drop j table)) e
     ∙ ap (λ (j : ℕ). get_or table a 0 ∷ get_or table j 0 ∷ take 255 (drop (a + 2) table)) (sym (add-one a))
     ∙ ap (λ (j : ℕ). get_or table a 0 ∷ get_or table (a + 1) 0 ∷ take j (drop (a + 2) table)) (sym m)
-
-pub part_long : (table : List ℕ) (r : ℕ) → 257 * r + 257 ≤ length table → length (take (257 * r + 257 - (257 * r + 2)) (drop (257 * r + 2) table)) ≡ 255
-part_long table r h = let m : 257 * r + 257 - (257 * r + 2) ≡ 255 = omega arith in ap (λ (j : ℕ). length (take j (drop (257 * r + 2) table))) m ∙ length-take-le 255 (drop (257 * r + 2) table) (omega (arith, length-drop (257 * r + 2) table))
 
 -- All records are to be read.
 pub none_swept : (n : ℕ) (S : Restriction) (table work : List ℕ) → 65792 ≤ length table → Started n S work → Swept n S table 256 work

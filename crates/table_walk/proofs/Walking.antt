@@ -10,7 +10,7 @@ use Rattle.spec_orders.proofs.ListLaws.{part_to_end}
 use Rattle.spec_calls.specs.NodeTable.{entries, kind_of}
 use Rattle.tree_tokens.specs.Tokens.{E, plain, leaf_token, node_token, encode, Wrote, flat}
 use Rattle.tree_tokens.proofs.Laws.{encode_node}
-use Rattle.tree_tokens.proofs.Writes.{wrote_head, Written, written_start, written_end, written_same, written_one, written_then}
+use Rattle.tree_tokens.proofs.Writes.{wrote_head, Written, written_end, written_same, written_one, written_then}
 use Rattle.table_walk.specs.Walks.{RowsStand, PlacesStand, NodeThere, NodeWritten, ItemsWritten}
 use Rattle.table_walk.proofs.Standing.{node_flat, kind_is, node_record, node_places, leaf_head, NodeFirst, node_head}
 
@@ -48,11 +48,6 @@ pub record Walking (table places : List ℕ) (f : Forest) (old new : List ℕ) (
   pub rest : Forest
   pub written : Written (flat f) (flat rest) old new k
   pub left : PlacesStand table (drop j places) next rest (length old - k)
-
-pub walking_start : {table places : List ℕ} {r : ℕ} {f : Forest} (old : List ℕ) → PlacesStand table places r f (length old) → Walking table places f old old 0 0
-walking_start {r = r} {f} old s =
-    let z : length old - 0 ≡ length old = omega arith in
-    record { next = r; rest = f; written = written_start (flat f) old; left = rw z s }
 
 none_left : (r : ℕ) (f : Forest) → [] ≡ entries r f → flat f ≡ []
 unfolding encode

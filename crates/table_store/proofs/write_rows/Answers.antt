@@ -1,8 +1,6 @@
 use mathlib.Core.Option.{some}
 use mathlib.Core.Path.{◌≡◌, sym, ap, ◌∙◌}
-use Prim.Native.Nat.{◌+◌, ◌≤◌}
 use native.Mathlib.Omega.{arith}
-use lib.ListN.{length}
 use Rattle.tree_tokens.specs.declared.ItemShape.TheVariants.{Leaf}
 use Rattle.tree_tokens.specs.Views.{shape_of}
 use Rattle.tree_tokens.proofs.Laws.{shape_read}
@@ -10,17 +8,14 @@ use Rattle.tree_tokens.proofs.Steps.{here, at_last, next_token}
 use Rattle.tree_tokens.proofs.Writes.{written_end}
 use Rattle.table_row.proofs.Rows.{here_long}
 use Rattle.table_row.proofs.Records.{before, records_items}
-use Rattle.table_store.proofs.Rowing.{rowing_leaf, rowing_node, rowed_long, next-room, next-items, next-over}
+use Rattle.table_store.proofs.Rowing.{rowing_leaf, rowing_node, node_room, next-items, next-over}
 use Rattle.table_store.proofs.write_rows.Goals as goal
 
 pub loop-i-preserved-in-Leaf : goal.loop-i-preserved-in-Leaf
 loop-i-preserved-in-Leaf c = (c.loop-i.invariant.0, next_token c.loop-i.invariant.1 c.loop-i-test.true (λ j h p g. rowing_leaf p c.loop-i-test.true (sym (c.shape-shape.ensures h p.part) ∙ ap some c.in-Leaf.is) g))
 
 pub slice_bounds-write_row-end : goal.slice_bounds-write_row-end
-slice_bounds-write_row-end c =
-    let room : (c.loop-i.k + 257 ≤ length c.args.out.now) × (c.loop-i.i + 1 + length c.items-inner.result.now ≤ length c.args.records.now) = (let q = here c.loop-i.invariant.1 c.loop-i-test.true c.requires.0.seq c.requires.0.is in
-    (next-room c.requires.0 q.1 (λ h. c.in_default.not-Leaf (shape_read (c.shape-shape.ensures q.0 q.1.part) h)) q.2 c.requires.1, omega (arith, rowed_long c.requires.0, c.items-inner.ensures.0))) in
-    omega (arith, room)
+slice_bounds-write_row-end c = omega (arith, node_room c.items-inner.result.now c.requires.0 c.requires.1 c.loop-i.invariant.1 c.loop-i-test.true (λ h e z. c.in_default.not-Leaf (shape_read (c.shape-shape.ensures h e) z)) (omega (arith, c.items-inner.ensures.0)))
 
 pub write_row-k-requires : goal.write_row-k-requires
 write_row-k-requires c =
@@ -30,12 +25,10 @@ write_row-k-requires c =
 
 pub overflow_add-k : goal.overflow_add-k
 overflow_add-k c =
-    let room : (c.loop-i.k + 257 ≤ length c.args.out.now) × (c.loop-i.i + 1 + length c.items-inner.result.now ≤ length c.args.records.now) = (let q = here c.loop-i.invariant.1 c.loop-i-test.true c.requires.0.seq c.requires.0.is in
-    (next-room c.requires.0 q.1 (λ h. c.in_default.not-Leaf (shape_read (c.shape-shape.ensures q.0 q.1.part) h)) q.2 c.requires.1, omega (arith, rowed_long c.requires.0, c.items-inner.ensures.0))) in
     let q = here c.loop-i.invariant.1 c.loop-i-test.true c.requires.0.seq c.requires.0.is in
     let e = c.items-inner.ensures.1 q.0 q.1.part in
     let b = records_items c.requires.0.beside q.1 c.loop-i-test.true (λ h. c.in_default.not-Leaf (shape_read (c.shape-shape.ensures q.0 q.1.part) h)) e in
-    omega (arith, room, (rw c.kind_number.ensures at (c.write_row-k.ensures _ _ b e)).many ∙ here_long c.shape-shape.result (before c.args.toks.now c.loop-i.i) q.0 (q.2.narrow c.requires.0.narrow))
+    omega (arith, node_room c.items-inner.result.now c.requires.0 c.requires.1 c.loop-i.invariant.1 c.loop-i-test.true (λ h e z. c.in_default.not-Leaf (shape_read (c.shape-shape.ensures h e) z)) (omega (arith, c.items-inner.ensures.0)), (rw c.kind_number.ensures at (c.write_row-k.ensures _ _ b e)).many ∙ here_long c.shape-shape.result (before c.args.toks.now c.loop-i.i) q.0 (q.2.narrow c.requires.0.narrow))
 
 pub loop-i-preserved : goal.loop-i-preserved
 loop-i-preserved c = (
