@@ -1,10 +1,12 @@
 -- How the scanner goes through items and nodes.
-use Rattle.std.specs.Prelude.{◌≡◌, cond, List, ◌∷◌, ◌++◌, ℕ, ◌+◌, ◌*◌, ◌-◌, ◌≤◌, ◌<◌, eqb, length, drop, get_or, Result, Ok, Err, IfOk}
+use Rattle.std.specs.Prelude.{◌≡◌, List, ◌∷◌, ◌++◌, ℕ, ◌+◌, ◌*◌, ◌-◌, ◌≤◌, ◌<◌, length, drop, get_or, Result, Ok, Err, IfOk}
 use Rattle.spec_orders.specs.Tree.{Kind, P, C, Forest, items}
 use Rattle.spec_orders.specs.TreeText.{text}
 use Rattle.tree_tokens.specs.Tokens.{Wrote, flat}
 use Rattle.text_scanner.specs.Scan.{TextState, open_due, due, after, need, run_at, refused}
 use Rattle.text_scanner.specs.Unused.{unused}
+use Rattle.text_leaf.specs.declared.NodeKind.{NodeKind}
+use Rattle.text_leaf.specs.declared.NodeKind.TheVariants.{PNode, CNode}
 use Rattle.text_leaf.specs.declared.Reached.{Reached}
 
 -- The marks tell `many` unused leaves, from 1 to 256.
@@ -57,6 +59,7 @@ abbrev pub OpenedRead : List ℕ → ℕ → ℕ → ℕ → List ℕ → List �
 OpenedRead x at want many before used old new r =
     Passed x at (λ f. 40 ∷ text f) (λ cs. open_due cs (unused 0 before)) (λ cs l. after (0 ∷ cs) l) want many want 2 used old new r × IfOk r (Closed x)
 
--- The kind that a letter names.
-abbrev pub kind_of_letter : ℕ → Kind
-kind_of_letter b = cond (eqb b 80) P C
+-- The kind that the code names.
+abbrev pub kind_of : NodeKind → Kind
+kind_of PNode = P
+kind_of CNode = C

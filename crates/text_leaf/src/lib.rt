@@ -1,10 +1,11 @@
 // A leaf of a tree text, read into its token; the letter and the token of a node.
 #![tactic(auto)]
 
-ghost use Rattle.std.specs.Prelude.{◌≡◌, false, ℕ, ◌+◌, ◌-◌, ◌*◌, ◌≤◌, ◌<◌, length, get_or};
+ghost use Rattle.std.specs.Prelude.{◌≡◌, false, ℕ, ◌+◌, ◌-◌, ◌*◌, ◌≤◌, ◌<◌, length, get_or, MatchOption};
+ghost use Rattle.spec_orders.specs.TreeText.{letter};
 ghost use Rattle.tree_tokens.specs.Tokens.{E, node_token};
 ghost use Rattle.text_scanner.specs.Scan.{letter?};
-ghost use Rattle.text_leaf.specs.Passages.{Marks, ItemRead, kind_of_letter};
+ghost use Rattle.text_leaf.specs.Passages.{Marks, ItemRead, kind_of};
 
 // How far the text was read: up to the byte `at`, with `left` leaves unused and `count` tokens written.
 #[derive(Clone, Copy)]
@@ -14,11 +15,22 @@ pub struct Reached {
     pub count: usize,
 }
 
-// Whether the byte is `P` or `C`.
-pub fn is_letter(b: u8) -> bool
-    ensures { result ≡ letter? b }
+// The kind of a node.
+#[derive(Clone, Copy)]
+pub enum NodeKind {
+    PNode,
+    CNode,
+}
+
+// The kind that the byte is the letter of, if it is one.
+pub fn node_kind(b: u8) -> Option<NodeKind>
+    ensures { MatchOption result (letter? b ≡ false) (λ k. b ≡ letter (kind_of k)) }
 {
-    b == b'P' || b == b'C'
+    match b {
+        b'P' => Some(NodeKind::PNode),
+        b'C' => Some(NodeKind::CNode),
+        _ => None,
+    }
 }
 
 // Reads the leaf at byte `at`, marks it as used and writes its token; or answers the byte of the refusal.
@@ -52,14 +64,15 @@ pub fn leaf(
     })
 }
 
-// The token of a node whose items have m tokens; b is its letter.
+// The token of a node whose items have m tokens.
 #[tactic(auto, unfolding(tree_tokens::specs::Tokens::node_token))]
-pub fn header(b: u8, m: usize) -> u16
+pub fn header(kind: NodeKind, m: usize) -> u16
     requires { m ≤ 512 }
-    ensures { result ≡ node_token E (kind_of_letter b) m }
+    ensures { result ≡ node_token E (kind_of kind) m }
 {
-    if b == b'P' {
-        return (32 * m + 8) as u16;
-    }
-    (32 * m + 24) as u16
+    let bits = match kind {
+        NodeKind::PNode => 8,
+        NodeKind::CNode => 24,
+    };
+    (32 * m + bits) as u16
 }

@@ -1,14 +1,12 @@
 -- An item, the items of a node, and a node from its bracket on: from the passages of their parts.
 use mathlib.Core.Path.{◌≡◌, refl, sym, ◌∙◌, ap, ap₂, subst}
-use mathlib.Core.Bool.{Bool, true, false, true≢false, cond, ◌||◌}
+use mathlib.Core.Bool.{true}
 use mathlib.Core.List.{List, [], ◌∷◌, ◌++◌, append_assoc}
 use Prim.Native.Nat.{ℕ, ◌+◌, ◌-◌, ◌≤◌, ◌<◌}
 use native.Mathlib.Omega.{arith}
-use borrow.Author.Tests.{eqb-true}
 use mir.Syntax.{w64}
 use mir.Val.{Fits}
 use borrow.Rule.Slice.PartMut.{put_mid}
-use lib.Dec.{eqb}
 use lib.ListN.{length, take, drop, get_or, set}
 use Rattle.spec_orders.specs.Tree.{Kind, P, C, Forest, nil, leaf, node, items, append}
 use Rattle.spec_orders.specs.TreeText.{digits, letter, text, more}
@@ -22,7 +20,7 @@ use Rattle.text_scanner.proofs.Language.{more_text}
 use Rattle.text_scanner.proofs.Moves.{at_end, due_node, due_few, open_byte, open_bad, after_space, after_few, after_other, after_short, close_inner}
 use Rattle.std.specs.Prelude.{Result, Ok, Err}
 use Rattle.text_leaf.specs.declared.Reached.{Reached}
-use Rattle.text_leaf.specs.Passages.{Marks, Stops, ItemRead, ItemsRead, OpenedRead, kind_of_letter}
+use Rattle.text_leaf.specs.Passages.{Marks, Stops, ItemRead, ItemsRead, OpenedRead}
 use Rattle.text_number.proofs.Numerals.{drop-step}
 
 -- A small number fits.
@@ -49,17 +47,9 @@ append_some nil g h = absurd (omega arith)
 append_some (leaf b f) g h = omega arith
 append_some (node k i f) g h = omega arith
 
--- A letter names a kind.
-pub letter_kind : (b : ℕ) → letter? b ≡ true → letter (kind_of_letter b) ≡ b
-letter_kind b e = go (eqb b 80) refl (eqb b 67) refl e
-  where
-    go : (p : Bool) → eqb b 80 ≡ p → (q : Bool) → eqb b 67 ≡ q → p || q ≡ true → letter (cond p P C) ≡ b
-    go true h q g i = sym (eqb-true b 80 h)
-    go false h true g i = sym (eqb-true b 67 g)
-    go false h false g i = absurd (true≢false (sym i))
-
-pub letter_there : {b e : ℕ} → b ≡ e → true ≡ letter? b → letter? e ≡ true
-letter_there e y = rw (sym e) (sym y)
+pub is_letter : (k : Kind) → letter? (letter k) ≡ true
+is_letter P = refl
+is_letter C = refl
 
 -- A node's tokens, from those of its items.
 pub node_wrote : {old part : List ℕ} {k t : ℕ} (j : Kind) (f : Forest) → 0 < length old → t ≡ node_token E j k
@@ -79,26 +69,26 @@ module _ (x : List ℕ) (at c want many : ℕ) (used : List ℕ) (m : Marks many
   pub item_ends : length x ≤ at → NoItem at
   item_ends h cs w = at_end x at (due c cs (unused 0 used)) h refl
 
-  module _ (h : at < length x) (y : letter? (get_or x at 0) ≡ true) (inner : ℕ) (n : inner ≡ c - 1 + want) where
+  module _ (h : at < length x) (j : Kind) (y : get_or x at 0 ≡ letter j) (inner : ℕ) (n : inner ≡ c - 1 + want) where
     pub item_few : many < 2 + inner → NoItem at
-    item_few l cs w = due_few x at h c cs (unused 0 used) y (omega (arith, m.count))
+    item_few l cs w = due_few x at h c cs (unused 0 used) (ap letter? y ∙ is_letter j) (omega (arith, m.count))
 
     module _ (l : 2 + inner ≤ many) where
       entered : (cs : List ℕ) → need cs ≡ want → run_at x at (due c cs (unused 0 used)) ≡ run_at x (at + 1) (open_due ((c - 1) ∷ cs) (unused 0 used))
-      entered cs w = due_node x at h c cs (unused 0 used) y (omega (arith, m.count))
+      entered cs w = due_node x at h c cs (unused 0 used) (ap letter? y ∙ is_letter j) (omega (arith, m.count))
 
       pub item_stops : (p : ℕ) → Stops x (at + 1) (λ cs. open_due cs (unused 0 used)) inner p → NoItem p
       item_stops p o cs w = entered cs w ∙ o ((c - 1) ∷ cs) (omega arith)
 
-      pub item_node : {used' old part : List ℕ} {t : ℕ} (r : Reached) → 0 < length old → t ≡ node_token E (kind_of_letter (get_or x at 0)) r.count
+      pub item_node : {used' old part : List ℕ} {t : ℕ} (r : Reached) → 0 < length old → t ≡ node_token E j r.count
           → OpenedRead x (at + 1) inner many used used' (take (length old - 1) (drop 1 old)) part (Ok r)
           → ItemRead x at c want many used used' old (set (put_mid 1 (length old - 1) old part) 0 t)
           (Ok (record { at = r.at + 1; left = r.left; count = 1 + r.count }))
       item_node {used'} r s t (p, q) = record {
-        forest = node (kind_of_letter (get_or x at 0)) p.forest nil;
+        forest = node j p.forest nil;
         some_item = omega arith;
-        wrote = node_wrote (kind_of_letter (get_or x at 0)) p.forest s t p.wrote;
-        bytes = drop-step x at h ∙ ap₂ ◌∷◌ (sym (letter_kind (get_or x at 0) y))
+        wrote = node_wrote j p.forest s t p.wrote;
+        bytes = drop-step x at h ∙ ap₂ ◌∷◌ y
             (p.bytes ∙ ap (λ l. 40 ∷ (text p.forest ++ l)) (drop-step x r.at q.there ∙ ap (λ b. b ∷ drop (r.at + 1) x) q.bracket)
             ∙ ap (λ l. 40 ∷ l) (sym (append_assoc (text p.forest) (41 ∷ []) (drop (r.at + 1) x))));
         moves = λ cs w. entered cs w ∙ p.moves ((c - 1) ∷ cs) (omega arith) ∙ close_inner x r.at q.there (c - 1) cs (unused 0 used') q.bracket;

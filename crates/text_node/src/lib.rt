@@ -27,15 +27,15 @@ fn item(
     let Some(&b) = text.get(at) else {
         return Err(at);
     };
-    if !text_leaf::is_letter(b) {
+    let Some(kind) = text_leaf::node_kind(b) else {
         return text_leaf::leaf(text, at, many, used, out);
-    }
+    };
     let inner = few.saturating_sub(1) + want;
     if many < 2 + inner {
         return Err(at);
     }
     let within = opened(text, at + 1, inner, many, used, &mut out[1..])?;
-    out[0] = text_leaf::header(b, within.count);
+    out[0] = text_leaf::header(kind, within.count);
     Ok(Reached {
         at: within.at + 1,
         left: within.left,

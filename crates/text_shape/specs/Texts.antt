@@ -1,26 +1,27 @@
 -- The whole text: one word; the root and nothing after it; a text of the shape.
-use Rattle.std.specs.Prelude.{◌≡◌, true, List, [], ◌∷◌, ℕ, ◌≤◌, length, get_or, Result, Ok, Err}
+use Rattle.std.specs.Prelude.{◌≡◌, List, [], ◌∷◌, ℕ, ◌≤◌, length, get_or, Result, Ok, Err}
 use Rattle.spec_orders.specs.Tree.{Forest}
-use Rattle.spec_orders.specs.TreeText.{tree_text, Shaped, ShapeRefused}
+use Rattle.spec_orders.specs.TreeText.{letter, tree_text, Shaped, ShapeRefused}
 use Rattle.tree_tokens.specs.Tokens.{Wrote, flat}
-use Rattle.text_scanner.specs.Scan.{lit, pre, letter?, run_at, accepted, refused}
+use Rattle.text_leaf.specs.declared.NodeKind.{NodeKind}
+use Rattle.text_leaf.specs.Passages.{kind_of}
+use Rattle.text_scanner.specs.Scan.{lit, pre, run_at, accepted, refused}
 
 -- The text against one word; or the byte at which it is refused.
 abbrev pub WordRead : List ℕ → List ℕ → Result (Unit {0}) ℕ → Type 0
 WordRead x word (Ok _) = run_at x 0 (lit word) ≡ accepted
 WordRead x word (Err p) = run_at x 0 (lit word) ≡ refused p
 
--- `1`, a space and the letter b.
-pub record TextBegins (x : List ℕ) (b : ℕ) : Type 0 where
+-- `1`, a space and the letter of a kind.
+pub record TextBegins (x : List ℕ) (k : NodeKind) : Type 0 where
   pub long : 3 ≤ length x
   pub one : get_or x 0 0 ≡ 49
   pub space : get_or x 1 0 ≡ 32
-  pub named : get_or x 2 0 ≡ b
-  pub kind : letter? b ≡ true
+  pub named : get_or x 2 0 ≡ letter (kind_of k)
 
 -- The same; or the byte at which the text is refused.
-abbrev pub Opening : List ℕ → Result ℕ ℕ → Type 0
-Opening x (Ok b) = TextBegins x b
+abbrev pub Opening : List ℕ → Result NodeKind ℕ → Type 0
+Opening x (Ok k) = TextBegins x k
 Opening x (Err p) = (l : List ℕ) → run_at x 0 (pre (49 ∷ 32 ∷ []) l) ≡ refused p
 
 -- The whole text: the tree that it spells, whose k tokens were written.

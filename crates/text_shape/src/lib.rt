@@ -6,6 +6,8 @@ ghost use Rattle.text_scanner.specs.Unused.{unused};
 ghost use Rattle.text_leaf.specs.Passages.{Marks};
 ghost use Rattle.text_shape.specs.Texts.{WordRead, Opening, WholeRead, ShapeRead};
 
+use text_leaf::NodeKind;
+
 // Whether the text is the word; or the byte at which it is refused.
 #[tactic(auto, using(crate::proofs::Wholes::words))]
 pub fn word_read(text: &[u8], word: &[u8]) -> Result<(), usize>
@@ -22,14 +24,14 @@ pub fn word_read(text: &[u8], word: &[u8]) -> Result<(), usize>
     Ok(())
 }
 
-// The letter that follows `1` and a space at the start of the text; or the byte at which it is refused.
+// The kind whose letter follows `1` and a space at the start of the text; or the byte at which it is refused.
 #[tactic(auto, using(crate::proofs::Wholes::openings))]
-fn opening(text: &[u8]) -> Result<u8, usize>
+fn opening(text: &[u8]) -> Result<NodeKind, usize>
     ensures { Opening text.now result }
 {
     match text {
-        [b'1', b' ', b, ..] if text_leaf::is_letter(*b) => Ok(*b),
-        [b'1', b' ', ..] => Err(2),
+        [b'1', b' ', b, ..] => text_leaf::node_kind(*b).ok_or(2),
+        [b'1', b' '] => Err(2),
         [b'1', ..] => Err(1),
         _ => Err(0),
     }
@@ -40,7 +42,7 @@ fn whole(text: &[u8], many: usize, used: &mut [u8], out: &mut [u16]) -> Result<u
     requires { (Marks many used.old) × (2 ≤ many) × (many ≤ 255) × (512 ≤ length out.old) }
     ensures { WholeRead text.now (unused 0 used.old) out.old out.new result }
 {
-    let letter = opening(text)?;
+    let kind = opening(text)?;
     let root = text_node::opened(text, 3, 0, many, used, &mut out[1..])?;
     if root.left != 0 {
         return Err(root.at);
@@ -49,7 +51,7 @@ fn whole(text: &[u8], many: usize, used: &mut [u8], out: &mut [u16]) -> Result<u
     if end < text.len() {
         return Err(end);
     }
-    out[0] = text_leaf::header(letter, root.count);
+    out[0] = text_leaf::header(kind, root.count);
     Ok(1 + root.count)
 }
 
