@@ -2,7 +2,8 @@
 // its own answer; or the place or byte of the refusal, 0 where the table names none. Written by tools/outer.py.
 #![tactic(auto)]
 
-ghost use Rattle.spec_calls.specs.Tables.{layout_numbered, lent_book};
+ghost use Rattle.spec_orders.specs.Layout.{layout_numbered};
+ghost use Rattle.spec_calls.specs.Tables.{lent_book};
 ghost use Rattle.spec_calls.specs.Refusals.{reply};
 ghost use Rattle.spec_calls.specs.Promises.{ConflictPromise};
 
@@ -20,7 +21,7 @@ pub extern "C" fn tokuwhape_conflict(
 ) -> u8
     ensures { ConflictPromise (layout_numbered layout) n (lent_book book.now count) list.now conflicts.old conflicts.new (reply result value.new) }
 {
-    let layout = spec_calls::layout_numbered(layout);
+    let layout = Layout::from(layout);
     let answer = call_conflict::conflict(layout, n, book, count, list, conflicts);
     spec_calls::code(answer, value)
 }

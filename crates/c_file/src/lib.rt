@@ -24,10 +24,10 @@ pub extern "C" fn tokuwhape_scan(
             0
         }
         Err(refusal) => {
-            *value = spec_calls::place(refusal);
+            *value = refusal.place();
             *head = 0;
             *lines = 0;
-            spec_calls::number(refusal)
+            refusal.number()
         }
     }
 }

@@ -3,7 +3,8 @@
 // tools/outer.py.
 #![tactic(auto)]
 
-ghost use Rattle.spec_calls.specs.Tables.{lent_rows, layout_numbered};
+ghost use Rattle.spec_orders.specs.Layout.{layout_numbered};
+ghost use Rattle.spec_calls.specs.Tables.{lent_rows};
 ghost use Rattle.spec_calls.specs.Refusals.{reply};
 ghost use Rattle.spec_calls.specs.Promises.{IntersectPromise};
 
@@ -22,8 +23,8 @@ pub extern "C" fn tokuwhape_intersect(
 ) -> u8
     ensures { IntersectPromise (lent_rows (layout_numbered layout) n nodes.now) (lent_rows (layout_numbered layout2) m other.now) (lent_rows (layout_numbered layout) n third.old) third.new (reply result value.new) }
 {
-    let layout = spec_calls::layout_numbered(layout);
-    let layout2 = spec_calls::layout_numbered(layout2);
+    let layout = Layout::from(layout);
+    let layout2 = Layout::from(layout2);
     let have = c_rows::records(nodes);
     let had = c_rows::records(other);
     let room = c_rows::records(third);

@@ -3,7 +3,8 @@
 // table names none. Written by tools/outer.py.
 #![tactic(auto)]
 
-ghost use Rattle.spec_calls.specs.Tables.{lent_rows, layout_numbered, lent_book};
+ghost use Rattle.spec_orders.specs.Layout.{layout_numbered};
+ghost use Rattle.spec_calls.specs.Tables.{lent_rows, lent_book};
 ghost use Rattle.spec_calls.specs.Refusals.{reply};
 ghost use Rattle.spec_calls.specs.Promises.{OrderPromise, AimPromise};
 
@@ -18,7 +19,7 @@ pub extern "C" fn tokuwhape_order(
 ) -> u8
     ensures { OrderPromise (lent_rows (layout_numbered layout) n nodes.now) order.old order.new (reply result value.new) }
 {
-    let layout = spec_calls::layout_numbered(layout);
+    let layout = Layout::from(layout);
     let have = c_rows::records(nodes);
     let answer = call_order::order(layout, n, nodes, have, order);
     spec_calls::code(answer, value)
@@ -38,7 +39,7 @@ pub extern "C" fn tokuwhape_aim(
 ) -> u8
     ensures { AimPromise (lent_rows (layout_numbered layout) n nodes.now) (lent_book book.now count) group (reply result value.new) }
 {
-    let layout = spec_calls::layout_numbered(layout);
+    let layout = Layout::from(layout);
     let have = c_rows::records(nodes);
     let answer = call_order::aim(layout, n, nodes, have, book, count, group);
     spec_calls::code(answer, value)

@@ -3,7 +3,8 @@
 // Written by tools/outer.py.
 #![tactic(auto)]
 
-ghost use Rattle.spec_calls.specs.Tables.{lent_rows, layout_numbered, lent_book};
+ghost use Rattle.spec_orders.specs.Layout.{layout_numbered};
+ghost use Rattle.spec_calls.specs.Tables.{lent_rows, lent_book};
 ghost use Rattle.spec_calls.specs.Refusals.{reply};
 ghost use Rattle.spec_calls.specs.Promises.{WritePromise, ReadPromise};
 
@@ -18,7 +19,7 @@ pub extern "C" fn tokuwhape_write(
 ) -> u8
     ensures { WritePromise (lent_rows (layout_numbered layout) n nodes.now) bytes.old bytes.new (reply result value.new) }
 {
-    let layout = spec_calls::layout_numbered(layout);
+    let layout = Layout::from(layout);
     let have = c_rows::records(nodes);
     let answer = call_text::write(layout, n, nodes, have, bytes);
     spec_calls::code(answer, value)
@@ -37,7 +38,7 @@ pub extern "C" fn tokuwhape_read(
 ) -> u8
     ensures { ReadPromise (lent_rows (layout_numbered layout) n nodes.old) (lent_book book.old 0) text.now nodes.new (lent_book book.new 0) (reply result value.new) }
 {
-    let layout = spec_calls::layout_numbered(layout);
+    let layout = Layout::from(layout);
     let have = c_rows::records(nodes);
     let answer = call_text::read(layout, n, nodes, have, book, text);
     spec_calls::code(answer, value)

@@ -3,7 +3,8 @@
 // table names none. Written by tools/outer.py.
 #![tactic(auto)]
 
-ghost use Rattle.spec_calls.specs.Tables.{lent_rows, layout_numbered, lent_book};
+ghost use Rattle.spec_orders.specs.Layout.{layout_numbered};
+ghost use Rattle.spec_calls.specs.Tables.{lent_rows, lent_book};
 ghost use Rattle.spec_calls.specs.Refusals.{reply};
 ghost use Rattle.spec_calls.specs.Promises.{OpenPromise, JoinPromise, TrialPromise};
 
@@ -18,7 +19,7 @@ pub extern "C" fn tokuwhape_open(
 ) -> u8
     ensures { OpenPromise (lent_rows (layout_numbered layout) n nodes.old) (lent_book book.old 0) nodes.new (lent_book book.new 0) (reply result value.new) }
 {
-    let layout = spec_calls::layout_numbered(layout);
+    let layout = Layout::from(layout);
     let have = c_rows::records(nodes);
     let answer = call_update::open(layout, n, nodes, have, book);
     spec_calls::code(answer, value)
@@ -38,7 +39,7 @@ pub extern "C" fn tokuwhape_join(
 ) -> u8
     ensures { JoinPromise (lent_rows (layout_numbered layout) n nodes.old) (lent_book book.old count) list.now nodes.new (lent_book book.new count) (reply result value.new) }
 {
-    let layout = spec_calls::layout_numbered(layout);
+    let layout = Layout::from(layout);
     let have = c_rows::records(nodes);
     let answer = call_update::join(layout, n, nodes, have, book, count, list);
     spec_calls::code(answer, value)
@@ -57,7 +58,7 @@ pub extern "C" fn tokuwhape_trial(
 ) -> u8
     ensures { TrialPromise (lent_rows (layout_numbered layout) n nodes.now) (lent_book book.now count) list.now (reply result value.new) }
 {
-    let layout = spec_calls::layout_numbered(layout);
+    let layout = Layout::from(layout);
     let have = c_rows::records(nodes);
     let answer = call_update::trial(layout, n, nodes, have, book, count, list);
     spec_calls::code(answer, value)

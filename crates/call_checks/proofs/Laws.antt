@@ -24,8 +24,8 @@ use Rattle.spec_calls.proofs.Checks.{first_refusal_some, first_refusal_none, fir
 use Rattle.spec_calls.proofs.Demands.{few_bins, size_whole, tables_whole}
 use Rattle.std.specs.Prelude.{Some}
 use Rattle.table_walk.specs.Walks.{Loads}
-use Rattle.call_checks.specs.declared.Lent.{Lent}
-use Rattle.call_checks.specs.declared.Lent.TheVariants.{Refused}
+use Rattle.std.specs.declared.result.Result.{Result}
+use Rattle.std.specs.declared.result.Result.TheVariants.{Err}
 use Rattle.call_checks.specs.Lent.{TreeLent, LendsTree, RingLent, LendsRing, book_checks}
 
 -- 1 and 15, and then 2.
@@ -99,7 +99,7 @@ module _ (nodes : Nodes) (book : Book) where
   split : first_refusal (ring_checks nodes book) ≡ first_refusal (tree_checks nodes (short 384 book.words) ++ of_book)
   split = both_forms (table_checks nodes (short 384 book.words)) (is_none (held_tree nodes)) (not (book_in_form? nodes.bins book))
 
-  pub tree_refused : (old new : List ℕ) (x : Lent) (r : Refusal) → x ≡ Refused r → LendsTree nodes (short 384 book.words) old new x
+  pub tree_refused : (old new : List ℕ) (x : Result ℕ Refusal) (r : Refusal) → x ≡ Err r → LendsTree nodes (short 384 book.words) old new x
       → LendsRing nodes book old new x
   tree_refused old new x r e h =
       subst (LendsRing nodes book old new) (sym e)

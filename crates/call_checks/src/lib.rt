@@ -11,72 +11,50 @@ ghost use Rattle.call_checks.specs.Lent.{book_checks, LendsTree, LendsRing};
 
 use spec_calls::Refusal;
 use spec_orders::Layout;
-use table_book::Checked;
-
-// The lent tree, in this many tokens; or why the call is refused.
-#[derive(Drop)]
-pub enum Lent {
-    Tree(usize),
-    Refused(Refusal),
-}
 
 // Whether a node table of `have` records is too short.
 pub fn short(nodes: &[u16], have: usize) -> bool
     ensures { result ≡ short_nodes (lent_nodes Ring 0 have nodes.now) }
 {
-    if have < 256 {
-        return true;
-    }
-    nodes.len() < 65792
+    have < 256 || nodes.len() < 65792
 }
 
 // Whether a count of bins is refused by 1.
 pub fn bad_size(n: usize) -> bool
     ensures { result ≡ bad_size n }
 {
-    if n == 0 {
-        return true;
-    }
-    n > 256
+    n == 0 || n > 256
 }
 
 // Whether a count of bins that 1 passes is refused by 15.
 pub fn full_rack(layout: Layout, n: usize) -> bool
     ensures { result ≡ full_rack layout n }
 {
-    match layout {
-        Layout::Ring => false,
-        Layout::Rack => n == 256,
-    }
+    layout == Layout::Rack && n == 256
 }
 
 // Checks 1 and 15.
-pub fn check_size(layout: Layout, n: usize) -> Checked
+pub fn check_size(layout: Layout, n: usize) -> Result<(), Refusal>
     ensures { refusal_in result ≡ first_refusal (size_checks layout n) }
 {
     if bad_size(n) {
-        return Checked::Bad(Refusal::RingSize);
+        return Err(Refusal::RingSize);
     }
     if full_rack(layout, n) {
-        return Checked::Bad(Refusal::RackSize);
+        return Err(Refusal::RackSize);
     }
-    Checked::Fine
+    Ok(())
 }
 
 // Checks 1, 15 and 2 on a node table of `have` records; `other` says that another lent table is too short.
-pub fn check_tables(layout: Layout, n: usize, nodes: &[u16], have: usize, other: bool) -> Checked
+pub fn check_tables(layout: Layout, n: usize, nodes: &[u16], have: usize, other: bool) -> Result<(), Refusal>
     ensures { refusal_in result ≡ first_refusal (table_checks (lent_nodes layout n have nodes.now) other) }
 {
-    if let Checked::Bad(refusal) = check_size(layout, n) {
-        return Checked::Bad(refusal);
+    check_size(layout, n)?;
+    if short(nodes, have) || other {
+        return Err(Refusal::ShortTable);
     }
-    if short(nodes, have) {
-        return Checked::Bad(Refusal::ShortTable);
-    }
-    if other {
-        return Checked::Bad(Refusal::ShortTable);
-    }
-    Checked::Fine
+    Ok(())
 }
 
 // Checks 1, 15, 2 and 3 on a node table of `have` records; `other` says that another lent table is too short. Writes the tree to the start of toks.
@@ -87,18 +65,16 @@ pub fn lent_tree(
     have: usize,
     other: bool,
     toks: &mut [u16],
-) -> Lent
+) -> Result<usize, Refusal>
     requires { 512 ≤ length toks.old }
     ensures { LendsTree (lent_nodes layout n have nodes.now) other toks.old toks.new result }
 {
-    if let Checked::Bad(refusal) = check_tables(layout, n, nodes, have, other) {
-        return Lent::Refused(refusal);
-    }
-    let leaves = spec_orders::leaf_count(layout, n);
+    check_tables(layout, n, nodes, have, other)?;
+    let leaves = layout.leaf_count(n);
     let Some(k) = table_walk::load(nodes, leaves, toks) else {
-        return Lent::Refused(Refusal::NotInForm);
+        return Err(Refusal::NotInForm);
     };
-    Lent::Tree(k)
+    Ok(k)
 }
 
 // Checks 1, 15, 2 and 3 on a node table of `have` records and a book of `count` groups. Writes the tree to the start of toks.
@@ -110,35 +86,27 @@ pub fn lent_ring(
     book: &[u64],
     count: usize,
     toks: &mut [u16],
-) -> Lent
+) -> Result<usize, Refusal>
     requires { 512 ≤ length toks.old }
     ensures { LendsRing (lent_nodes layout n have nodes.now) (lent_book book.now count) toks.old toks.new result }
 {
-    let found = lent_tree(layout, n, nodes, have, book.len() < 384, toks);
-    let Lent::Tree(k) = found else {
-        return found;
-    };
+    let k = lent_tree(layout, n, nodes, have, book.len() < 384, toks)?;
     if !table_book::in_form(book, n, count) {
-        return Lent::Refused(Refusal::NotInForm);
+        return Err(Refusal::NotInForm);
     }
-    Lent::Tree(k)
+    Ok(k)
 }
 
 // Checks 1, 15, 2 and 3 on a book of `count` groups, lent without a node table; `other` says that another lent table is too short.
-pub fn lent_book(layout: Layout, n: usize, book: &[u64], count: usize, other: bool) -> Checked
+pub fn lent_book(layout: Layout, n: usize, book: &[u64], count: usize, other: bool) -> Result<(), Refusal>
     ensures { refusal_in result ≡ first_refusal (book_checks layout n (lent_book book.now count) other) }
 {
-    if let Checked::Bad(refusal) = check_size(layout, n) {
-        return Checked::Bad(refusal);
-    }
-    if book.len() < 384 {
-        return Checked::Bad(Refusal::ShortTable);
-    }
-    if other {
-        return Checked::Bad(Refusal::ShortTable);
+    check_size(layout, n)?;
+    if book.len() < 384 || other {
+        return Err(Refusal::ShortTable);
     }
     if !table_book::in_form(book, n, count) {
-        return Checked::Bad(Refusal::NotInForm);
+        return Err(Refusal::NotInForm);
     }
-    Checked::Fine
+    Ok(())
 }

@@ -11,9 +11,8 @@ ghost use Rattle.spec_calls.specs.Calls.{conflicts_of};
 ghost use Rattle.spec_calls.specs.Refusals.{report};
 ghost use Rattle.spec_calls.specs.Promises.{ConflictPromise};
 
-use spec_calls::Answer;
+use spec_calls::Refusal;
 use spec_orders::Layout;
-use table_book::Checked;
 
 // Writes the numbers 1 to count, and says how many.
 fn rising(count: usize, out: &mut [u16]) -> usize
@@ -57,25 +56,25 @@ pub fn conflict(
     count: usize,
     list: &[u16],
     conflicts: &mut [u16],
-) -> Answer
+) -> Result<usize, Refusal>
     ensures { ConflictPromise layout n (lent_book book.now count) list.now conflicts.old conflicts.new (report result) }
 {
-    if let Checked::Bad(refusal) = call_checks::lent_book(
+    if let Err(refusal) = call_checks::lent_book(
         layout,
         n,
         book,
         count,
         conflicts.len() < 96,
     ) {
-        return Answer::Refused(refusal);
+        return Err(refusal);
     }
     let mut group = [0u64; 4];
-    if let Checked::Bad(refusal) = table_book::check_list(list, n, &mut group) {
-        return Answer::Refused(refusal);
+    if let Err(refusal) = table_book::check_list(list, n, &mut group) {
+        return Err(refusal);
     }
     let mut numbers = [0u16; 96];
-    let leaves = spec_orders::leaf_count(layout, n);
+    let leaves = layout.leaf_count(n);
     let k = find(leaves, book, count, &group, &mut numbers);
     tree_tokens::copy(&numbers, conflicts);
-    Answer::Done(k)
+    Ok(k)
 }

@@ -6,8 +6,9 @@ use Rattle.tree_tokens.specs.Tokens.{Wrote, flat}
 use Rattle.spec_calls.specs.Tables.{Nodes}
 use Rattle.spec_calls.specs.Refusals.{first_refusal}
 use Rattle.spec_calls.specs.Calls.{common_tree, common_checks}
-use Rattle.call_checks.specs.declared.Lent.{Lent}
-use Rattle.call_checks.specs.declared.Lent.TheVariants.{Tree, Refused}
+use Rattle.std.specs.declared.result.Result.{Result}
+use Rattle.std.specs.declared.result.Result.TheVariants.{Ok, Err}
+use Rattle.spec_calls.specs.declared.Refusal.{Refusal}
 
 pub record CommonLent (nodes other : Nodes) (old new : List ℕ) (k : ℕ) : Type 0 where
   pub passes : first_refusal (common_checks nodes other) ≡ none
@@ -15,6 +16,6 @@ pub record CommonLent (nodes other : Nodes) (old new : List ℕ) (k : ℕ) : Typ
   pub is : common_tree nodes other ≡ some tree
   pub wrote : Wrote (flat tree) old new k
 
-abbrev pub LendsCommon : Nodes → Nodes → List ℕ → List ℕ → Lent → Type 0
-LendsCommon nodes other old new (Tree k) = CommonLent nodes other old new k
-LendsCommon nodes other old new (Refused r) = first_refusal (common_checks nodes other) ≡ some r
+abbrev pub LendsCommon : Nodes → Nodes → List ℕ → List ℕ → Result ℕ Refusal → Type 0
+LendsCommon nodes other old new (Ok k) = CommonLent nodes other old new k
+LendsCommon nodes other old new (Err r) = first_refusal (common_checks nodes other) ≡ some r

@@ -11,10 +11,8 @@ ghost use Rattle.spec_calls.specs.Promises.{IntersectPromise};
 ghost use Rattle.table_book.specs.Lists.{refusal_in};
 ghost use Rattle.call_intersection.specs.Common.{LendsCommon};
 
-use call_checks::Lent;
-use spec_calls::{Answer, Refusal};
+use spec_calls::Refusal;
 use spec_orders::Layout;
-use table_book::Checked;
 
 // Whether both are rings, or both racks, of as many bins.
 fn same_bins(layout: Layout, n: usize, layout2: Layout, m: usize) -> bool
@@ -33,22 +31,22 @@ fn same_bins(layout: Layout, n: usize, layout2: Layout, m: usize) -> bool
 }
 
 // Checks 1 and 15 on both counts of bins.
-fn check_sizes(layout: Layout, n: usize, layout2: Layout, m: usize) -> Checked
+fn check_sizes(layout: Layout, n: usize, layout2: Layout, m: usize) -> Result<(), Refusal>
     ensures { refusal_in result ≡ first_refusal (pair_sizes layout n layout2 m) }
 {
     if call_checks::bad_size(n) {
-        return Checked::Bad(Refusal::RingSize);
+        return Err(Refusal::RingSize);
     }
     if call_checks::bad_size(m) {
-        return Checked::Bad(Refusal::RingSize);
+        return Err(Refusal::RingSize);
     }
     if call_checks::full_rack(layout, n) {
-        return Checked::Bad(Refusal::RackSize);
+        return Err(Refusal::RackSize);
     }
     if call_checks::full_rack(layout2, m) {
-        return Checked::Bad(Refusal::RackSize);
+        return Err(Refusal::RackSize);
     }
-    Checked::Fine
+    Ok(())
 }
 
 // Checks 1, 15, 2 and 13, on both node tables and the third.
@@ -63,47 +61,47 @@ fn check_pair(
     had: usize,
     third: &[u16],
     room: usize,
-) -> Checked
+) -> Result<(), Refusal>
     ensures { refusal_in result ≡ first_refusal (pair_checks (lent_nodes layout n have nodes.now) (lent_nodes layout2 m had other.now) (lent_nodes layout n room third.now)) }
 {
-    if let Checked::Bad(refusal) = check_sizes(layout, n, layout2, m) {
-        return Checked::Bad(refusal);
+    if let Err(refusal) = check_sizes(layout, n, layout2, m) {
+        return Err(refusal);
     }
     if call_checks::short(nodes, have) {
-        return Checked::Bad(Refusal::ShortTable);
+        return Err(Refusal::ShortTable);
     }
     if call_checks::short(other, had) {
-        return Checked::Bad(Refusal::ShortTable);
+        return Err(Refusal::ShortTable);
     }
     if call_checks::short(third, room) {
-        return Checked::Bad(Refusal::ShortTable);
+        return Err(Refusal::ShortTable);
     }
     if !same_bins(layout, n, layout2, m) {
-        return Checked::Bad(Refusal::BinCounts);
+        return Err(Refusal::BinCounts);
     }
-    Checked::Fine
+    Ok(())
 }
 
 // Checks 3 and 8 on two whole node tables of so many leaves. Writes the tree that allows the orders allowed by both trees to the start of out, and
 // says how many tokens it has; or why there is none.
-fn common(leaves: usize, nodes: &[u16], other: &[u16], out: &mut [u16]) -> Lent
+fn common(leaves: usize, nodes: &[u16], other: &[u16], out: &mut [u16]) -> Result<usize, Refusal>
     requires { (1 ≤ leaves) × (leaves ≤ 256) × (65792 ≤ length nodes.now) × (65792 ≤ length other.now) × (512 ≤ length out.old) }
     ensures { (layout : Layout) (n have had : ℕ) → leaves ≡ leaf_count layout n
         → LendsCommon (lent_nodes layout n have nodes.now) (lent_nodes layout n had other.now) out.old out.new result }
 {
     let mut first = [0u16; 512];
     let Some(j) = table_walk::load(nodes, leaves, &mut first) else {
-        return Lent::Refused(Refusal::NotInForm);
+        return Err(Refusal::NotInForm);
     };
     let mut second = [0u16; 512];
     let Some(k) = table_walk::load(other, leaves, &mut second) else {
-        return Lent::Refused(Refusal::NotInForm);
+        return Err(Refusal::NotInForm);
     };
     let found = tree_intersection::intersect(&first[0..j], &second[0..k], leaves, out);
     let Some(size) = found else {
-        return Lent::Refused(Refusal::Impossible);
+        return Err(Refusal::Impossible);
     };
-    Lent::Tree(size)
+    Ok(size)
 }
 
 // Writes the tree that allows exactly the orders allowed by the tree of n bins and by that of m to the third node table; a rack is taken as its ring of
@@ -119,19 +117,19 @@ pub fn intersect(
     had: usize,
     third: &mut [u16],
     room: usize,
-) -> Answer
+) -> Result<usize, Refusal>
     ensures { IntersectPromise (lent_nodes layout n have nodes.now) (lent_nodes layout2 m had other.now) (lent_nodes layout n room third.old) third.new (report result) }
 {
     let checked = check_pair(layout, n, nodes, have, layout2, m, other, had, third, room);
-    if let Checked::Bad(refusal) = checked {
-        return Answer::Refused(refusal);
+    if let Err(refusal) = checked {
+        return Err(refusal);
     }
     let mut toks = [0u16; 512];
-    match common(spec_orders::leaf_count(layout, n), nodes, other, &mut toks) {
-        Lent::Refused(refusal) => Answer::Refused(refusal),
-        Lent::Tree(k) => {
+    match common(layout.leaf_count(n), nodes, other, &mut toks) {
+        Err(refusal) => Err(refusal),
+        Ok(k) => {
             table_store::store(&toks[0..k], third);
-            Answer::Done(0)
+            Ok(0)
         }
     }
 }

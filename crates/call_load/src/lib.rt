@@ -7,8 +7,7 @@ ghost use Rattle.spec_calls.specs.Calls.{test_load_refusal};
 ghost use Rattle.spec_calls.specs.Promises.{TestLoadPromise};
 ghost use Rattle.table_book.specs.Lists.{refusal_in};
 
-use spec_calls::{Answer, Refusal};
-use table_book::Checked;
+use spec_calls::Refusal;
 
 // Whether a count of groups is refused by 17.
 fn bad_count(groups: usize) -> bool
@@ -21,33 +20,33 @@ fn bad_count(groups: usize) -> bool
 }
 
 // Checks 1, 16, 17 and 2.
-fn check(n: usize, seed: u32, groups: usize, bytes: &[u8]) -> Checked
+fn check(n: usize, seed: u32, groups: usize, bytes: &[u8]) -> Result<(), Refusal>
     ensures { refusal_in result ≡ test_load_refusal n seed groups bytes.now }
 {
     if call_checks::bad_size(n) {
-        return Checked::Bad(Refusal::RingSize);
+        return Err(Refusal::RingSize);
     }
     if seed == 0 {
-        return Checked::Bad(Refusal::ZeroSeed);
+        return Err(Refusal::ZeroSeed);
     }
     if bad_count(groups) {
-        return Checked::Bad(Refusal::GroupCount);
+        return Err(Refusal::GroupCount);
     }
     if bytes.len() < 65536 {
-        return Checked::Bad(Refusal::ShortTable);
+        return Err(Refusal::ShortTable);
     }
-    Checked::Fine
+    Ok(())
 }
 
 // Writes the ring file of the test load of n bins with this seed and so many groups, and zeros up to 65,536 bytes. Answers the file's length; or
 // refuses (1, 16, 17, 2), and leaves the bytes as they were.
-pub fn test_load(n: usize, seed: u32, groups: usize, bytes: &mut [u8]) -> Answer
+pub fn test_load(n: usize, seed: u32, groups: usize, bytes: &mut [u8]) -> Result<usize, Refusal>
     ensures { TestLoadPromise n seed groups bytes.old bytes.new (report result) }
 {
-    if let Checked::Bad(refusal) = check(n, seed, groups, bytes) {
-        return Answer::Refused(refusal);
+    if let Err(refusal) = check(n, seed, groups, bytes) {
+        return Err(refusal);
     }
     let k = load_file::write_load(n, seed, groups, bytes);
     bytes[k..65536].fill(0);
-    Answer::Done(k)
+    Ok(k)
 }

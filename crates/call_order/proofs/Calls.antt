@@ -16,7 +16,7 @@ use Rattle.spec_orders.specs.Conflict.{consecutive_on?}
 use Rattle.spec_orders.specs.Aim.{aim_of}
 use Rattle.spec_calls.specs.declared.Refusal.{Refusal}
 use Rattle.spec_calls.specs.declared.Refusal.TheVariants.{NoSuchGroup, NoAim, NotConsecutive}
-use Rattle.spec_calls.specs.declared.Answer.TheVariants.{Done, Refused}
+use Rattle.std.specs.declared.result.Result.TheVariants.{Ok, Err}
 use Rattle.spec_calls.specs.Tables.{Nodes, Book}
 use Rattle.mark_words.specs.Marks.{no_mark?}
 use Rattle.spec_calls.specs.Book.{group_words}
@@ -31,16 +31,16 @@ use Rattle.call_order.specs.Starts.{aim_in}
 use Rattle.call_order.specs.Rings.{Lends, aim_of_group}
 
 module _ (l : Layout) (n : ℕ) (book : Book) (k : ℕ) (t : Forest) where
-  pub number_zero : k ≡ 0 → aim_of_group l n book k t ≡ Refused NoSuchGroup
+  pub number_zero : k ≡ 0 → aim_of_group l n book k t ≡ Err NoSuchGroup
   unfolding aim_of_group
   number_zero e = rw (eq-eqb k 0 e)
 
-  pub number_past : k ≢ 0 → book.count < k → aim_of_group l n book k t ≡ Refused NoSuchGroup
+  pub number_past : k ≢ 0 → book.count < k → aim_of_group l n book k t ≡ Err NoSuchGroup
   unfolding aim_of_group
   number_past e h = rw (ne_eqb k 0 e, lt-ltb book.count k h)
 
   module _ (e : k ≢ 0) (h : k ≤ book.count) where
-    pub no_aim : no_mark? (group_words book.words (k - 1)) ≡ true → aim_of_group l n book k t ≡ Refused NoAim
+    pub no_aim : no_mark? (group_words book.words (k - 1)) ≡ true → aim_of_group l n book k t ≡ Err NoAim
     unfolding aim_of_group
     no_aim q = rw (ne_eqb k 0 e, le-ltb book.count k h, q)
 
@@ -58,7 +58,7 @@ lends_few {l} {n} h = few_bins l n h.lent.whole.few_leaves
 -- The checks after the ring's, as the code makes them.
 last_checks : (a e b : Bool) (v : ℕ)
     → answered (first_refusal (refuse a NoSuchGroup ∷ refuse e NoAim ∷ refuse (not b) NotConsecutive ∷ [])) v
-    ≡ report (cond a (Refused NoSuchGroup) (cond e (Refused NoAim) (cond b (Done v) (Refused NotConsecutive))))
+    ≡ report (cond a (Err NoSuchGroup) (cond e (Err NoAim) (cond b (Ok v) (Err NotConsecutive))))
 last_checks true e b v = refl
 last_checks false true b v = refl
 last_checks false false true v = refl

@@ -17,7 +17,7 @@ use Rattle.spec_orders.proofs.ListLaws.{tail, tail_is}
 use Rattle.spec_orders.proofs.Decide.{decides_on}
 use Rattle.spec_orders.proofs.StraightAims.{straight_aim}
 use Rattle.spec_calls.specs.declared.Refusal.TheVariants.{NotConsecutive}
-use Rattle.spec_calls.specs.declared.Answer.TheVariants.{Done, Refused}
+use Rattle.std.specs.declared.result.Result.TheVariants.{Ok, Err}
 use Rattle.call_order.specs.Starts.{enters, starts, aim_in}
 
 module _ (G : Restriction) (b : ℕ) where
@@ -77,10 +77,10 @@ same_aim : (l : Layout) (G : Restriction) (ord : List ℕ) → Visible l (length
 same_aim Ring G ord v h m = refl
 same_aim Rack G ord v h m = straight_aim G ord h m v
 
-pub aim_in_yes : (l : Layout) (G : Restriction) (ord : List ℕ) → Visible l (length ord) G → 1 ≤ count G ord → consecutive_on? l G ord ≡ true → aim_in l G ord ≡ Done (aim_of Ring G ord)
+pub aim_in_yes : (l : Layout) (G : Restriction) (ord : List ℕ) → Visible l (length ord) G → 1 ≤ count G ord → consecutive_on? l G ord ≡ true → aim_in l G ord ≡ Ok (aim_of Ring G ord)
 unfolding aim_in
-aim_in_yes l G ord v m e = rw e (ap Done (same_aim l G ord v ((decides_on l G ord).0 e) m))
+aim_in_yes l G ord v m e = rw e (ap Ok (same_aim l G ord v ((decides_on l G ord).0 e) m))
 
-pub aim_in_no : (l : Layout) (G : Restriction) (ord : List ℕ) → consecutive_on? l G ord ≡ false → aim_in l G ord ≡ Refused NotConsecutive
+pub aim_in_no : (l : Layout) (G : Restriction) (ord : List ℕ) → consecutive_on? l G ord ≡ false → aim_in l G ord ≡ Err NotConsecutive
 unfolding aim_in
 aim_in_no l G ord e = rw e

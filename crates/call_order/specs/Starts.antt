@@ -7,8 +7,9 @@ use Rattle.spec_orders.specs.Conflict.{consecutive_on?}
 use Rattle.spec_orders.specs.Aim.{aim_of}
 use Rattle.mark_words.specs.Marks.{marked, leaves_of}
 use Rattle.spec_calls.specs.declared.Refusal.TheVariants.{NotConsecutive}
-use Rattle.spec_calls.specs.declared.Answer.{Answer}
-use Rattle.spec_calls.specs.declared.Answer.TheVariants.{Done, Refused}
+use Rattle.std.specs.declared.result.Result.{Result}
+use Rattle.std.specs.declared.result.Result.TheVariants.{Ok, Err}
+use Rattle.spec_calls.specs.declared.Refusal.{Refusal}
 
 -- The leaf x is in the group after b, which is outside it.
 abbrev pub enters : Restriction → ℕ → ℕ → Bool
@@ -28,5 +29,5 @@ pub record GroupWithin (words order : List ℕ) : Type 0 where
   pub few_places : length order ≤ 256
 
 -- Check 10, and the aim.
-unfoldable pub aim_in : Layout → Restriction → List ℕ → Answer
-aim_in l G order = cond (consecutive_on? l G order) (Done (aim_of l G order)) (Refused NotConsecutive)
+unfoldable pub aim_in : Layout → Restriction → List ℕ → Result ℕ Refusal
+aim_in l G order = cond (consecutive_on? l G order) (Ok (aim_of l G order)) (Err NotConsecutive)

@@ -16,19 +16,18 @@ ghost use Rattle.spec_calls.specs.Promises.{OrderPromise, AimPromise};
 ghost use Rattle.call_order.specs.Starts.{enters, starts, GroupWithin, aim_in};
 ghost use Rattle.call_order.specs.Rings.{Lends, aim_of_group};
 
-use call_checks::Lent;
-use spec_calls::{Answer, Refusal};
+use spec_calls::Refusal;
 use spec_orders::Layout;
 
 // Writes the standard order to the first n places of order. Answers n; or refuses (1, 15, 2, 3), and leaves them as they were.
-pub fn order(layout: Layout, n: usize, nodes: &[u16], have: usize, order: &mut [u16]) -> Answer
+pub fn order(layout: Layout, n: usize, nodes: &[u16], have: usize, order: &mut [u16]) -> Result<usize, Refusal>
     ensures { OrderPromise (lent_nodes layout n have nodes.now) order.old order.new (report result) }
 {
     let mut toks = [0u16; 512];
     let found = call_checks::lent_tree(layout, n, nodes, have, order.len() < n, &mut toks);
     match found {
-        Lent::Refused(refusal) => Answer::Refused(refusal),
-        Lent::Tree(k) => Answer::Done(tree_order::order_on(layout, n, &toks[0..k], order)),
+        Err(refusal) => Err(refusal),
+        Ok(k) => Ok(tree_order::order_on(layout, n, &toks[0..k], order)),
     }
 }
 
@@ -126,14 +125,14 @@ pub fn middle(words: &[u64], order: &[u16]) -> usize
 }
 
 // The aim of the group with these marks, or that it is not consecutive. A run that does not pass the ends has the middle that it has in a circle.
-fn aim_in(layout: Layout, words: &[u64], order: &[u16]) -> Answer
+fn aim_in(layout: Layout, words: &[u64], order: &[u16]) -> Result<usize, Refusal>
     requires { (GroupWithin words.now order.now) × (Visible layout (length order.now) (marked words.now)) }
     ensures { result ≡ aim_in layout (marked words.now) order.now }
 {
     if is_consecutive(layout, words, order) {
-        return Answer::Done(middle(words, order));
+        return Ok(middle(words, order));
     }
-    Answer::Refused(Refusal::NotConsecutive)
+    Err(Refusal::NotConsecutive)
 }
 
 // Checks 9, 14 and 10 on the book's group with this number, and its aim in the standard order of the tree.
@@ -144,20 +143,20 @@ fn group_aim(
     book: &[u64],
     count: usize,
     group: usize,
-) -> Answer
+) -> Result<usize, Refusal>
     requires { Lends layout n toks.now (lent_book book.now count) }
     ensures { (t : Forest) → toks.now ≡ flat t → result ≡ aim_of_group layout n (lent_book book.now count) group t }
 {
     if group == 0 {
-        return Answer::Refused(Refusal::NoSuchGroup);
+        return Err(Refusal::NoSuchGroup);
     }
     if group > count {
-        return Answer::Refused(Refusal::NoSuchGroup);
+        return Err(Refusal::NoSuchGroup);
     }
     let at = 4 * (group - 1);
     let end = at + 4;
     if mark_sets::is_empty(&book[at..end]) {
-        return Answer::Refused(Refusal::NoAim);
+        return Err(Refusal::NoAim);
     }
     let mut order = [0u16; 256];
     let m = tree_order::order_on(layout, n, toks, &mut order);
@@ -173,12 +172,12 @@ pub fn aim(
     book: &[u64],
     count: usize,
     group: usize,
-) -> Answer
+) -> Result<usize, Refusal>
     ensures { AimPromise (lent_nodes layout n have nodes.now) (lent_book book.now count) group (report result) }
 {
     let mut toks = [0u16; 512];
     match call_checks::lent_ring(layout, n, nodes, have, book, count, &mut toks) {
-        Lent::Refused(r) => Answer::Refused(r),
-        Lent::Tree(k) => group_aim(layout, n, &toks[0..k], book, count, group),
+        Err(r) => Err(r),
+        Ok(k) => group_aim(layout, n, &toks[0..k], book, count, group),
     }
 }

@@ -10,10 +10,8 @@ ghost use Rattle.spec_calls.specs.Promises.{WritePromise, ReadPromise};
 ghost use Rattle.tree_tokens.specs.Tokens.{flat, TreeTokens};
 ghost use Rattle.call_text.specs.Fills.{Fills};
 
-use call_checks::Lent;
-use spec_calls::{Answer, Refusal};
+use spec_calls::Refusal;
 use spec_orders::Layout;
-use table_book::Checked;
 
 // Writes the text of a tree in form and zeros up to 2,048 bytes; says how long the text is.
 fn fill(toks: &[u16], bytes: &mut [u8]) -> usize
@@ -28,13 +26,13 @@ fn fill(toks: &[u16], bytes: &mut [u8]) -> usize
 
 // Writes the tree text, of a rack that of its ring of n + 1 bins, and zeros up to 2,048 bytes. Answers the text's length; or refuses (1, 15, 2, 3), and
 // leaves the bytes as they were.
-pub fn write(layout: Layout, n: usize, nodes: &[u16], have: usize, bytes: &mut [u8]) -> Answer
+pub fn write(layout: Layout, n: usize, nodes: &[u16], have: usize, bytes: &mut [u8]) -> Result<usize, Refusal>
     ensures { WritePromise (lent_nodes layout n have nodes.now) bytes.old bytes.new (report result) }
 {
     let mut toks = [0u16; 512];
     match call_checks::lent_tree(layout, n, nodes, have, bytes.len() < 2048, &mut toks) {
-        Lent::Refused(r) => Answer::Refused(r),
-        Lent::Tree(k) => Answer::Done(fill(&toks[0..k], bytes)),
+        Err(r) => Err(r),
+        Ok(k) => Ok(fill(&toks[0..k], bytes)),
     }
 }
 
@@ -47,26 +45,26 @@ pub fn read(
     have: usize,
     book: &mut [u64],
     text: &[u8],
-) -> Answer
+) -> Result<usize, Refusal>
     ensures { ReadPromise (lent_nodes layout n have nodes.old) (lent_book book.old 0) text.now nodes.new (lent_book book.new 0) (report result) }
 {
-    if let Checked::Bad(refusal) = call_checks::check_tables(
+    if let Err(refusal) = call_checks::check_tables(
         layout,
         n,
         nodes,
         have,
         book.len() < 384,
     ) {
-        return Answer::Refused(refusal);
+        return Err(refusal);
     }
     let mut toks = [0u16; 512];
-    let found = text_read::read_text(text, spec_orders::leaf_count(layout, n), &mut toks);
+    let found = text_read::read_text(text, layout.leaf_count(n), &mut toks);
     match found {
-        Err(byte) => Answer::Refused(Refusal::TreeText(byte)),
+        Err(byte) => Err(Refusal::TreeText(byte)),
         Ok(k) => {
             table_store::store(&toks[0..k], nodes);
             table_book::clear(book);
-            Answer::Done(0)
+            Ok(0)
         }
     }
 }

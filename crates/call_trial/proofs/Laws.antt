@@ -20,8 +20,8 @@ use Rattle.spec_orders.specs.Join.{join, then}
 use Rattle.mark_words.specs.Marks.{marked, words_of, outside}
 use Rattle.spec_calls.specs.declared.Refusal.{Refusal}
 use Rattle.spec_calls.specs.declared.Refusal.TheVariants.{RingSize, RackSize, ShortTable, NotInForm, OutsideRing, Repeated, BookFull, Impossible as Not-possible}
-use Rattle.spec_calls.specs.declared.Answer.{Answer}
-use Rattle.spec_calls.specs.declared.Answer.TheVariants.{Done, Refused}
+use Rattle.std.specs.declared.result.Result.{Result}
+use Rattle.std.specs.declared.result.Result.TheVariants.{Ok, Err}
 use Rattle.spec_calls.specs.Tables.{Nodes, leaves, Book, lent_book, over}
 use Rattle.spec_calls.specs.Book.{book_in_form?, booked}
 use Rattle.spec_calls.specs.NodeTable.{table_of, held_tree}
@@ -73,7 +73,7 @@ list_later n seen k (b ∷ bs) r e = go (λ h. list_later n (b ∷ seen) (suc k)
     go h false false e = h e
 
 module _ (l : Layout) (n : ℕ) (too_short : Bool) (book : Book) (list : List ℕ) where
-  pub refused_sooner : {Fact : Type 0} (r : Refusal) → first_refusal (book_checks l n book too_short) ≡ some r → Waits l n too_short book list Fact (Refused r)
+  pub refused_sooner : {Fact : Type 0} (r : Refusal) → first_refusal (book_checks l n book too_short) ≡ some r → Waits l n too_short book list Fact (Err r)
   unfolding refusal_with
   refused_sooner r e = sooner {r = r} (at none).0 (λ o. rw (or_swap too_short (short 384 book.words)) (at o).1)
     where
@@ -93,18 +93,18 @@ module _ (l : Layout) (n : ℕ) (too_short : Bool) (book : Book) (list : List �
     unfolding refusal_with
     with_tree t = rw (size_fine l n w.some_bin w.few_leaves, rack_fine l n w.few_leaves, w.long, le-ltb (length book.words) 384 w.groups.all_words, w.groups.in_form)
 
-    pub refused_list : {Fact : Type 0} (r : Refusal) → bad_list n list ≡ some r → Waits l n too_short book list Fact (Refused r)
+    pub refused_list : {Fact : Type 0} (r : Refusal) → bad_list n list ≡ some r → Waits l n too_short book list Fact (Err r)
     refused_list r e = later {r = r} (list_later n [] 0 list r e) w (λ t. with_tree t ∙ rw e)
 
     module _ (e : bad_list n list ≡ none) where
-      pub refused_full : {Fact : Type 0} → book.count ≡ 96 → Waits l n too_short book list Fact (Refused BookFull)
+      pub refused_full : {Fact : Type 0} → book.count ≡ 96 → Waits l n too_short book list Fact (Err BookFull)
       refused_full q = later {r = BookFull} refl w (λ t. with_tree t ∙ rw (e, eq-eqb book.count 96 q))
 
       by_tree : book.count ≢ 96 → (t : Forest) → refusal_with l n too_short book list (some t) ≡ first_refusal (refuse (is_none (join (group_of n list) t)) Not-possible ∷ [])
       by_tree q t = with_tree t ∙ rw (e, ne_eqb book.count 96 q)
 
   -- Where no check refuses, the other checks pass.
-  passed : {Fact : Type 0} {x : Answer} (o : Option Forest) → refusal_with l n too_short book list o ≡ none → Waits l n too_short book list Fact x
+  passed : {Fact : Type 0} {x : Result ℕ Refusal} (o : Option Forest) → refusal_with l n too_short book list o ≡ none → Waits l n too_short book list Fact x
       → BookPasses l n too_short book × (bad_list n list ≡ none) × (book.count ≢ 96) × Fact
   passed o e (sooner a b) = absurd (some_none (sym e ∙ b o))
   passed none e (later a w b) = absurd (some_none (sym e ∙ no_tree w))
@@ -133,7 +133,7 @@ module _ (l : Layout) (n : ℕ) (list words : List ℕ) (m : GroupWords n list w
   pub side_inside : false ≡ marked words 1 → Side l n list (marked words)
   side_inside q t f = ap (λ G. join G t) (sym held) ∙ join_inside words t q
 
-pub side_waits : {l : Layout} {n : ℕ} {too_short : Bool} {book : Book} {list words : List ℕ} {r : Answer} (S : Restriction)
+pub side_waits : {l : Layout} {n : ℕ} {too_short : Bool} {book : Book} {list words : List ℕ} {r : Result ℕ Refusal} (S : Restriction)
     → (GroupWords n list words → bad_list n list ≡ none → leaf_count l n ≤ 256 → Side l n list S) → Waits l n too_short book list (GroupWords n list words) r
     → Waits l n too_short book list (Side l n list S) r
 side_waits S f (sooner a b) = sooner a b
@@ -175,22 +175,22 @@ module _ (nodes : Nodes) (book : Book) (list : List ℕ) where
   passes (some t) h = refl
 
   -- The verdict and what waits.
-  settles : (S : Restriction) (v : Verdict) (x : Answer) → (BookPasses nodes.layout nodes.bins (short_nodes nodes) book → Told (leaves nodes) S nodes.rows v)
+  settles : (S : Restriction) (v : Verdict) (x : Result ℕ Refusal) → (BookPasses nodes.layout nodes.bins (short_nodes nodes) book → Told (leaves nodes) S nodes.rows v)
       → Waits nodes.layout nodes.bins (short_nodes nodes) book list (Side nodes.layout nodes.bins list S) x → TrialPromise nodes book list (report (settled v x))
-  settles S Possible (Refused r) told (sooner a b) = refused_so (held_tree nodes) r refl (b (held_tree nodes))
-  settles S Impossible (Refused r) told (sooner a b) = refused_so (held_tree nodes) r refl (b (held_tree nodes))
-  settles S NoTree (Refused r) told (sooner a b) = rw a (refused_so (held_tree nodes) r refl (b (held_tree nodes)))
-  settles S Possible (Refused r) told (later a w b) = let h = told w in refused_so (some h.0) r h.1 (b h.0)
-  settles S Impossible (Refused r) told (later a w b) = let h = told w in refused_so (some h.0) r h.1 (b h.0)
-  settles S NoTree (Refused r) told (later a w b) = rw a (refused_so none NotInForm (told w) (no_tree nodes.layout nodes.bins (short_nodes nodes) book list w))
-  settles S Possible (Done k) told (counts q w e f m) = let h = told w in done_so h.0 k q h.1 (judged S h.0 w e f m h.1 ∙ passes (reduce S h.0) h.2)
-  settles S Impossible (Done k) told (counts q w e f m) =
+  settles S Possible (Err r) told (sooner a b) = refused_so (held_tree nodes) r refl (b (held_tree nodes))
+  settles S Impossible (Err r) told (sooner a b) = refused_so (held_tree nodes) r refl (b (held_tree nodes))
+  settles S NoTree (Err r) told (sooner a b) = rw a (refused_so (held_tree nodes) r refl (b (held_tree nodes)))
+  settles S Possible (Err r) told (later a w b) = let h = told w in refused_so (some h.0) r h.1 (b h.0)
+  settles S Impossible (Err r) told (later a w b) = let h = told w in refused_so (some h.0) r h.1 (b h.0)
+  settles S NoTree (Err r) told (later a w b) = rw a (refused_so none NotInForm (told w) (no_tree nodes.layout nodes.bins (short_nodes nodes) book list w))
+  settles S Possible (Ok k) told (counts q w e f m) = let h = told w in done_so h.0 k q h.1 (judged S h.0 w e f m h.1 ∙ passes (reduce S h.0) h.2)
+  settles S Impossible (Ok k) told (counts q w e f m) =
       let h = told w in
       refused_so (some h.0) Not-possible h.1 (judged S h.0 w e f m h.1 ∙ ap (λ o. first_refusal (refuse (is_none o) Not-possible ∷ [])) h.2)
-  settles S NoTree (Done k) told (counts q w e f m) = refused_so none NotInForm (told w) (no_tree nodes.layout nodes.bins (short_nodes nodes) book list w)
+  settles S NoTree (Ok k) told (counts q w e f m) = refused_so none NotInForm (told w) (no_tree nodes.layout nodes.bins (short_nodes nodes) book list w)
 
   -- k is how many leaves the tree has, where the count of bins passes.
-  pub concluded : (k : ℕ) → (nodes.bins ≤ 256 → k ≡ leaves nodes) → (work : List ℕ) (v : Verdict) (x : Answer)
+  pub concluded : (k : ℕ) → (nodes.bins ≤ 256 → k ≡ leaves nodes) → (work : List ℕ) (v : Verdict) (x : Result ℕ Refusal)
       → ((S : Restriction) (table : List ℕ) → 1 ≤ k → k ≤ 256 → 65792 ≤ length table → Swept k S table 0 work → Told k S table v)
       → AfterSweep nodes book list work x → TrialPromise nodes book list (report (settled v x))
   concluded k is work v x verdict h = settles h.side v x told h.waits
@@ -203,17 +203,17 @@ module _ (nodes : Nodes) (book : Book) (list : List ℕ) where
           at h.side nodes.rows (some_leaf nodes.layout nodes.bins w.some_bin) w.few_leaves (nodes-whole nodes w.long).1 (h.swept few)
 
   -- The node table is too short.
-  refused_short : (too_short : Bool) (work : List ℕ) (other : Answer) → short_nodes nodes ≡ too_short → too_short ≡ true → Ready nodes.layout nodes.bins too_short book list work other
+  refused_short : (too_short : Bool) (work : List ℕ) (other : Result ℕ Refusal) → short_nodes nodes ≡ too_short → too_short ≡ true → Ready nodes.layout nodes.bins too_short book list work other
       → TrialPromise nodes book list (report other)
   refused_short too_short work other e s h = go other h.waits
     where
-      go : (x : Answer) → Waits nodes.layout nodes.bins too_short book list (Side nodes.layout nodes.bins list h.side) x → TrialPromise nodes book list (report x)
-      go (Refused r) (sooner a b) = refused_so (held_tree nodes) r refl (ap (λ c. refusal_with nodes.layout nodes.bins c book list (held_tree nodes)) e ∙ b (held_tree nodes))
-      go (Refused r) (later a w b) = absurd (true≢false (sym s ∙ w.long))
-      go (Done k) (counts q w f m y) = absurd (true≢false (sym s ∙ w.long))
+      go : (x : Result ℕ Refusal) → Waits nodes.layout nodes.bins too_short book list (Side nodes.layout nodes.bins list h.side) x → TrialPromise nodes book list (report x)
+      go (Err r) (sooner a b) = refused_so (held_tree nodes) r refl (ap (λ c. refusal_with nodes.layout nodes.bins c book list (held_tree nodes)) e ∙ b (held_tree nodes))
+      go (Err r) (later a w b) = absurd (true≢false (sym s ∙ w.long))
+      go (Ok k) (counts q w f m y) = absurd (true≢false (sym s ∙ w.long))
 
 -- The node table was swept, as one of k leaves.
-pub swept_read : {nodes : Nodes} {k : ℕ} {too_short : Bool} {book : Book} {list work new : List ℕ} {other : Answer}
+pub swept_read : {nodes : Nodes} {k : ℕ} {too_short : Bool} {book : Book} {list work new : List ℕ} {other : Result ℕ Refusal}
     → short_nodes nodes ≡ too_short → (nodes.bins ≤ 256 → k ≡ leaves nodes) → Ready nodes.layout nodes.bins too_short book list work other
     → ((S : Restriction) → Started k S work → Swept k S nodes.rows 0 new) → AfterSweep nodes book list new other
 swept_read {nodes} {k} {book = book} {list = list} {new = new} {other = other} e is h s = record {
@@ -251,7 +251,7 @@ module _ (nodes : Nodes) (book : Book) (list : List ℕ) where
       go (some x) q e = absurd (refused_number x (sym (ap (λ (s : Reply). s.number) e)))
 
   -- Where the trial answers with a count, the group can join the tree that the table holds.
-  joinable : {marks : List ℕ} {S : Restriction} {k : ℕ} {waiting : Answer} → TrialPromise nodes book list (reply 0 k)
+  joinable : {marks : List ℕ} {S : Restriction} {k : ℕ} {waiting : Result ℕ Refusal} → TrialPromise nodes book list (reply 0 k)
       → Waits nodes.layout nodes.bins (short_nodes nodes) book list (GroupWords nodes.bins list marks) waiting → Waits nodes.layout nodes.bins (short_nodes nodes) book list (Side nodes.layout nodes.bins list S) waiting
       → Joinable nodes book list marks S k
   joinable h a b =
@@ -286,17 +286,17 @@ module _ (nodes : Nodes) (book : Book) (list : List ℕ) where
       ∙ ap₂ (λ o t. joined o t nodes book list) (sym j.passes) (sym (ap (λ o. then o (join (group_of nodes.bins list))) j.held ∙ j.joined)))
 
   -- What a trial says: of a table that is too short, and of one that was swept.
-  pub says_short : (marks work : List ℕ) {too_short : Bool} {r : Answer} → short_nodes nodes ≡ too_short → too_short ≡ true → Ready nodes.layout nodes.bins too_short book list work r
+  pub says_short : (marks work : List ℕ) {too_short : Bool} {r : Result ℕ Refusal} → short_nodes nodes ≡ too_short → too_short ≡ true → Ready nodes.layout nodes.bins too_short book list work r
       → TrialSays nodes book list marks work r
   says_short marks work {too_short} {r} e s h = record {
     promise = refused_short nodes book list too_short work r e s h;
     joins = λ k q. go (subst (Waits nodes.layout nodes.bins too_short book list (Side nodes.layout nodes.bins list h.side)) q h.waits);
   }
     where
-      go : {k : ℕ} {A : Type 0} → Waits nodes.layout nodes.bins too_short book list (Side nodes.layout nodes.bins list h.side) (Done k) → A
+      go : {k : ℕ} {A : Type 0} → Waits nodes.layout nodes.bins too_short book list (Side nodes.layout nodes.bins list h.side) (Ok k) → A
       go (counts q w f m y) = absurd (true≢false (sym s ∙ w.long))
 
-  pub says_swept : (marks work : List ℕ) {too_short : Bool} {waiting r : Answer} → short_nodes nodes ≡ too_short → TrialPromise nodes book list (report r)
+  pub says_swept : (marks work : List ℕ) {too_short : Bool} {waiting r : Result ℕ Refusal} → short_nodes nodes ≡ too_short → TrialPromise nodes book list (report r)
       → Waits nodes.layout nodes.bins too_short book list (GroupWords nodes.bins list marks) waiting → AfterSweep nodes book list work waiting → TrialSays nodes book list marks work r
   says_swept marks work {waiting = waiting} e p w h = record {
     promise = p;

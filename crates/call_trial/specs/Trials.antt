@@ -11,8 +11,8 @@ use Rattle.spec_orders.specs.Join.{join, then}
 use Rattle.mark_words.specs.Marks.{words_of}
 use Rattle.spec_calls.specs.declared.Refusal.{Refusal}
 use Rattle.spec_calls.specs.declared.Refusal.TheVariants.{ShortTable, NotInForm, BookFull, Impossible as Not-possible}
-use Rattle.spec_calls.specs.declared.Answer.{Answer}
-use Rattle.spec_calls.specs.declared.Answer.TheVariants.{Done, Refused}
+use Rattle.std.specs.declared.result.Result.{Result}
+use Rattle.std.specs.declared.result.Result.TheVariants.{Ok, Err}
 use Rattle.spec_calls.specs.Tables.{Nodes, leaves, Book}
 use Rattle.spec_calls.specs.Book.{book_in_form?}
 use Rattle.spec_calls.specs.NodeTable.{held_tree}
@@ -47,11 +47,11 @@ up_to_3 r = leb (reported r).number 3 || eqb (reported r).number 15
 
 -- What the other checks answer: a refusal whatever the table holds; one that comes after the table's own; or the new count, and then it is 8 where
 -- the group cannot join the tree. `Fact` is known of a group that comes so far.
-pub data Waits (l : Layout) (n : ℕ) (too_short : Bool) (book : Book) (list : List ℕ) (Fact : Type 0) : Answer → Type 0 where
-  sooner : {r : Refusal} → up_to_3 r ≡ true → ((o : Option Forest) → refusal_with l n too_short book list o ≡ some r) → Waits l n too_short book list Fact (Refused r)
+pub data Waits (l : Layout) (n : ℕ) (too_short : Bool) (book : Book) (list : List ℕ) (Fact : Type 0) : Result ℕ Refusal → Type 0 where
+  sooner : {r : Refusal} → up_to_3 r ≡ true → ((o : Option Forest) → refusal_with l n too_short book list o ≡ some r) → Waits l n too_short book list Fact (Err r)
   later : {r : Refusal} → up_to_3 r ≡ false → BookPasses l n too_short book → ((t : Forest) → refusal_with l n too_short book list (some t) ≡ some r)
-      → Waits l n too_short book list Fact (Refused r)
-  counts : {k : ℕ} → k ≡ book.count + 1 → BookPasses l n too_short book → bad_list n list ≡ none → book.count ≢ 96 → Fact → Waits l n too_short book list Fact (Done k)
+      → Waits l n too_short book list Fact (Err r)
+  counts : {k : ℕ} → k ≡ book.count + 1 → BookPasses l n too_short book → bad_list n list ≡ none → book.count ≢ 96 → Fact → Waits l n too_short book list Fact (Ok k)
 
 -- The four words are those of the group.
 abbrev pub GroupWords : ℕ → List ℕ → List ℕ → Type 0
@@ -62,13 +62,13 @@ abbrev pub Side : Layout → ℕ → List ℕ → Restriction → Type 0
 Side l n list S = (t : Forest) → InForm (leaf_count l n) t → join (group_of n list) t ≡ reduce S t
 
 -- The other checks are made, and work is ready for the node table.
-pub record Ready (l : Layout) (n : ℕ) (too_short : Bool) (book : Book) (list work : List ℕ) (waiting : Answer) : Type 0 where
+pub record Ready (l : Layout) (n : ℕ) (too_short : Bool) (book : Book) (list work : List ℕ) (waiting : Result ℕ Refusal) : Type 0 where
   pub side : Restriction
   pub waits : Waits l n too_short book list (Side l n list side) waiting
   pub started : (k : ℕ) → Started k side work
 
 -- And the node table was swept.
-pub record AfterSweep (nodes : Nodes) (book : Book) (list work : List ℕ) (waiting : Answer) : Type 0 where
+pub record AfterSweep (nodes : Nodes) (book : Book) (list work : List ℕ) (waiting : Result ℕ Refusal) : Type 0 where
   pub side : Restriction
   pub waits : Waits nodes.layout nodes.bins (short_nodes nodes) book list (Side nodes.layout nodes.bins list side) waiting
   pub swept : nodes.bins ≤ 256 → Swept (leaves nodes) side nodes.rows 0 work
@@ -90,14 +90,14 @@ pub record Joinable (nodes : Nodes) (book : Book) (list marks : List ℕ) (S : R
   pub count_is : k ≡ book.count + 1
 
 -- What a trial says: its promise; and where it answers with a count, the group can join the tree of the table, which was swept with the side S.
-pub record TrialSays (nodes : Nodes) (book : Book) (list marks work : List ℕ) (r : Answer) : Type 0 where
+pub record TrialSays (nodes : Nodes) (book : Book) (list marks work : List ℕ) (r : Result ℕ Refusal) : Type 0 where
   pub promise : TrialPromise nodes book list (report r)
-  pub joins : (k : ℕ) → r ≡ Done k → (S : Restriction) × Joinable nodes book list marks S k × Swept (leaves nodes) S nodes.rows 0 work
+  pub joins : (k : ℕ) → r ≡ Ok k → (S : Restriction) × Joinable nodes book list marks S k × Swept (leaves nodes) S nodes.rows 0 work
 
 -- The first of two answers, down the table of refusals: what the node table says, and what waits for it.
-abbrev pub settled : Verdict → Answer → Answer
+abbrev pub settled : Verdict → Result ℕ Refusal → Result ℕ Refusal
 settled Possible waiting = waiting
-settled Impossible (Refused r) = Refused r
-settled Impossible (Done k) = Refused Not-possible
-settled NoTree (Refused r) = cond (up_to_3 r) (Refused r) (Refused NotInForm)
-settled NoTree (Done k) = Refused NotInForm
+settled Impossible (Err r) = Err r
+settled Impossible (Ok k) = Err Not-possible
+settled NoTree (Err r) = cond (up_to_3 r) (Err r) (Err NotInForm)
+settled NoTree (Ok k) = Err NotInForm

@@ -11,9 +11,8 @@ ghost use Rattle.spec_calls.specs.Refusals.{report, bad_list};
 ghost use Rattle.spec_calls.specs.Promises.{TrialPromise};
 ghost use Rattle.call_trial.specs.Trials.{Waits, GroupWords, Side, Ready, AfterSweep, up_to_3, settled};
 
-use spec_calls::{Answer, Refusal};
+use spec_calls::Refusal;
 use spec_orders::Layout;
-use table_book::Checked;
 use table_sweep::Verdict;
 
 // Checks 1, 15, 2, 3 on the book, 5, 6 and 7; `short` says that the node table is too short. Answers the new count of groups, or refuses. Where it does
@@ -26,20 +25,20 @@ fn check_group(
     count: usize,
     list: &[u16],
     marks: &mut [u64],
-) -> Answer
+) -> Result<usize, Refusal>
     requires { length marks.old ≡ 4 }
     ensures { Waits layout n short (lent_book book.now count) list.now (GroupWords n list.now marks.new) result }
 {
-    if let Checked::Bad(refusal) = call_checks::lent_book(layout, n, book, count, short) {
-        return Answer::Refused(refusal);
+    if let Err(refusal) = call_checks::lent_book(layout, n, book, count, short) {
+        return Err(refusal);
     }
-    if let Checked::Bad(refusal) = table_book::check_list(list, n, marks) {
-        return Answer::Refused(refusal);
+    if let Err(refusal) = table_book::check_list(list, n, marks) {
+        return Err(refusal);
     }
     if count == 96 {
-        return Answer::Refused(Refusal::BookFull);
+        return Err(Refusal::BookFull);
     }
-    Answer::Done(count + 1)
+    Ok(count + 1)
 }
 
 // The marks of a group become those of its side that leaf 1 is not in.
@@ -65,14 +64,14 @@ pub fn prepare(
     list: &[u16],
     marks: &mut [u64],
     work: &mut [u64],
-) -> Answer
+) -> Result<usize, Refusal>
     requires { (length marks.old ≡ 4) × (length work.old ≡ 265) }
     ensures { (Waits layout n short (lent_book book.now count) list.now (GroupWords n list.now marks.new) result)
         × (Ready layout n short (lent_book book.now count) list.now work.new result) }
 {
     let answer = check_group(layout, n, short, book, count, list, marks);
     let mut side = [marks[0], marks[1], marks[2], marks[3]];
-    take_side(&mut side, spec_orders::leaf_count(layout, n));
+    take_side(&mut side, layout.leaf_count(n));
     table_sweep::begin(&side, work);
     answer
 }
@@ -86,7 +85,7 @@ pub fn ready(
     count: usize,
     list: &[u16],
     work: &mut [u64],
-) -> Answer
+) -> Result<usize, Refusal>
     requires { length work.old ≡ 265 }
     ensures { Ready layout n short (lent_book book.now count) list.now work.new result }
 {
@@ -98,7 +97,7 @@ pub fn ready(
 fn up_to_3(refusal: Refusal) -> bool
     ensures { result ≡ up_to_3 refusal }
 {
-    let number = spec_calls::number(refusal);
+    let number = refusal.number();
     if number <= 3 {
         return true;
     }
@@ -106,35 +105,35 @@ fn up_to_3(refusal: Refusal) -> bool
 }
 
 // The first of two answers, down the table of refusals: what the node table says, 3 or 8, and what waits for it.
-fn settled(verdict: Verdict, waiting: Answer) -> Answer
+fn settled(verdict: Verdict, waiting: Result<usize, Refusal>) -> Result<usize, Refusal>
     ensures { result ≡ settled verdict waiting }
 {
     match verdict {
         Verdict::Possible => waiting,
         Verdict::Impossible => match waiting {
-            Answer::Refused(_) => waiting,
-            Answer::Done(_) => Answer::Refused(Refusal::Impossible),
+            Err(_) => waiting,
+            Ok(_) => Err(Refusal::Impossible),
         },
         Verdict::NoTree => match waiting {
-            Answer::Refused(refusal) => {
+            Err(refusal) => {
                 if up_to_3(refusal) {
                     return waiting;
                 }
-                Answer::Refused(Refusal::NotInForm)
+                Err(Refusal::NotInForm)
             }
-            Answer::Done(_) => Answer::Refused(Refusal::NotInForm),
+            Ok(_) => Err(Refusal::NotInForm),
         },
     }
 }
 
 // What the trial answers when the node table was swept. `waiting` is what it answers if the table holds a tree that the group can join.
-pub fn conclude(layout: Layout, n: usize, work: &[u64], waiting: Answer) -> Answer
+pub fn conclude(layout: Layout, n: usize, work: &[u64], waiting: Result<usize, Refusal>) -> Result<usize, Refusal>
     requires { length work.now ≡ 265 }
     ensures { (records : ℕ) (rows : List ℕ) (book : Book) (list : List ℕ) → AfterSweep (lent_nodes layout n records rows) book list work.now waiting
         → TrialPromise (lent_nodes layout n records rows) book list (report result) }
 {
     settled(
-        table_sweep::at_end(spec_orders::leaf_count(layout, n), work),
+        table_sweep::at_end(layout.leaf_count(n), work),
         waiting,
     )
 }

@@ -8,28 +8,27 @@ ghost use Rattle.spec_calls.specs.Refusals.{report};
 ghost use Rattle.spec_calls.specs.Promises.{OpenPromise, JoinPromise, TrialPromise};
 ghost use Rattle.call_trial.specs.Trials.{TrialSays};
 
-use spec_calls::Answer;
+use spec_calls::Refusal;
 use spec_orders::Layout;
-use table_book::Checked;
 
 // Opens a ring or rack of n bins: its node table gets the fresh tree, and its book is emptied. Answers the count of groups, 0; or refuses (1, 15, 2).
-pub fn open(layout: Layout, n: usize, nodes: &mut [u16], have: usize, book: &mut [u64]) -> Answer
+pub fn open(layout: Layout, n: usize, nodes: &mut [u16], have: usize, book: &mut [u64]) -> Result<usize, Refusal>
     ensures { OpenPromise (lent_nodes layout n have nodes.old) (lent_book book.old 0) nodes.new (lent_book book.new 0) (report result) }
 {
-    if let Checked::Bad(refusal) = call_checks::check_tables(
+    if let Err(refusal) = call_checks::check_tables(
         layout,
         n,
         nodes,
         have,
         book.len() < 384,
     ) {
-        return Answer::Refused(refusal);
+        return Err(refusal);
     }
     let mut toks = [0u16; 512];
-    let k = tree_tokens::fresh(spec_orders::leaf_count(layout, n), &mut toks);
+    let k = tree_tokens::fresh(layout.leaf_count(n), &mut toks);
     table_store::store(&toks[0..k], nodes);
     table_book::clear(book);
-    Answer::Done(0)
+    Ok(0)
 }
 
 // Answers as joining the list's group would. Where it does not refuse, marks has the group's four words, and work what the sweep of the node table
@@ -44,7 +43,7 @@ fn tried(
     list: &[u16],
     marks: &mut [u64],
     work: &mut [u64],
-) -> Answer
+) -> Result<usize, Refusal>
     requires { (length marks.old ≡ 4) × (length work.old ≡ 265) }
     ensures { TrialSays (lent_nodes layout n have nodes.now) (lent_book book.now count) list.now marks.new work.new result }
 {
@@ -53,7 +52,7 @@ fn tried(
     if short {
         return waiting;
     }
-    table_sweep::sweep(nodes, spec_orders::leaf_count(layout, n), work);
+    table_sweep::sweep(nodes, layout.leaf_count(n), work);
     call_trial::conclude(layout, n, work, waiting)
 }
 
@@ -67,7 +66,7 @@ pub fn join(
     book: &mut [u64],
     count: usize,
     list: &[u16],
-) -> Answer
+) -> Result<usize, Refusal>
     ensures { JoinPromise (lent_nodes layout n have nodes.old) (lent_book book.old count) list.now nodes.new (lent_book book.new count) (report result) }
 {
     let mut marks = [0u64; 4];
@@ -75,12 +74,12 @@ pub fn join(
     let answer = tried(
         layout, n, nodes, have, book, count, list, &mut marks, &mut work,
     );
-    let Answer::Done(next) = answer else {
+    let Ok(next) = answer else {
         return answer;
     };
-    table_update::update(spec_orders::leaf_count(layout, n), nodes, &work);
+    table_update::update(layout.leaf_count(n), nodes, &work);
     table_book::put(book, count, &marks);
-    Answer::Done(next)
+    Ok(next)
 }
 
 // Answers as joining the list's group would, and changes nothing.
@@ -92,7 +91,7 @@ pub fn trial(
     book: &[u64],
     count: usize,
     list: &[u16],
-) -> Answer
+) -> Result<usize, Refusal>
     ensures { TrialPromise (lent_nodes layout n have nodes.now) (lent_book book.now count) list.now (report result) }
 {
     let mut marks = [0u64; 4];

@@ -7,7 +7,6 @@ ghost use Rattle.spec_orders.specs.Tree.{Forest};
 ghost use Rattle.list_attempt.specs.Attempts.{Attempts};
 
 use spec_calls::Refusal;
-use table_book::Checked;
 
 // Checks 5 to 8 on a tree and the count of a book in form. Writes the group's four words to marks, and the tree with the group joined to it to
 // the start of out. Returns how many tokens it has.
@@ -23,9 +22,7 @@ pub fn attempt(
     ensures { (t : Forest) → toks.now ≡ flat t
         → Attempts t n count list.now marks.new out.old out.new result }
 {
-    if let Checked::Bad(refusal) = table_book::check_list(list, n, marks) {
-        return Err(refusal);
-    }
+    table_book::check_list(list, n, marks)?;
     if count == 96 {
         return Err(Refusal::BookFull);
     }

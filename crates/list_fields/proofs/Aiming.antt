@@ -21,17 +21,18 @@ use Rattle.mark_words.specs.Marks.{marked, words_of, leaves_of}
 use Rattle.mark_words.proofs.Words.{length_words}
 use Rattle.mark_words.proofs.Leaves.{marked_group, size_of_list}
 use Rattle.spec_calls.proofs.Demands.{well_formed_passes}
-use Rattle.table_book.specs.declared.Checked.{Checked}
-use Rattle.table_book.specs.declared.Checked.TheVariants.{Fine, Bad}
+use Rattle.std.specs.declared.result.Result.{Result}
+use Rattle.std.specs.declared.result.Result.TheVariants.{Ok, Err}
 use Rattle.table_book.specs.Lists.{ListChecked}
 use Rattle.spec_listing.specs.Listing.{name, aim_field}
 use Rattle.call_order.specs.Starts.{GroupWithin}
 use Rattle.list_fields.specs.Ordered.{Ordered}
+use Rattle.spec_calls.specs.declared.Refusal.{Refusal}
 
 -- A well_formed list passes the checks.
-pub line_marked : (n : ℕ) (list words : List ℕ) (r : Checked) → WellFormed n list → ListChecked n list words r → words ≡ words_of 4 (group_of n list)
-line_marked n list words Fine g h = h.1
-line_marked n list words (Bad r) g h = absurd (let e = sym (well_formed_passes n list g) ∙ h in let z : ◌≡◌ {A = ℕ} 0 1 = cc in omega (arith, z))
+pub line_marked : (n : ℕ) (list words : List ℕ) (r : Result (Unit {0}) Refusal) → WellFormed n list → ListChecked n list words r → words ≡ words_of 4 (group_of n list)
+line_marked n list words (Ok tt) g h = h.1
+line_marked n list words (Err r) g h = absurd (let e = sym (well_formed_passes n list g) ∙ h in let z : ◌≡◌ {A = ℕ} 0 1 = cc in omega (arith, z))
 
 -- The field of the aim, where there is a leaf; the fields where there is none.
 pub leaf_told : (names : List (List ℕ)) (ord list : List ℕ) → length list ≢ 0 → name names (aim_of Ring (elem list) ord) ≡ aim_field names ord list

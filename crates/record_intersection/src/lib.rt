@@ -8,7 +8,7 @@ ghost use Rattle.record_copy.specs.Rows.{node_rows};
 ghost use Rattle.record_left.specs.Records.{lent_records, Left};
 
 use record_copy::Node;
-use spec_calls::Answer;
+use spec_calls::Refusal;
 use spec_orders::Layout;
 
 // Writes the tree that allows exactly the orders allowed by the tree of n bins and by that of m to the third node table; a rack is taken as its ring
@@ -21,7 +21,7 @@ pub fn intersect(
     m: usize,
     other: &[Node],
     third: &mut [Node],
-) -> Answer
+) -> Result<usize, Refusal>
     ensures { IntersectPromise (lent_records layout n nodes.now) (lent_records layout2 m other.now) (lent_records layout n third.old) (node_rows third.new) (report result) × Left third.old third.new (report result) }
 {
     let mut flat = [0u16; 65792];
@@ -41,7 +41,7 @@ fn third_in_rows(
     other: &[Node],
     third: &mut [u16],
     room: usize,
-) -> Answer
+) -> Result<usize, Refusal>
     ensures { IntersectPromise (lent_records layout n nodes.now) (lent_records layout2 m other.now) (lent_nodes layout n room third.old) third.new (report result) }
 {
     let mut flat = [0u16; 65792];
@@ -60,7 +60,7 @@ fn other_in_rows(
     had: usize,
     third: &mut [u16],
     room: usize,
-) -> Answer
+) -> Result<usize, Refusal>
     ensures { IntersectPromise (lent_records layout n nodes.now) (lent_nodes layout2 m had other.now) (lent_nodes layout n room third.old) third.new (report result) }
 {
     let mut flat = [0u16; 65792];

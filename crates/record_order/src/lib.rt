@@ -7,12 +7,12 @@ ghost use Rattle.spec_calls.specs.Promises.{OrderPromise, AimPromise};
 ghost use Rattle.record_left.specs.Records.{lent_records};
 
 use record_copy::Node;
-use spec_calls::Answer;
+use spec_calls::Refusal;
 use spec_orders::Layout;
 
 // Writes the standard order, of a ring from leaf 1, of a rack the first allowed list, to the first n places of order. Answers n; or refuses (1, 15,
 // 2, 3), and leaves every table as it was.
-pub fn order(layout: Layout, n: usize, nodes: &[Node], order: &mut [u16]) -> Answer
+pub fn order(layout: Layout, n: usize, nodes: &[Node], order: &mut [u16]) -> Result<usize, Refusal>
     ensures { OrderPromise (lent_records layout n nodes.now) order.old order.new (report result) }
 {
     let mut flat = [0u16; 65792];
@@ -29,7 +29,7 @@ pub fn aim(
     book: &[u64],
     count: usize,
     group: usize,
-) -> Answer
+) -> Result<usize, Refusal>
     ensures { AimPromise (lent_records layout n nodes.now) (lent_book book.now count) group (report result) }
 {
     let mut flat = [0u16; 65792];

@@ -7,7 +7,7 @@ ghost use Rattle.spec_calls.specs.Promises.{TrialPromise};
 ghost use Rattle.record_left.specs.Records.{lent_records};
 
 use record_copy::Node;
-use spec_calls::Answer;
+use spec_calls::Refusal;
 use spec_orders::Layout;
 
 // Answers as joining the list's group would, and changes nothing.
@@ -18,13 +18,13 @@ pub fn trial(
     book: &[u64],
     count: usize,
     list: &[u16],
-) -> Answer
+) -> Result<usize, Refusal>
     ensures { TrialPromise (lent_records layout n nodes.now) (lent_book book.now count) list.now (report result) }
 {
     let mut work = [0u64; 265];
     let short = nodes.len() < 256;
     let waiting = call_trial::ready(layout, n, short, book, count, list, &mut work);
-    let leaves = spec_orders::leaf_count(layout, n);
+    let leaves = layout.leaf_count(n);
     record_sweep::sweep(nodes, leaves, &mut work);
     call_trial::conclude(layout, n, &work, waiting)
 }

@@ -9,12 +9,12 @@ ghost use Rattle.record_copy.specs.Rows.{node_rows};
 ghost use Rattle.record_left.specs.Records.{lent_records, Left};
 
 use record_copy::Node;
-use spec_calls::Answer;
+use spec_calls::Refusal;
 use spec_orders::Layout;
 
 // Opens a ring or a rack of n bins: its node table gets the fresh tree, and its book is emptied. Answers the count of groups, 0; or refuses (1, 15,
 // 2), and leaves every table as it was.
-pub fn open(layout: Layout, n: usize, nodes: &mut [Node], book: &mut [u64]) -> Answer
+pub fn open(layout: Layout, n: usize, nodes: &mut [Node], book: &mut [u64]) -> Result<usize, Refusal>
     ensures { OpenPromise (lent_records layout n nodes.old) (lent_book book.old 0) (node_rows nodes.new) (lent_book book.new 0) (report result) × Left nodes.old nodes.new (report result) }
 {
     let mut flat = [0u16; 65792];
@@ -33,7 +33,7 @@ pub fn join(
     book: &mut [u64],
     count: usize,
     list: &[u16],
-) -> Answer
+) -> Result<usize, Refusal>
     ensures { JoinPromise (lent_records layout n nodes.old) (lent_book book.old count) list.now (node_rows nodes.new) (lent_book book.new count) (report result) × Left nodes.old nodes.new (report result) }
 {
     let mut flat = [0u16; 65792];

@@ -7,8 +7,8 @@ use native.Mathlib.Omega.{arith}
 use lib.Dec.{eqb}
 use Rattle.spec_calls.specs.declared.Refusal.{Refusal}
 use Rattle.spec_calls.specs.declared.Refusal.TheVariants.{RingSize, ShortTable, NotInForm, OutsideRing, Repeated, BookFull, Impossible, NoSuchGroup, NotConsecutive, RingFile, TreeText, BinCounts, NoAim, RackSize, ZeroSeed, GroupCount}
-use Rattle.spec_calls.specs.declared.Answer.{Answer}
-use Rattle.spec_calls.specs.declared.Answer.TheVariants.{Done, Refused}
+use Rattle.std.specs.declared.result.Result.{Result}
+use Rattle.std.specs.declared.result.Result.TheVariants.{Ok, Err}
 use Rattle.spec_calls.specs.Refusals.{Reply, reply, reported, report}
 
 -- The refusal with these numbers, and the answer.
@@ -19,10 +19,10 @@ refusal_of r v =
     (cond (eqb r 11) (RingFile v) (cond (eqb r 12) (TreeText v) (cond (eqb r 13) BinCounts (cond (eqb r 14) NoAim
     (cond (eqb r 15) RackSize (cond (eqb r 16) ZeroSeed (cond (eqb r 17) GroupCount RingSize))))))))))))))
 
-abbrev answer_of : Reply → Answer
-answer_of s = cond (eqb s.number 0) (Done s.value) (Refused (refusal_of s.number s.value))
+abbrev answer_of : Reply → Result ℕ Refusal
+answer_of s = cond (eqb s.number 0) (Ok s.value) (Err (refusal_of s.number s.value))
 
-refused_back : (why : Refusal) → answer_of (reported why) ≡ Refused why
+refused_back : (why : Refusal) → answer_of (reported why) ≡ Err why
 refused_back RingSize = refl
 refused_back ShortTable = refl
 refused_back NotInForm = refl
@@ -40,11 +40,11 @@ refused_back RackSize = refl
 refused_back ZeroSeed = refl
 refused_back GroupCount = refl
 
-answer_back : (a : Answer) → answer_of (report a) ≡ a
-answer_back (Done v) = refl
-answer_back (Refused why) = refused_back why
+answer_back : (a : Result ℕ Refusal) → answer_of (report a) ≡ a
+answer_back (Ok v) = refl
+answer_back (Err why) = refused_back why
 
-pub report_once : (a b : Answer) → report a ≡ report b → a ≡ b
+pub report_once : (a b : Result ℕ Refusal) → report a ≡ report b → a ≡ b
 report_once a b e = sym (answer_back a) ∙ ap answer_of e ∙ answer_back b
 
 -- No refusal's number is 0, or 4.
@@ -73,8 +73,8 @@ pub never_4 : (why : Refusal) → (reported why).number ≢ 4
 never_4 why = (neither why).1
 
 -- What `code` returns and writes.
-pub done_reply : (v : ℕ) (a : Answer) → a ≡ Done v → reply 0 v ≡ report a
+pub done_reply : (v : ℕ) (a : Result ℕ Refusal) → a ≡ Ok v → reply 0 v ≡ report a
 done_reply v a e = sym (ap report e)
 
-pub refused_reply : (r v : ℕ) (why : Refusal) (a : Answer) → a ≡ Refused why → r ≡ (reported why).number → v ≡ (reported why).value → reply r v ≡ report a
+pub refused_reply : (r v : ℕ) (why : Refusal) (a : Result ℕ Refusal) → a ≡ Err why → r ≡ (reported why).number → v ≡ (reported why).value → reply r v ≡ report a
 refused_reply r v why a e p q = ap₂ reply p q ∙ sym (ap report e)

@@ -7,8 +7,8 @@ use Rattle.spec_orders.specs.declared.Layout.TheVariants.{Ring, Rack}
 use Rattle.spec_orders.specs.Lists.{elem}
 use Rattle.spec_calls.specs.declared.Refusal.{Refusal}
 use Rattle.spec_calls.specs.declared.Refusal.TheVariants.{RingSize, ShortTable, NotInForm, OutsideRing, Repeated, BookFull, Impossible, NoSuchGroup, NotConsecutive, RingFile, TreeText, BinCounts, NoAim, RackSize, ZeroSeed, GroupCount}
-use Rattle.spec_calls.specs.declared.Answer.{Answer}
-use Rattle.spec_calls.specs.declared.Answer.TheVariants.{Done, Refused}
+use Rattle.std.specs.declared.result.Result.{Result}
+use Rattle.std.specs.declared.result.Result.TheVariants.{Ok, Err}
 use Rattle.spec_calls.specs.Tables.{Nodes}
 
 -- What a call returns, in the paper's numbers: 0 and its own number; or the number of a refusal, and the place or byte that the table names, 0
@@ -38,9 +38,9 @@ reported RackSize = reply 15 0
 reported ZeroSeed = reply 16 0
 reported GroupCount = reply 17 0
 
-abbrev pub report : Answer → Reply
-report (Done value) = reply 0 value
-report (Refused refusal) = reported refusal
+abbrev pub report : Result ℕ Refusal → Reply
+report (Ok value) = reply 0 value
+report (Err refusal) = reported refusal
 
 -- A check, and "down the table": the first one that refuses.
 abbrev pub refuse : Bool → Refusal → Option Refusal

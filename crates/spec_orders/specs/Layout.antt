@@ -1,6 +1,6 @@
 -- Document 02, No. 6: rings, and racks with two ends. "Each call is told beside n whether it is lent a ring or a rack." What an order is, and what
 -- hangs together in it, goes by the layout; all else is said once, for both.
-use Rattle.std.specs.Prelude.{◌≡◌, false, List, ◌++◌, ℕ, suc}
+use Rattle.std.specs.Prelude.{◌≡◌, false, cond, List, ◌++◌, ℕ, suc, eqb}
 use Rattle.spec_orders.specs.declared.Layout.{Layout}
 use Rattle.spec_orders.specs.declared.Layout.TheVariants.{Ring, Rack}
 use Rattle.spec_orders.specs.Lists.{All, Rearranged, numbers_from}
@@ -10,6 +10,10 @@ use Rattle.spec_orders.specs.CircularOrder.{CircularOrder, Restriction, Inside, 
 abbrev pub leaf_count : Layout → ℕ → ℕ
 leaf_count Ring n = n
 leaf_count Rack n = suc n
+
+-- The layout as a number, for C: 0 is a ring, any other number a rack.
+abbrev pub layout_numbered : ℕ → Layout
+layout_numbered number = cond (eqb number 0) Ring Rack
 
 -- "A straight order is a list of the bins." So a list and its reverse are two orders.
 abbrev pub OrderOn : Layout → ℕ → List ℕ → Type 0

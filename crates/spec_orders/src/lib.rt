@@ -2,26 +2,35 @@
 #![tactic(auto)]
 
 ghost use Rattle.std.specs.Prelude.{◌≡◌, ◌≤◌};
-ghost use Rattle.spec_orders.specs.Layout.{leaf_count};
+ghost use Rattle.spec_orders.specs.Layout.{leaf_count, layout_numbered};
 
 // Whether a call is lent a ring or a rack, which has two ends.
-#[derive(Clone, Copy)]
+#[derive(Clone, Copy, PartialEq, Eq)]
 pub enum Layout {
     Ring,
     Rack,
 }
 
-// How many leaves the tree of n bins has: a rack's has one more, its hidden end bin. Above 256 bins, n.
-pub fn leaf_count(layout: Layout, n: usize) -> usize
-    ensures { n ≤ 256 → result ≡ leaf_count layout n }
-{
-    match layout {
-        Layout::Ring => n,
-        Layout::Rack => {
-            if n > 256 {
-                return n;
-            }
-            n + 1
+impl Layout {
+    // How many leaves the tree of n bins has: a rack's has one more, its hidden end bin. Above 256 bins, n.
+    pub fn leaf_count(self, n: usize) -> usize
+        ensures { n ≤ 256 → result ≡ leaf_count self n }
+    {
+        match self {
+            Layout::Rack if n <= 256 => n + 1,
+            _ => n,
+        }
+    }
+}
+
+// The layout that a number names, for C: 0 is a ring, any other number a rack.
+impl From<u8> for Layout {
+    ghost from_gives = { λ number layout. layout ≡ layout_numbered number };
+
+    fn from(number: u8) -> Layout {
+        match number {
+            0 => Layout::Ring,
+            _ => Layout::Rack,
         }
     }
 }

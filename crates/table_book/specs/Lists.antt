@@ -6,19 +6,19 @@ use Rattle.spec_orders.specs.CircularOrder.{group_of}
 use Rattle.mark_words.specs.Marks.{words_of}
 use Rattle.spec_calls.specs.declared.Refusal.{Refusal}
 use Rattle.spec_calls.specs.Refusals.{bad_leaf, bad_list}
-use Rattle.table_book.specs.declared.Checked.{Checked}
-use Rattle.table_book.specs.declared.Checked.TheVariants.{Fine, Bad}
+use Rattle.std.specs.declared.result.Result.{Result}
+use Rattle.std.specs.declared.result.Result.TheVariants.{Ok, Err}
 
-abbrev pub refusal_in : Checked → Option Refusal
-refusal_in Fine = none
-refusal_in (Bad r) = some r
+abbrev pub refusal_in : Result (Unit {0}) Refusal → Option Refusal
+refusal_in (Ok tt) = none
+refusal_in (Err r) = some r
 
 -- Checks 5 and 6 on the leaves from place k on, after those of the list `earlier`: they pass, and the four words mark all of them; or why not.
-abbrev pub LeavesChecked : ℕ → List ℕ → ℕ → List ℕ → List ℕ → Checked → Type 0
-LeavesChecked n earlier k list words Fine = (bad_leaf n earlier k list ≡ none) × (words ≡ words_of 4 (elem (list ++ earlier)))
-LeavesChecked n earlier k list words (Bad r) = bad_leaf n earlier k list ≡ some r
+abbrev pub LeavesChecked : ℕ → List ℕ → ℕ → List ℕ → List ℕ → Result (Unit {0}) Refusal → Type 0
+LeavesChecked n earlier k list words (Ok tt) = (bad_leaf n earlier k list ≡ none) × (words ≡ words_of 4 (elem (list ++ earlier)))
+LeavesChecked n earlier k list words (Err r) = bad_leaf n earlier k list ≡ some r
 
 -- The same of a whole list: it passes, and the four words mark the group that it names; or why not.
-abbrev pub ListChecked : ℕ → List ℕ → List ℕ → Checked → Type 0
-ListChecked n list words Fine = (bad_list n list ≡ none) × (words ≡ words_of 4 (group_of n list))
-ListChecked n list words (Bad r) = bad_list n list ≡ some r
+abbrev pub ListChecked : ℕ → List ℕ → List ℕ → Result (Unit {0}) Refusal → Type 0
+ListChecked n list words (Ok tt) = (bad_list n list ≡ none) × (words ≡ words_of 4 (group_of n list))
+ListChecked n list words (Err r) = bad_list n list ≡ some r

@@ -4,7 +4,7 @@
 //   C rack n b count c list         the conflict list of a group, into the first c places of the conflicts
 #![tactic(auto)]
 
-use spec_calls::Answer;
+use spec_calls::Refusal;
 use std::io;
 use test_fields::{at, least};
 
@@ -89,7 +89,7 @@ fn on_book(
 }
 
 // The answer of the call.
-fn conflict_list(numbers: &[usize], book: &[u64], conflicts: &mut [u16]) -> Answer {
+fn conflict_list(numbers: &[usize], book: &[u64], conflicts: &mut [u16]) -> Result<usize, Refusal> {
     let mut list = [0u16; 512];
     let k = test_fields::leaves(numbers, 5, &mut list);
     let layout = test_fields::layout(at(numbers, 0));

@@ -2,7 +2,7 @@
 ghost use Rattle.std.specs.Prelude.{◌≤◌};
 
 use crate::fields;
-use spec_calls::Answer;
+use spec_calls::Refusal;
 use test_fields::least;
 
 // How the two compare: both are done with one value, and what the call gave begins at this place of the line; both are refused with one number
@@ -15,11 +15,11 @@ pub enum Compared {
 }
 
 // Compares the answer at a place of the line with the one that the call gave.
-pub fn compare(line: &[u8], at: usize, got: Answer) -> Compared {
+pub fn compare(line: &[u8], at: usize, got: Result<usize, Refusal>) -> Compared {
     let number = fields::number(line, least(at, line.len()) + 2);
     let value = fields::number(line, number.next);
     match got {
-        Answer::Done(said) => {
+        Ok(said) => {
             if number.value != 0 {
                 return Compared::Another;
             }
@@ -28,11 +28,11 @@ pub fn compare(line: &[u8], at: usize, got: Answer) -> Compared {
             }
             Compared::Done(value.next)
         }
-        Answer::Refused(why) => {
-            if spec_calls::number(why) as usize != number.value {
+        Err(why) => {
+            if why.number() as usize != number.value {
                 return Compared::Another;
             }
-            if spec_calls::place(why) != value.value {
+            if why.place() != value.value {
                 return Compared::Another;
             }
             Compared::Refused
@@ -41,7 +41,7 @@ pub fn compare(line: &[u8], at: usize, got: Answer) -> Compared {
 }
 
 // The outcome of a call that writes nothing: 1 where it is done as in the file, 2 where it is refused as in the file, 3 where the answer is another.
-pub fn outcome(line: &[u8], at: usize, got: Answer) -> usize
+pub fn outcome(line: &[u8], at: usize, got: Result<usize, Refusal>) -> usize
     ensures { result ≤ 3 }
 {
     match compare(line, at, got) {

@@ -5,7 +5,7 @@ ghost use Rattle.std.specs.Prelude.{◌≤◌};
 use crate::answers::Compared;
 use crate::rings::Lent;
 use crate::{answers, fields, rings};
-use spec_calls::Answer;
+use spec_calls::Refusal;
 use test_fields::{layout, least};
 
 // 1 where opening is done as in the file, 2 where it is refused as in the file, 3 where the answer or a table is another.
@@ -20,7 +20,7 @@ pub fn opened(line: &[u8]) -> usize
 }
 
 // Makes the call on as many records and words as are lent.
-fn open_call(lent: Lent, nodes: &mut [u16], book: &mut [u64]) -> Answer {
+fn open_call(lent: Lent, nodes: &mut [u16], book: &mut [u64]) -> Result<usize, Refusal> {
     let a = least(lent.numbers, nodes.len());
     let b = least(lent.size, book.len());
     call_update::open(
@@ -47,7 +47,7 @@ pub fn read(line: &[u8]) -> usize
 }
 
 // Makes the call on as many records and words as are lent.
-fn read_call(lent: Lent, nodes: &mut [u16], book: &mut [u64], text: &[u8]) -> Answer {
+fn read_call(lent: Lent, nodes: &mut [u16], book: &mut [u64], text: &[u8]) -> Result<usize, Refusal> {
     let a = least(lent.numbers, nodes.len());
     let b = least(lent.size, book.len());
     call_text::read(
@@ -61,7 +61,7 @@ fn read_call(lent: Lent, nodes: &mut [u16], book: &mut [u64], text: &[u8]) -> An
 }
 
 // 1, 2 or 3, of the answer at a place of the line and the tables after the call, which held 7 throughout.
-fn after(line: &[u8], at: usize, got: Answer, lent: Lent, nodes: &[u16], book: &[u64]) -> usize
+fn after(line: &[u8], at: usize, got: Result<usize, Refusal>, lent: Lent, nodes: &[u16], book: &[u64]) -> usize
     ensures { result ≤ 3 }
 {
     match answers::compare(line, at, got) {

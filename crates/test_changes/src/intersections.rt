@@ -4,7 +4,7 @@ ghost use Rattle.std.specs.Prelude.{◌≤◌};
 use crate::answers::Compared;
 use crate::rings::Lent;
 use crate::{answers, fields, fills, rings};
-use spec_calls::Answer;
+use spec_calls::Refusal;
 use test_fields::{layout, least};
 
 // 1 where the call is done as in the file, 2 where it is refused as in the file, 3 where the answer or a table is another.
@@ -45,7 +45,7 @@ fn call(
     other: &[u16],
     third: &mut [u16],
     room: usize,
-) -> Answer {
+) -> Result<usize, Refusal> {
     let end = least(257 * least(room, 257), third.len());
     call_intersection::intersect(
         layout(lent.rack),
@@ -62,7 +62,7 @@ fn call(
 }
 
 // 1, 2 or 3, of the answer at a place of the line and the third table after the call.
-fn after(line: &[u8], at: usize, got: Answer, lent: Lent, third: &[u16]) -> usize
+fn after(line: &[u8], at: usize, got: Result<usize, Refusal>, lent: Lent, third: &[u16]) -> usize
     ensures { result ≤ 3 }
 {
     match answers::compare(line, at, got) {

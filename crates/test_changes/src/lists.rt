@@ -5,7 +5,7 @@ ghost use Rattle.std.specs.Prelude.{◌≤◌};
 use crate::answers::Compared;
 use crate::rings::Lent;
 use crate::{answers, fields, rings};
-use spec_calls::Answer;
+use spec_calls::Refusal;
 use spec_orders::Layout;
 use test_fields::{layout, least};
 
@@ -22,7 +22,7 @@ pub fn ordered(line: &[u8]) -> usize
 }
 
 // Makes the call on as many places of the table as are lent.
-fn order_call(lent: Lent, nodes: &[u16], order: &mut [u16]) -> Answer {
+fn order_call(lent: Lent, nodes: &[u16], order: &mut [u16]) -> Result<usize, Refusal> {
     let end = least(lent.size, order.len());
     call_order::order(
         layout(lent.rack),
@@ -86,14 +86,14 @@ fn conflict_call(
     list: &[u16],
     conflicts: &mut [u16],
     places: usize,
-) -> Answer {
+) -> Result<usize, Refusal> {
     let end = least(places, conflicts.len());
     call_conflict::conflict(layout, n, book, count, list, &mut conflicts[0..end])
 }
 
 // 1, 2 or 3, of the answer at a place of the line and the table after the call, which held 7 throughout and so many places of which a call that is
 // done fills.
-fn after(line: &[u8], at: usize, got: Answer, filled: usize, table: &[u16]) -> usize
+fn after(line: &[u8], at: usize, got: Result<usize, Refusal>, filled: usize, table: &[u16]) -> usize
     ensures { result ≤ 3 }
 {
     match answers::compare(line, at, got) {

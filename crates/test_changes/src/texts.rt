@@ -4,7 +4,7 @@ ghost use Rattle.std.specs.Prelude.{◌≤◌};
 use crate::answers::Compared;
 use crate::rings::Lent;
 use crate::{answers, fields, rings};
-use spec_calls::Answer;
+use spec_calls::Refusal;
 use test_fields::{layout, least};
 
 // 1 where the text is written as in the file, 2 where that is refused as in the file, 3 where the answer or a byte is another.
@@ -20,7 +20,7 @@ pub fn outcome(line: &[u8]) -> usize
 }
 
 // Makes the call on as many bytes as are lent.
-fn call(lent: Lent, nodes: &[u16], bytes: &mut [u8]) -> Answer {
+fn call(lent: Lent, nodes: &[u16], bytes: &mut [u8]) -> Result<usize, Refusal> {
     let end = least(lent.size, bytes.len());
     call_text::write(
         layout(lent.rack),
@@ -32,7 +32,7 @@ fn call(lent: Lent, nodes: &[u16], bytes: &mut [u8]) -> Answer {
 }
 
 // 1, 2 or 3, of the answer at a place of the line and the bytes after the call, which were 7 throughout.
-fn after(line: &[u8], at: usize, got: Answer, bytes: &[u8]) -> usize
+fn after(line: &[u8], at: usize, got: Result<usize, Refusal>, bytes: &[u8]) -> usize
     ensures { result ≤ 3 }
 {
     match answers::compare(line, at, got) {

@@ -5,7 +5,7 @@ ghost use Rattle.std.specs.Prelude.{◌≤◌};
 use crate::answers::Compared;
 use crate::rings::Lent;
 use crate::{answers, fields, rings};
-use spec_calls::Answer;
+use spec_calls::Refusal;
 use test_fields::{layout, least};
 
 // 1 where joining is done as in the file, 2 where it is refused as in the file, 3 where the answer or a table is another.
@@ -23,7 +23,7 @@ pub fn joined(line: &[u8]) -> usize
 }
 
 // Joins the group of the list to the lent part of the tables.
-fn join(lent: Lent, nodes: &mut [u16], book: &mut [u64], list: &[u16]) -> Answer {
+fn join(lent: Lent, nodes: &mut [u16], book: &mut [u64], list: &[u16]) -> Result<usize, Refusal> {
     let a = least(lent.numbers, nodes.len());
     let b = least(lent.size, book.len());
     call_update::join(
@@ -38,7 +38,7 @@ fn join(lent: Lent, nodes: &mut [u16], book: &mut [u64], list: &[u16]) -> Answer
 }
 
 // 1, 2 or 3, of the answer at a place of the line and the tables after the call.
-fn after(line: &[u8], at: usize, got: Answer, nodes: &[u16], book: &[u64]) -> usize
+fn after(line: &[u8], at: usize, got: Result<usize, Refusal>, nodes: &[u16], book: &[u64]) -> usize
     ensures { result ≤ 3 }
 {
     match answers::compare(line, at, got) {

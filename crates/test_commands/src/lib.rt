@@ -10,7 +10,7 @@
 //   W rack n have a c               the tree text, into the first c bytes
 #![tactic(auto)]
 
-use spec_calls::{Answer, Refusal};
+use spec_calls::Refusal;
 use spec_orders::Layout;
 use std::io;
 use test_fields::{at, layout, least};
@@ -48,12 +48,12 @@ pub fn into_table(
 }
 
 // Prints a call's letter and what it returned: 0 and the value, or the refusal's number and its place.
-pub fn answer(rt: &impl Print, letter: u8, got: Answer) -> io::Result<()> {
+pub fn answer(rt: &impl Print, letter: u8, got: Result<usize, Refusal>) -> io::Result<()> {
     let text = [letter];
     rt.write_all(&text)?;
     match got {
-        Answer::Done(value) => done(rt, value),
-        Answer::Refused(refusal) => refused(rt, refusal),
+        Ok(value) => done(rt, value),
+        Err(refusal) => refused(rt, refusal),
     }
 }
 
@@ -63,10 +63,10 @@ fn done(rt: &impl Print, value: usize) -> io::Result<()> {
 }
 
 fn refused(rt: &impl Print, refusal: Refusal) -> io::Result<()> {
-    let k = spec_calls::number(refusal);
+    let k = refusal.number();
     test_sums::number(rt, k as u64)?;
     if has_place(k) {
-        test_sums::number(rt, spec_calls::place(refusal) as u64)?;
+        test_sums::number(rt, refusal.place() as u64)?;
     }
     Ok(())
 }
@@ -132,7 +132,7 @@ fn call(
     nodes: &mut [u16],
     have: usize,
     book: &mut [u64],
-) -> Answer {
+) -> Result<usize, Refusal> {
     match letter {
         b'O' => call_update::open(layout, n, nodes, have, book),
         b'J' => join(numbers, layout, n, nodes, have, book),
@@ -149,7 +149,7 @@ fn join(
     nodes: &mut [u16],
     have: usize,
     book: &mut [u64],
-) -> Answer {
+) -> Result<usize, Refusal> {
     let mut list = [0u16; 512];
     let k = test_fields::leaves(numbers, 6, &mut list);
     call_update::join(layout, n, nodes, have, book, at(numbers, 5), &list[0..k])
@@ -162,7 +162,7 @@ fn trial(
     nodes: &[u16],
     have: usize,
     book: &[u64],
-) -> Answer {
+) -> Result<usize, Refusal> {
     let mut list = [0u16; 512];
     let k = test_fields::leaves(numbers, 6, &mut list);
     call_update::trial(layout, n, nodes, have, book, at(numbers, 5), &list[0..k])
@@ -175,7 +175,7 @@ fn read(
     nodes: &mut [u16],
     have: usize,
     book: &mut [u64],
-) -> Answer {
+) -> Result<usize, Refusal> {
     let mut bytes = [0u8; 2304];
     let k = test_fields::bytes(numbers, 5, &mut bytes);
     call_text::read(layout, n, nodes, have, book, &bytes[0..k])

@@ -2,7 +2,8 @@
 // through `value`: its own answer; or the place or byte of the refusal, 0 where the table names none. Written by tools/outer.py.
 #![tactic(auto)]
 
-ghost use Rattle.spec_calls.specs.Tables.{layout_numbered, lent_book};
+ghost use Rattle.spec_orders.specs.Layout.{layout_numbered};
+ghost use Rattle.spec_calls.specs.Tables.{lent_book};
 ghost use Rattle.spec_calls.specs.Refusals.{reply};
 ghost use Rattle.spec_calls.specs.Promises.{OpenPromise, JoinPromise, TrialPromise, OrderPromise, AimPromise, WritePromise, ReadPromise, IntersectPromise};
 ghost use Rattle.record_copy.specs.Rows.{node_rows};
@@ -21,7 +22,7 @@ pub extern "C" fn ring_open(
 ) -> u8
     ensures { OpenPromise (lent_records (layout_numbered layout) n nodes.old) (lent_book book.old 0) (node_rows nodes.new) (lent_book book.new 0) (reply result value.new) × Left nodes.old nodes.new (reply result value.new) }
 {
-    let layout = spec_calls::layout_numbered(layout);
+    let layout = Layout::from(layout);
     let answer = record_calls::open(layout, n, nodes, book);
     spec_calls::code(answer, value)
 }
@@ -40,7 +41,7 @@ pub extern "C" fn ring_join(
 ) -> u8
     ensures { JoinPromise (lent_records (layout_numbered layout) n nodes.old) (lent_book book.old count) list.now (node_rows nodes.new) (lent_book book.new count) (reply result value.new) × Left nodes.old nodes.new (reply result value.new) }
 {
-    let layout = spec_calls::layout_numbered(layout);
+    let layout = Layout::from(layout);
     let answer = record_calls::join(layout, n, nodes, book, count, list);
     spec_calls::code(answer, value)
 }
@@ -58,7 +59,7 @@ pub extern "C" fn ring_trial(
 ) -> u8
     ensures { TrialPromise (lent_records (layout_numbered layout) n nodes.now) (lent_book book.now count) list.now (reply result value.new) }
 {
-    let layout = spec_calls::layout_numbered(layout);
+    let layout = Layout::from(layout);
     let answer = record_calls::trial(layout, n, nodes, book, count, list);
     spec_calls::code(answer, value)
 }
@@ -74,7 +75,7 @@ pub extern "C" fn ring_order(
 ) -> u8
     ensures { OrderPromise (lent_records (layout_numbered layout) n nodes.now) order.old order.new (reply result value.new) }
 {
-    let layout = spec_calls::layout_numbered(layout);
+    let layout = Layout::from(layout);
     let answer = record_calls::order(layout, n, nodes, order);
     spec_calls::code(answer, value)
 }
@@ -93,7 +94,7 @@ pub extern "C" fn ring_aim(
 ) -> u8
     ensures { AimPromise (lent_records (layout_numbered layout) n nodes.now) (lent_book book.now count) group (reply result value.new) }
 {
-    let layout = spec_calls::layout_numbered(layout);
+    let layout = Layout::from(layout);
     let answer = record_calls::aim(layout, n, nodes, book, count, group);
     spec_calls::code(answer, value)
 }
@@ -109,7 +110,7 @@ pub extern "C" fn ring_write(
 ) -> u8
     ensures { WritePromise (lent_records (layout_numbered layout) n nodes.now) bytes.old bytes.new (reply result value.new) }
 {
-    let layout = spec_calls::layout_numbered(layout);
+    let layout = Layout::from(layout);
     let answer = record_calls::write(layout, n, nodes, bytes);
     spec_calls::code(answer, value)
 }
@@ -127,7 +128,7 @@ pub extern "C" fn ring_read(
 ) -> u8
     ensures { ReadPromise (lent_records (layout_numbered layout) n nodes.old) (lent_book book.old 0) text.now (node_rows nodes.new) (lent_book book.new 0) (reply result value.new) × Left nodes.old nodes.new (reply result value.new) }
 {
-    let layout = spec_calls::layout_numbered(layout);
+    let layout = Layout::from(layout);
     let answer = record_calls::read(layout, n, nodes, book, text);
     spec_calls::code(answer, value)
 }
@@ -147,8 +148,8 @@ pub extern "C" fn ring_intersect(
 ) -> u8
     ensures { IntersectPromise (lent_records (layout_numbered layout) n nodes.now) (lent_records (layout_numbered layout2) m other.now) (lent_records (layout_numbered layout) n third.old) (node_rows third.new) (reply result value.new) × Left third.old third.new (reply result value.new) }
 {
-    let layout = spec_calls::layout_numbered(layout);
-    let layout2 = spec_calls::layout_numbered(layout2);
+    let layout = Layout::from(layout);
+    let layout2 = Layout::from(layout2);
     let answer = record_calls::intersect(layout, n, nodes, layout2, m, other, third);
     spec_calls::code(answer, value)
 }

@@ -1,13 +1,13 @@
 // What the programs of the outside vectors say of tables.
 #![tactic(auto)]
 
-use spec_calls::Answer;
+use spec_calls::Refusal;
 use spec_orders::Layout;
 
 // Whether the table holds the tree of a ring or a rack of n bins whose text is this one.
 pub fn is_text(layout: Layout, n: usize, nodes: &[u16], want: &[u8]) -> bool {
     let mut bytes = [0u8; 2048];
-    let Answer::Done(k) = call_text::write(layout, n, nodes, 256, &mut bytes) else {
+    let Ok(k) = call_text::write(layout, n, nodes, 256, &mut bytes) else {
         return false;
     };
     if k > 2048 {

@@ -1,7 +1,7 @@
 // One line of joins.txt: n, a tree text, a group and the tree text after joining, or 8, with tabs between them.
 ghost use Rattle.std.specs.Prelude.{◌≤◌};
 
-use spec_calls::Answer;
+use spec_calls::Refusal;
 use spec_orders::Layout;
 
 // 1 where the answer is the tree of the file, 2 where it is impossible and the file has 8, 3 where it is another or there is no tab behind the
@@ -17,7 +17,7 @@ pub fn outcome(n: usize, tree: &[u8], rest: &[u8]) -> usize
 }
 
 // Joins the group to the tree of the tables.
-fn join(n: usize, nodes: &mut [u16], book: &mut [u64], group: &[u8]) -> Answer {
+fn join(n: usize, nodes: &mut [u16], book: &mut [u64], group: &[u8]) -> Result<usize, Refusal> {
     let mut list = [0u16; 256];
     let k = test_fields::group(group, &mut list);
     call_update::join(Layout::Ring, n, nodes, 256, book, 0, &list[0..k])
@@ -29,7 +29,7 @@ fn run(n: usize, tree: &[u8], group: &[u8], want: &[u8]) -> usize
 {
     let mut nodes = [0u16; 65792];
     let mut book = [0u64; 384];
-    let Answer::Done(_) = call_text::read(Layout::Ring, n, &mut nodes, 256, &mut book, tree) else {
+    let Ok(_) = call_text::read(Layout::Ring, n, &mut nodes, 256, &mut book, tree) else {
         return 3;
     };
     let joined = join(n, &mut nodes, &mut book, group);
@@ -37,18 +37,18 @@ fn run(n: usize, tree: &[u8], group: &[u8], want: &[u8]) -> usize
 }
 
 // 1, 2 or 3, of the answer and the node table after it.
-fn compared(n: usize, joined: Answer, nodes: &[u16], want: &[u8]) -> usize
+fn compared(n: usize, joined: Result<usize, Refusal>, nodes: &[u16], want: &[u8]) -> usize
     ensures { result ≤ 3 }
 {
     match joined {
-        Answer::Done(_) => {
+        Ok(_) => {
             if test_tables::is_text(Layout::Ring, n, nodes, want) {
                 return 1;
             }
             3
         }
-        Answer::Refused(why) => {
-            if spec_calls::number(why) != 8 {
+        Err(why) => {
+            if why.number() != 8 {
                 return 3;
             }
             if want.len() == 1 {

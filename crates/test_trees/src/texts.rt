@@ -2,7 +2,7 @@
 // where it is another; or 12 and the byte.
 ghost use Rattle.std.specs.Prelude.{◌≤◌};
 
-use spec_calls::Answer;
+use spec_calls::Refusal;
 use spec_orders::Layout;
 
 // 1 where the text is accepted, as in the file, and written again as there; 2 where it is refused at the file's byte; 3 where the answer is
@@ -35,21 +35,21 @@ fn run(n: usize, hex: &[u8], answer: &[u8]) -> usize
 }
 
 // 1, 2 or 3, of what reading the text answered and the node table after it.
-fn compared(n: usize, got: Answer, nodes: &[u16], text: &[u8], answer: &[u8]) -> usize
+fn compared(n: usize, got: Result<usize, Refusal>, nodes: &[u16], text: &[u8], answer: &[u8]) -> usize
     ensures { result ≤ 3 }
 {
     match got {
-        Answer::Done(_) => {
+        Ok(_) => {
             if is_again(n, nodes, text, answer) {
                 return 1;
             }
             3
         }
-        Answer::Refused(why) => {
-            if spec_calls::number(why) != 12 {
+        Err(why) => {
+            if why.number() != 12 {
                 return 3;
             }
-            if spec_calls::place(why) == byte(answer) {
+            if why.place() == byte(answer) {
                 return 2;
             }
             3

@@ -11,7 +11,7 @@ use Rattle.spec_calls.specs.Refusals.{first_refusal, short}
 use Rattle.spec_calls.specs.Calls.{conflicts_of}
 use Rattle.spec_calls.specs.Demands.{LentBook}
 use Rattle.mark_words.specs.Marks.{marked}
-use Rattle.table_book.specs.declared.Checked.TheVariants.{Fine}
+use Rattle.std.specs.declared.result.Result.TheVariants.{Ok}
 use Rattle.table_book.specs.Lists.{refusal_in, ListChecked}
 use Rattle.table_book.proofs.Laws.{few_groups}
 use Rattle.table_book.proofs.Lists.{group_held}
@@ -45,7 +45,7 @@ pub returns : goal.returns
 returns c =
     let passed : first_refusal (book_checks c.args.layout c.args.n (lent_book c.args.book.now c.args.count) (short 96 c.args.conflicts.now)) ≡ none = (sym c.lent_book.ensures ∙ ap refusal_in c.in_default.is) in
     let lent : (1 ≤ c.args.n) × (leaf_count c.args.layout c.args.n ≤ 256) × LentBook c.args.n (lent_book c.args.book.now c.args.count) × (short 96 c.args.conflicts.now ≡ false) = (book_lent c.args.layout c.args.n (lent_book c.args.book.now c.args.count) (short 96 c.args.conflicts.now) passed) in
-    let fine : ListChecked c.args.n c.args.list.now c.check_list.new.marks Fine = (subst (ListChecked c.args.n c.args.list.now c.check_list.new.marks) c.in_default-check_list.is c.check_list.ensures) in
+    let fine : ListChecked c.args.n c.args.list.now c.check_list.new.marks (Ok tt) = (subst (ListChecked c.args.n c.args.list.now c.check_list.new.marks) c.in_default-check_list.is c.check_list.ensures) in
     let h = lent in
     let f = fine in
     let few = c.leaf_count-leaves.ensures (few_bins c.args.layout c.args.n h.1) in

@@ -1,7 +1,7 @@
 use mathlib.Core.Path.{refl, sym, ap, ◌∙◌, subst}
 use native.Mathlib.Omega.{arith}
 use Rattle.spec_calls.specs.Tables.{lent_book}
-use Rattle.table_book.specs.declared.Checked.TheVariants.{Fine}
+use Rattle.std.specs.declared.result.Result.TheVariants.{Ok}
 use Rattle.table_book.specs.Lists.{refusal_in, ListChecked}
 use Rattle.table_book.proofs.Laws.{few_groups}
 use Rattle.call_trial.specs.Trials.{BookPasses, counts}
@@ -19,7 +19,7 @@ returns-in-Bad-check_list c =
 pub returns-then-count-eq96 : goal.returns-then-count-eq96
 returns-then-count-eq96 c =
     let lent : BookPasses c.args.layout c.args.n c.args.short (lent_book c.args.book.now c.args.count) = (whole c.args.layout c.args.n c.args.short (lent_book c.args.book.now c.args.count) c.args.list.now (sym c.lent_book.ensures ∙ ap refusal_in c.in_default.is)) in
-    let fine : ListChecked c.args.n c.args.list.now c.check_list.new.marks Fine = (subst (ListChecked c.args.n c.args.list.now c.check_list.new.marks) c.in_default-check_list.is c.check_list.ensures) in
+    let fine : ListChecked c.args.n c.args.list.now c.check_list.new.marks (Ok tt) = (subst (ListChecked c.args.n c.args.list.now c.check_list.new.marks) c.in_default-check_list.is c.check_list.ensures) in
     refused_full c.args.layout c.args.n c.args.short (lent_book c.args.book.now c.args.count) c.args.list.now lent fine.0 c.if-count-eq96.true
 
 pub overflow_add-result : goal.overflow_add-result
@@ -30,5 +30,5 @@ overflow_add-result c =
 pub returns : goal.returns
 returns c =
     let lent : BookPasses c.args.layout c.args.n c.args.short (lent_book c.args.book.now c.args.count) = (whole c.args.layout c.args.n c.args.short (lent_book c.args.book.now c.args.count) c.args.list.now (sym c.lent_book.ensures ∙ ap refusal_in c.in_default.is)) in
-    let fine : ListChecked c.args.n c.args.list.now c.check_list.new.marks Fine = (subst (ListChecked c.args.n c.args.list.now c.check_list.new.marks) c.in_default-check_list.is c.check_list.ensures) in
+    let fine : ListChecked c.args.n c.args.list.now c.check_list.new.marks (Ok tt) = (subst (ListChecked c.args.n c.args.list.now c.check_list.new.marks) c.in_default-check_list.is c.check_list.ensures) in
     counts refl lent fine.0 c.if-count-eq96.false fine.1

@@ -2,7 +2,7 @@
 use Rattle.std.proofs.Common.{◌≡◌, sym, subst}
 use Rattle.spec_orders.specs.declared.Layout.{Layout}
 use Rattle.spec_calls.specs.Refusals.{Reply, reply, report}
-use Rattle.spec_calls.specs.Tables.{layout_numbered}
+use Rattle.spec_orders.specs.Layout.{layout_numbered}
 use Rattle.spec_calls.specs.Promises.{IntersectPromise}
 use Rattle.record_copy.specs.Rows.{node_rows}
 use Rattle.record_left.specs.Records.{lent_records, Left}
