@@ -47,7 +47,13 @@ pub fn check_size(layout: Layout, n: usize) -> Result<(), Refusal>
 }
 
 // Checks 1, 15 and 2 on a node table of `have` records; `other` says that another lent table is too short.
-pub fn check_tables(layout: Layout, n: usize, nodes: &[u16], have: usize, other: bool) -> Result<(), Refusal>
+pub fn check_tables(
+    layout: Layout,
+    n: usize,
+    nodes: &[u16],
+    have: usize,
+    other: bool,
+) -> Result<(), Refusal>
     ensures { refusal_in result ≡ first_refusal (table_checks (lent_nodes layout n have nodes.now) other) }
 {
     check_size(layout, n)?;
@@ -98,7 +104,13 @@ pub fn lent_ring(
 }
 
 // Checks 1, 15, 2 and 3 on a book of `count` groups, lent without a node table; `other` says that another lent table is too short.
-pub fn lent_book(layout: Layout, n: usize, book: &[u64], count: usize, other: bool) -> Result<(), Refusal>
+pub fn lent_book(
+    layout: Layout,
+    n: usize,
+    book: &[u64],
+    count: usize,
+    other: bool,
+) -> Result<(), Refusal>
     ensures { refusal_in result ≡ first_refusal (book_checks layout n (lent_book book.now count) other) }
 {
     check_size(layout, n)?;
