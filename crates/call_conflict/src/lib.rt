@@ -59,19 +59,15 @@ pub fn conflict(
 ) -> Result<usize, Refusal>
     ensures { ConflictPromise layout n (lent_book book.now count) list.now conflicts.old conflicts.new (report result) }
 {
-    if let Err(refusal) = call_checks::lent_book(
+    call_checks::lent_book(
         layout,
         n,
         book,
         count,
         conflicts.len() < 96,
-    ) {
-        return Err(refusal);
-    }
+    )?;
     let mut group = [0u64; 4];
-    if let Err(refusal) = table_book::check_list(list, n, &mut group) {
-        return Err(refusal);
-    }
+    table_book::check_list(list, n, &mut group)?;
     let mut numbers = [0u16; 96];
     let leaves = layout.leaf_count(n);
     let k = find(leaves, book, count, &group, &mut numbers);

@@ -18,32 +18,17 @@ use spec_orders::Layout;
 fn same_bins(layout: Layout, n: usize, layout2: Layout, m: usize) -> bool
     ensures { result ≡ (same_layout layout layout2 && eqb n m) }
 {
-    match layout {
-        Layout::Ring => match layout2 {
-            Layout::Ring => n == m,
-            Layout::Rack => false,
-        },
-        Layout::Rack => match layout2 {
-            Layout::Ring => false,
-            Layout::Rack => n == m,
-        },
-    }
+    layout == layout2 && n == m
 }
 
 // Checks 1 and 15 on both counts of bins.
 fn check_sizes(layout: Layout, n: usize, layout2: Layout, m: usize) -> Result<(), Refusal>
     ensures { refusal_in result ≡ first_refusal (pair_sizes layout n layout2 m) }
 {
-    if call_checks::bad_size(n) {
+    if call_checks::bad_size(n) || call_checks::bad_size(m) {
         return Err(Refusal::RingSize);
     }
-    if call_checks::bad_size(m) {
-        return Err(Refusal::RingSize);
-    }
-    if call_checks::full_rack(layout, n) {
-        return Err(Refusal::RackSize);
-    }
-    if call_checks::full_rack(layout2, m) {
+    if call_checks::full_rack(layout, n) || call_checks::full_rack(layout2, m) {
         return Err(Refusal::RackSize);
     }
     Ok(())
@@ -64,16 +49,11 @@ fn check_pair(
 ) -> Result<(), Refusal>
     ensures { refusal_in result ≡ first_refusal (pair_checks (lent_nodes layout n have nodes.now) (lent_nodes layout2 m had other.now) (lent_nodes layout n room third.now)) }
 {
-    if let Err(refusal) = check_sizes(layout, n, layout2, m) {
-        return Err(refusal);
-    }
-    if call_checks::short(nodes, have) {
-        return Err(Refusal::ShortTable);
-    }
-    if call_checks::short(other, had) {
-        return Err(Refusal::ShortTable);
-    }
-    if call_checks::short(third, room) {
+    check_sizes(layout, n, layout2, m)?;
+    if call_checks::short(nodes, have)
+        || call_checks::short(other, had)
+        || call_checks::short(third, room)
+    {
         return Err(Refusal::ShortTable);
     }
     if !same_bins(layout, n, layout2, m) {
@@ -97,11 +77,7 @@ fn common(leaves: usize, nodes: &[u16], other: &[u16], out: &mut [u16]) -> Resul
     let Some(k) = table_walk::load(other, leaves, &mut second) else {
         return Err(Refusal::NotInForm);
     };
-    let found = tree_intersection::intersect(&first[0..j], &second[0..k], leaves, out);
-    let Some(size) = found else {
-        return Err(Refusal::Impossible);
-    };
-    Ok(size)
+    tree_intersection::intersect(&first[0..j], &second[0..k], leaves, out).ok_or(Refusal::Impossible)
 }
 
 // Writes the tree that allows exactly the orders allowed by the tree of n bins and by that of m to the third node table; a rack is taken as its ring of
@@ -120,16 +96,9 @@ pub fn intersect(
 ) -> Result<usize, Refusal>
     ensures { IntersectPromise (lent_nodes layout n have nodes.now) (lent_nodes layout2 m had other.now) (lent_nodes layout n room third.old) third.new (report result) }
 {
-    let checked = check_pair(layout, n, nodes, have, layout2, m, other, had, third, room);
-    if let Err(refusal) = checked {
-        return Err(refusal);
-    }
+    check_pair(layout, n, nodes, have, layout2, m, other, had, third, room)?;
     let mut toks = [0u16; 512];
-    match common(layout.leaf_count(n), nodes, other, &mut toks) {
-        Err(refusal) => Err(refusal),
-        Ok(k) => {
-            table_store::store(&toks[0..k], third);
-            Ok(0)
-        }
-    }
+    let k = common(layout.leaf_count(n), nodes, other, &mut toks)?;
+    table_store::store(&toks[0..k], third);
+    Ok(0)
 }

@@ -13,10 +13,7 @@ use spec_calls::Refusal;
 fn bad_count(groups: usize) -> bool
     ensures { result ≡ bad_count groups }
 {
-    if groups == 0 {
-        return true;
-    }
-    groups > 96
+    groups == 0 || groups > 96
 }
 
 // Checks 1, 16, 17 and 2.
@@ -43,9 +40,7 @@ fn check(n: usize, seed: u32, groups: usize, bytes: &[u8]) -> Result<(), Refusal
 pub fn test_load(n: usize, seed: u32, groups: usize, bytes: &mut [u8]) -> Result<usize, Refusal>
     ensures { TestLoadPromise n seed groups bytes.old bytes.new (report result) }
 {
-    if let Err(refusal) = check(n, seed, groups, bytes) {
-        return Err(refusal);
-    }
+    check(n, seed, groups, bytes)?;
     let k = load_file::write_load(n, seed, groups, bytes);
     bytes[k..65536].fill(0);
     Ok(k)

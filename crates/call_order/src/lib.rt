@@ -20,25 +20,25 @@ use spec_calls::Refusal;
 use spec_orders::Layout;
 
 // Writes the standard order to the first n places of order. Answers n; or refuses (1, 15, 2, 3), and leaves them as they were.
-pub fn order(layout: Layout, n: usize, nodes: &[u16], have: usize, order: &mut [u16]) -> Result<usize, Refusal>
+pub fn order(
+    layout: Layout,
+    n: usize,
+    nodes: &[u16],
+    have: usize,
+    order: &mut [u16],
+) -> Result<usize, Refusal>
     ensures { OrderPromise (lent_nodes layout n have nodes.now) order.old order.new (report result) }
 {
     let mut toks = [0u16; 512];
-    let found = call_checks::lent_tree(layout, n, nodes, have, order.len() < n, &mut toks);
-    match found {
-        Err(refusal) => Err(refusal),
-        Ok(k) => Ok(tree_order::order_on(layout, n, &toks[0..k], order)),
-    }
+    let k = call_checks::lent_tree(layout, n, nodes, have, order.len() < n, &mut toks)?;
+    Ok(tree_order::order_on(layout, n, &toks[0..k], order))
 }
 
 // Whether the leaf is marked and the one before it is not.
 fn enters(words: &[u64], before: u16, leaf: u16) -> bool
     ensures { result ≡ enters (marked words.now) before leaf }
 {
-    if mark_words::test(words, before) {
-        return false;
-    }
-    mark_words::test(words, leaf)
+    !mark_words::test(words, before) && mark_words::test(words, leaf)
 }
 
 // How many marked leaves follow one that is not marked; `before` stands before the first.
@@ -147,10 +147,7 @@ fn group_aim(
     requires { Lends layout n toks.now (lent_book book.now count) }
     ensures { (t : Forest) → toks.now ≡ flat t → result ≡ aim_of_group layout n (lent_book book.now count) group t }
 {
-    if group == 0 {
-        return Err(Refusal::NoSuchGroup);
-    }
-    if group > count {
+    if group == 0 || group > count {
         return Err(Refusal::NoSuchGroup);
     }
     let at = 4 * (group - 1);
@@ -176,8 +173,6 @@ pub fn aim(
     ensures { AimPromise (lent_nodes layout n have nodes.now) (lent_book book.now count) group (report result) }
 {
     let mut toks = [0u16; 512];
-    match call_checks::lent_ring(layout, n, nodes, have, book, count, &mut toks) {
-        Err(r) => Err(r),
-        Ok(k) => group_aim(layout, n, &toks[0..k], book, count, group),
-    }
+    let k = call_checks::lent_ring(layout, n, nodes, have, book, count, &mut toks)?;
+    group_aim(layout, n, &toks[0..k], book, count, group)
 }

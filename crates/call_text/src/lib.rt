@@ -30,10 +30,8 @@ pub fn write(layout: Layout, n: usize, nodes: &[u16], have: usize, bytes: &mut [
     ensures { WritePromise (lent_nodes layout n have nodes.now) bytes.old bytes.new (report result) }
 {
     let mut toks = [0u16; 512];
-    match call_checks::lent_tree(layout, n, nodes, have, bytes.len() < 2048, &mut toks) {
-        Err(r) => Err(r),
-        Ok(k) => Ok(fill(&toks[0..k], bytes)),
-    }
+    let k = call_checks::lent_tree(layout, n, nodes, have, bytes.len() < 2048, &mut toks)?;
+    Ok(fill(&toks[0..k], bytes))
 }
 
 // Reads a tree text for n bins, of a rack that of its ring of n + 1 bins, lent exactly: the node table gets its tree, a P-node where the text has a
@@ -48,15 +46,13 @@ pub fn read(
 ) -> Result<usize, Refusal>
     ensures { ReadPromise (lent_nodes layout n have nodes.old) (lent_book book.old 0) text.now nodes.new (lent_book book.new 0) (report result) }
 {
-    if let Err(refusal) = call_checks::check_tables(
+    call_checks::check_tables(
         layout,
         n,
         nodes,
         have,
         book.len() < 384,
-    ) {
-        return Err(refusal);
-    }
+    )?;
     let mut toks = [0u16; 512];
     let found = text_read::read_text(text, layout.leaf_count(n), &mut toks);
     match found {

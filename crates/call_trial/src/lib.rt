@@ -29,12 +29,8 @@ fn check_group(
     requires { length marks.old ≡ 4 }
     ensures { Waits layout n short (lent_book book.now count) list.now (GroupWords n list.now marks.new) result }
 {
-    if let Err(refusal) = call_checks::lent_book(layout, n, book, count, short) {
-        return Err(refusal);
-    }
-    if let Err(refusal) = table_book::check_list(list, n, marks) {
-        return Err(refusal);
-    }
+    call_checks::lent_book(layout, n, book, count, short)?;
+    table_book::check_list(list, n, marks)?;
     if count == 96 {
         return Err(Refusal::BookFull);
     }
@@ -97,32 +93,22 @@ pub fn ready(
 fn up_to_3(refusal: Refusal) -> bool
     ensures { result ≡ up_to_3 refusal }
 {
-    let number = refusal.number();
-    if number <= 3 {
-        return true;
-    }
-    number == 15
+    matches!(
+        refusal,
+        Refusal::RingSize | Refusal::ShortTable | Refusal::NotInForm | Refusal::RackSize
+    )
 }
 
 // The first of two answers, down the table of refusals: what the node table says, 3 or 8, and what waits for it.
 fn settled(verdict: Verdict, waiting: Result<usize, Refusal>) -> Result<usize, Refusal>
     ensures { result ≡ settled verdict waiting }
 {
-    match verdict {
-        Verdict::Possible => waiting,
-        Verdict::Impossible => match waiting {
-            Err(_) => waiting,
-            Ok(_) => Err(Refusal::Impossible),
-        },
-        Verdict::NoTree => match waiting {
-            Err(refusal) => {
-                if up_to_3(refusal) {
-                    return waiting;
-                }
-                Err(Refusal::NotInForm)
-            }
-            Ok(_) => Err(Refusal::NotInForm),
-        },
+    match (verdict, waiting) {
+        (Verdict::Possible, _) => waiting,
+        (Verdict::Impossible, Ok(_)) => Err(Refusal::Impossible),
+        (Verdict::Impossible, Err(_)) => waiting,
+        (Verdict::NoTree, Err(refusal)) if up_to_3(refusal) => waiting,
+        (Verdict::NoTree, _) => Err(Refusal::NotInForm),
     }
 }
 

@@ -15,15 +15,13 @@ use spec_orders::Layout;
 pub fn open(layout: Layout, n: usize, nodes: &mut [u16], have: usize, book: &mut [u64]) -> Result<usize, Refusal>
     ensures { OpenPromise (lent_nodes layout n have nodes.old) (lent_book book.old 0) nodes.new (lent_book book.new 0) (report result) }
 {
-    if let Err(refusal) = call_checks::check_tables(
+    call_checks::check_tables(
         layout,
         n,
         nodes,
         have,
         book.len() < 384,
-    ) {
-        return Err(refusal);
-    }
+    )?;
     let mut toks = [0u16; 512];
     let k = tree_tokens::fresh(layout.leaf_count(n), &mut toks);
     table_store::store(&toks[0..k], nodes);
@@ -71,12 +69,9 @@ pub fn join(
 {
     let mut marks = [0u64; 4];
     let mut work = [0u64; 265];
-    let answer = tried(
+    let next = tried(
         layout, n, nodes, have, book, count, list, &mut marks, &mut work,
-    );
-    let Ok(next) = answer else {
-        return answer;
-    };
+    )?;
     table_update::update(layout.leaf_count(n), nodes, &work);
     table_book::put(book, count, &marks);
     Ok(next)

@@ -13,13 +13,14 @@ use Rattle.tree_tokens.proofs.Writes.{read_part}
 use Rattle.call_order.specs.Starts.{aim_in}
 use Rattle.call_order.proofs.Sizes.{group_within}
 use Rattle.call_order.proofs.Calls.{number_zero, number_past, no_aim, marks_judged}
+use Rattle.call_order.proofs.group_aim.Goals.{then-group-eq0-via-then-group-eq0, then-group-eq0-via-else-group-eq0+then-group-count}
 use Rattle.call_order.proofs.group_aim.Goals as goal
 
 pub returns-then-group-eq0 : goal.returns-then-group-eq0
-returns-then-group-eq0 c = λ t e. sym (number_zero c.args.layout c.args.n (lent_book c.args.book.now c.args.count) c.args.group t c.if-group-eq0.true)
-
-pub returns-then-group-count : goal.returns-then-group-count
-returns-then-group-count c = λ t e. sym (number_past c.args.layout c.args.n (lent_book c.args.book.now c.args.count) c.args.group t c.if-group-eq0.false c.if-group-count.true)
+returns-then-group-eq0 c = λ t e. elim c.then-group-eq0.branch [
+  | then-group-eq0-via-then-group-eq0 w ↦ sym (number_zero c.args.layout c.args.n (lent_book c.args.book.now c.args.count) c.args.group t w.if-group-eq0.true)
+  | then-group-eq0-via-else-group-eq0+then-group-count w ↦ sym (number_past c.args.layout c.args.n (lent_book c.args.book.now c.args.count) c.args.group t w.if-group-eq0.false w.if-group-count.true)
+]
 
 pub overflow_mul-at : goal.overflow_mul-at
 overflow_mul-at c =
