@@ -113,13 +113,15 @@ fn settled(verdict: Verdict, waiting: Result<usize, Refusal>) -> Result<usize, R
 }
 
 // What the trial answers when the node table was swept. `waiting` is what it answers if the table holds a tree that the group can join.
-pub fn conclude(layout: Layout, n: usize, work: &[u64], waiting: Result<usize, Refusal>) -> Result<usize, Refusal>
+pub fn conclude(
+    layout: Layout,
+    n: usize,
+    work: &[u64],
+    waiting: Result<usize, Refusal>,
+) -> Result<usize, Refusal>
     requires { length work.now ≡ 265 }
     ensures { (records : ℕ) (rows : List ℕ) (book : Book) (list : List ℕ) → AfterSweep (lent_nodes layout n records rows) book list work.now waiting
         → TrialPromise (lent_nodes layout n records rows) book list (report result) }
 {
-    settled(
-        table_sweep::at_end(layout.leaf_count(n), work),
-        waiting,
-    )
+    settled(table_sweep::at_end(layout.leaf_count(n), work), waiting)
 }
