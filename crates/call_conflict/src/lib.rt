@@ -59,13 +59,7 @@ pub fn conflict(
 ) -> Result<usize, Refusal>
     ensures { ConflictPromise layout n (lent_book book.now count) list.now conflicts.old conflicts.new (report result) }
 {
-    call_checks::lent_book(
-        layout,
-        n,
-        book,
-        count,
-        conflicts.len() < 96,
-    )?;
+    call_checks::lent_book(layout, n, book, count, conflicts.len() < 96)?;
     let mut group = [0u64; 4];
     table_book::check_list(list, n, &mut group)?;
     let mut numbers = [0u16; 96];

@@ -12,16 +12,16 @@ use spec_calls::Refusal;
 use spec_orders::Layout;
 
 // Opens a ring or rack of n bins: its node table gets the fresh tree, and its book is emptied. Answers the count of groups, 0; or refuses (1, 15, 2).
-pub fn open(layout: Layout, n: usize, nodes: &mut [u16], have: usize, book: &mut [u64]) -> Result<usize, Refusal>
+pub fn open(
+    layout: Layout,
+    n: usize,
+    nodes: &mut [u16],
+    have: usize,
+    book: &mut [u64],
+) -> Result<usize, Refusal>
     ensures { OpenPromise (lent_nodes layout n have nodes.old) (lent_book book.old 0) nodes.new (lent_book book.new 0) (report result) }
 {
-    call_checks::check_tables(
-        layout,
-        n,
-        nodes,
-        have,
-        book.len() < 384,
-    )?;
+    call_checks::check_tables(layout, n, nodes, have, book.len() < 384)?;
     let mut toks = [0u16; 512];
     let k = tree_tokens::fresh(layout.leaf_count(n), &mut toks);
     table_store::store(&toks[0..k], nodes);

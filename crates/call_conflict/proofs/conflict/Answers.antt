@@ -1,3 +1,4 @@
+use Rattle.std.proofs.lemmas.Result.{err_from_is_err_and}
 use mathlib.Core.Path.{◌≡◌, sym, ap, ap₂, subst, ◌∙◌}
 use mathlib.Core.Bool.{false}
 use mathlib.Core.Option.{none}
@@ -22,30 +23,31 @@ use Rattle.call_checks.proofs.Laws.{book_lent}
 use Rattle.call_conflict.proofs.Call.{book_refused, list_judged, call_refused, call_found, ring_list}
 use Rattle.call_conflict.proofs.conflict.Goals as goal
 
-pub returns-in-Bad : goal.returns-in-Bad
-returns-in-Bad c = call_refused c.args.layout c.args.n (lent_book c.args.book.now c.args.count) c.args.list.now c.args.conflicts.now c.in-Bad.refusal
-    (book_refused c.args.layout c.args.n (lent_book c.args.book.now c.args.count) c.args.list.now c.args.conflicts.now c.in-Bad.refusal (sym c.lent_book.ensures ∙ ap refusal_in c.in-Bad.is))
+pub returns-in_err-lent_book : goal.returns-in_err-lent_book
+returns-in_err-lent_book c =
+    let p = err_from_is_err_and c.from_residual.result c.from_residual.ensures.1 in
+    rw (p.1, p.2) (call_refused c.args.layout c.args.n (lent_book c.args.book.now c.args.count) c.args.list.now c.args.conflicts.now _
+    (book_refused c.args.layout c.args.n (lent_book c.args.book.now c.args.count) c.args.list.now c.args.conflicts.now _ (sym c.in_err-lent_book.ensures)))
 
-pub returns-in-Bad-check_list : goal.returns-in-Bad-check_list
-returns-in-Bad-check_list c =
-    let passed : first_refusal (book_checks c.args.layout c.args.n (lent_book c.args.book.now c.args.count) (short 96 c.args.conflicts.now)) ≡ none = (sym c.lent_book.ensures ∙ ap refusal_in c.in_default.is) in
-    call_refused c.args.layout c.args.n (lent_book c.args.book.now c.args.count) c.args.list.now c.args.conflicts.now c.in-Bad-check_list.refusal
-    (list_judged c.args.layout c.args.n (lent_book c.args.book.now c.args.count) c.args.list.now c.args.conflicts.now passed
-    ∙ subst (ListChecked c.args.n c.args.list.now c.check_list.new.marks) c.in-Bad-check_list.is c.check_list.ensures)
+pub returns-in_err-check_list : goal.returns-in_err-check_list
+returns-in_err-check_list c =
+    let p = err_from_is_err_and c.from_residual-in_err-check_list.result c.from_residual-in_err-check_list.ensures.1 in
+    rw (p.1, p.2) (call_refused c.args.layout c.args.n (lent_book c.args.book.now c.args.count) c.args.list.now c.args.conflicts.now _
+    (list_judged c.args.layout c.args.n (lent_book c.args.book.now c.args.count) c.args.list.now c.args.conflicts.now (sym c.in_ok-lent_book.ensures) ∙ c.in_err-check_list.ensures))
 
 pub find-k-requires : goal.find-k-requires
 find-k-requires c =
-    let passed : first_refusal (book_checks c.args.layout c.args.n (lent_book c.args.book.now c.args.count) (short 96 c.args.conflicts.now)) ≡ none = (sym c.lent_book.ensures ∙ ap refusal_in c.in_default.is) in
-    let lent : (1 ≤ c.args.n) × (leaf_count c.args.layout c.args.n ≤ 256) × LentBook c.args.n (lent_book c.args.book.now c.args.count) × (short 96 c.args.conflicts.now ≡ false) = (book_lent c.args.layout c.args.n (lent_book c.args.book.now c.args.count) (short 96 c.args.conflicts.now) passed) in
+    let passed = sym c.in_ok-lent_book.ensures in
+    let lent = book_lent c.args.layout c.args.n (lent_book c.args.book.now c.args.count) (short 96 c.args.conflicts.now) passed in
     let h = lent in
     let few = few_groups c.args.n (lent_book c.args.book.now c.args.count) h.2.in_form in
     (omega (arith, c.leaf_count-leaves.ensures (few_bins c.args.layout c.args.n h.1), h.1), h.2.all_words, few, c.check_list.auto.marks, few)
 
 pub returns : goal.returns
 returns c =
-    let passed : first_refusal (book_checks c.args.layout c.args.n (lent_book c.args.book.now c.args.count) (short 96 c.args.conflicts.now)) ≡ none = (sym c.lent_book.ensures ∙ ap refusal_in c.in_default.is) in
-    let lent : (1 ≤ c.args.n) × (leaf_count c.args.layout c.args.n ≤ 256) × LentBook c.args.n (lent_book c.args.book.now c.args.count) × (short 96 c.args.conflicts.now ≡ false) = (book_lent c.args.layout c.args.n (lent_book c.args.book.now c.args.count) (short 96 c.args.conflicts.now) passed) in
-    let fine : ListChecked c.args.n c.args.list.now c.check_list.new.marks (Ok tt) = (subst (ListChecked c.args.n c.args.list.now c.check_list.new.marks) c.in_default-check_list.is c.check_list.ensures) in
+    let passed = sym c.in_ok-lent_book.ensures in
+    let lent = book_lent c.args.layout c.args.n (lent_book c.args.book.now c.args.count) (short 96 c.args.conflicts.now) passed in
+    let fine = c.in_ok-check_list.ensures in
     let h = lent in
     let f = fine in
     let few = c.leaf_count-leaves.ensures (few_bins c.args.layout c.args.n h.1) in

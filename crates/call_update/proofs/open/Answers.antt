@@ -1,3 +1,4 @@
+use Rattle.std.proofs.lemmas.Result.{err_from_is_err_and}
 use mathlib.Core.Path.{◌≡◌, sym, ◌∙◌, ap}
 use mathlib.Core.Option.{none}
 use Prim.Native.Nat.{ℕ, ◌≤◌}
@@ -16,21 +17,23 @@ use Rattle.call_checks.proofs.Laws.{leaves_are, room_passed}
 use Rattle.call_update.proofs.Laws.{open_refused, opens}
 use Rattle.call_update.proofs.open.Goals as goal
 
-pub returns-in-Bad : goal.returns-in-Bad
-returns-in-Bad c = open_refused (lent_nodes c.args.layout c.args.n c.args.have c.args.nodes.now) (lent_book c.args.book.now 0) c.in-Bad.refusal (sym c.check_tables.ensures ∙ ap refusal_in c.in-Bad.is)
+pub returns-in_err-check_tables : goal.returns-in_err-check_tables
+returns-in_err-check_tables c =
+    let p = err_from_is_err_and c.from_residual.result c.from_residual.ensures.1 in
+    rw (p.1, p.2) (open_refused (lent_nodes c.args.layout c.args.n c.args.have c.args.nodes.now) (lent_book c.args.book.now 0) _ (sym c.in_err-check_tables.ensures))
 
 pub store-requires : goal.store-requires
 store-requires c =
-    let fine : first_refusal (table_checks (lent_nodes c.args.layout c.args.n c.args.have c.args.nodes.now) (short 384 c.args.book.now)) ≡ none = (sym c.check_tables.ensures ∙ ap refusal_in c.in_default.is) in
-    let room : LentWhole (lent_nodes c.args.layout c.args.n c.args.have c.args.nodes.now) × (384 ≤ length c.args.book.now) = (room_passed (lent_nodes c.args.layout c.args.n c.args.have c.args.nodes.now) c.args.book.now fine) in
+    let fine = sym c.in_ok-check_tables.ensures in
+    let room = room_passed (lent_nodes c.args.layout c.args.n c.args.have c.args.nodes.now) c.args.book.now fine in
     let w = room.0 in
     let k = c.leaf_count.result in
     ((k, record { shown = fresh k; is = read_part c.fresh-k.ensures.1; in_form = fresh_form k; few_leaves = omega (arith, leaves_are w c.leaf_count.ensures, w.few_leaves) }), w.all_rows)
 
 pub returns : goal.returns
 returns c =
-    let fine : first_refusal (table_checks (lent_nodes c.args.layout c.args.n c.args.have c.args.nodes.now) (short 384 c.args.book.now)) ≡ none = (sym c.check_tables.ensures ∙ ap refusal_in c.in_default.is) in
-    let room : LentWhole (lent_nodes c.args.layout c.args.n c.args.have c.args.nodes.now) × (384 ≤ length c.args.book.now) = (room_passed (lent_nodes c.args.layout c.args.n c.args.have c.args.nodes.now) c.args.book.now fine) in
+    let fine = sym c.in_ok-check_tables.ensures in
+    let room = room_passed (lent_nodes c.args.layout c.args.n c.args.have c.args.nodes.now) c.args.book.now fine in
     opens (lent_nodes c.args.layout c.args.n c.args.have c.args.nodes.now) (lent_book c.args.book.now 0) c.store.new.table c.clear.new.book fine
     (c.store.ensures (fresh c.leaf_count.result) (read_part c.fresh-k.ensures.1)
     ∙ ap (λ (k : ℕ). over (table_of (fresh k)) c.args.nodes.now) (leaves_are room.0 c.leaf_count.ensures))
