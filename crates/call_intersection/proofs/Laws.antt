@@ -1,4 +1,5 @@
 -- The checks of the pair, and the call's answer and table, from what its checks and its work come to.
+use Rattle.spec_orders.specs.declared.Layout.{Layout}
 use mathlib.Core.Path.{◌≡◌, refl, sym, ◌∙◌, ap, ap₂, subst}
 use mathlib.Core.Bool.{◌||◌}
 use mathlib.Core.Option.{Option, none, some}
@@ -6,18 +7,18 @@ use mathlib.Core.List.{List, [], ◌∷◌}
 use Prim.Native.Nat.{ℕ}
 use Rattle.spec_orders.specs.Tree.{Forest}
 use Rattle.spec_intersection.specs.Intersection.{intersection}
-use Rattle.std.specs.Prelude.{Some, None}
+use Rattle.std.specs.Prelude.{Some, None, Result}
 use Rattle.tree_update.specs.Update.{Answers, written}
 use Rattle.spec_calls.specs.declared.Refusal.{Refusal}
 use Rattle.spec_calls.specs.declared.Refusal.TheVariants.{ShortTable, NotInForm, Impossible, BinCounts}
-use Rattle.spec_calls.specs.Tables.{Nodes, over}
+use Rattle.spec_calls.specs.Tables.{Nodes, over, lent_nodes}
 use Rattle.spec_calls.specs.NodeTable.{table_of, held_tree}
 use Rattle.spec_calls.specs.Refusals.{Reply, reply, reported, refuse, first_refusal, short_nodes, other_bins}
 use Rattle.spec_calls.specs.Calls.{filled_as, filled, is_none, of_tree, common_tree, pair_sizes, pair_checks, common_checks, intersect_refusal, intersect_call}
 use Rattle.spec_calls.specs.Demands.{Intersects, IntersectDemand}
 use Rattle.spec_calls.proofs.Intersect.{common_of, intersect_meets}
 use Rattle.spec_calls.proofs.Checks.{first_refusal_some, first_refusal_none}
-use Rattle.call_intersection.specs.Common.{CommonLent}
+use Rattle.call_intersection.specs.Common.{CommonLent, LendsCommon}
 
 -- ---- checks 1, 15, 2 and 13
 
@@ -94,3 +95,10 @@ module _ (nodes other third : Nodes) where
   pub demand : (said : Reply) (rows' : List ℕ) → filled_as said rows' ≡ intersect_call nodes other third → IntersectDemand nodes other third said rows'
   demand said rows' e t u h g same records rows =
       subst (λ x. Intersects nodes.layout nodes.bins t u x.answer x.table) (sym e) (intersect_meets nodes other third t u h g same records rows)
+
+-- Of a table lent for a second ring or rack of the same kind and as many bins.
+pub lent_again : {l l2 : Layout} {n m : ℕ} (have had : ℕ) (rows rows2 old new : List ℕ) (x : Result ℕ Refusal) → (l ≡ l2) × (n ≡ m)
+    → LendsCommon (lent_nodes l n have rows) (lent_nodes l n had rows2) old new x → LendsCommon (lent_nodes l n have rows) (lent_nodes l2 m had rows2) old new x
+lent_again {l = l} {n = n} have had rows rows2 old new x e h =
+    subst (λ (k : Layout). LendsCommon (lent_nodes l n have rows) (lent_nodes k _ had rows2) old new x) e.0
+    (subst (λ (j : ℕ). LendsCommon (lent_nodes l n have rows) (lent_nodes l j had rows2) old new x) e.1 h)

@@ -77,7 +77,11 @@ fn common(leaves: usize, nodes: &[u16], other: &[u16], out: &mut [u16]) -> Resul
     let Some(k) = table_walk::load(other, leaves, &mut second) else {
         return Err(Refusal::NotInForm);
     };
-    tree_intersection::intersect(&first[0..j], &second[0..k], leaves, out).ok_or(Refusal::Impossible)
+    let found = tree_intersection::intersect(&first[0..j], &second[0..k], leaves, out);
+    let Some(size) = found else {
+        return Err(Refusal::Impossible);
+    };
+    Ok(size)
 }
 
 // Writes the tree that allows exactly the orders allowed by the tree of n bins and by that of m to the third node table; a rack is taken as its ring of

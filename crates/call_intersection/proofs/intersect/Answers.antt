@@ -1,31 +1,24 @@
-use mathlib.Core.Path.{◌≡◌, sym, ◌∙◌, ap, subst}
-use mathlib.Core.Option.{none}
-use Prim.Native.Nat.{ℕ}
+use mathlib.Core.Path.{sym}
 use native.Mathlib.Omega.{arith}
-use lib.ListN.{replicate}
-use Rattle.tree_tokens.proofs.Writes.{read_part, wrote_most}
-use Rattle.spec_orders.specs.declared.Layout.{Layout}
+use Rattle.std.specs.Prelude.{Ok, Err, replicate}
+use Rattle.std.proofs.lemmas.Result.{err_from_is_err_and}
 use Rattle.spec_orders.specs.Layout.{leaf_count}
-use Rattle.call_checks.proofs.Laws.{some_leaf, leaves_are}
+use Rattle.tree_tokens.proofs.Writes.{read_part, wrote_most}
 use Rattle.spec_calls.specs.Tables.{lent_nodes}
-use Rattle.spec_calls.specs.Refusals.{first_refusal}
-use Rattle.spec_calls.specs.Calls.{pair_checks}
-use Rattle.spec_calls.proofs.Intersect.{Whole, pair_whole, common_form}
-use Rattle.table_book.specs.Lists.{refusal_in}
-use Rattle.call_intersection.specs.Common.{CommonLent, LendsCommon}
-use Rattle.call_intersection.proofs.Laws.{pair_refused, common_refused, common_done, demand}
+use Rattle.spec_calls.proofs.Intersect.{pair_whole, common_form}
+use Rattle.call_checks.proofs.Laws.{some_leaf, leaves_are}
+use Rattle.call_intersection.proofs.Laws.{pair_refused, common_refused, common_done, lent_again, demand}
 use Rattle.call_intersection.proofs.intersect.Goals as goal
 
-pub returns-in-Bad : goal.returns-in-Bad
-returns-in-Bad c =
-    let e = pair_refused (lent_nodes c.args.layout c.args.n c.args.have c.args.nodes.now) (lent_nodes c.args.layout2 c.args.m c.args.had c.args.other.now) (lent_nodes c.args.layout c.args.n c.args.room c.args.third.now) c.in-Bad.refusal (sym c.check_pair-checked.ensures ∙ ap refusal_in c.in-Bad.is) in
-    (e, demand (lent_nodes c.args.layout c.args.n c.args.have c.args.nodes.now) (lent_nodes c.args.layout2 c.args.m c.args.had c.args.other.now) (lent_nodes c.args.layout c.args.n c.args.room c.args.third.now) _ _ e)
+pub returns-in_err-check_pair : goal.returns-in_err-check_pair
+returns-in_err-check_pair c =
+    let p = err_from_is_err_and c.from_residual.result c.from_residual.ensures.1 in
+    let e = pair_refused (lent_nodes c.args.layout c.args.n c.args.have c.args.nodes.now) (lent_nodes c.args.layout2 c.args.m c.args.had c.args.other.now) (lent_nodes c.args.layout c.args.n c.args.room c.args.third.now) _ (sym c.in_err-check_pair.ensures) in
+    rw (p.1, p.2) (e, demand (lent_nodes c.args.layout c.args.n c.args.have c.args.nodes.now) (lent_nodes c.args.layout2 c.args.m c.args.had c.args.other.now) (lent_nodes c.args.layout c.args.n c.args.room c.args.third.now) _ _ e)
 
 pub common-requires : goal.common-requires
 common-requires c =
-    let passes : first_refusal (pair_checks (lent_nodes c.args.layout c.args.n c.args.have c.args.nodes.now) (lent_nodes c.args.layout2 c.args.m c.args.had c.args.other.now) (lent_nodes c.args.layout c.args.n c.args.room c.args.third.now)) ≡ none = (sym c.check_pair-checked.ensures ∙ ap refusal_in c.in_default.is) in
-    let whole : Whole (lent_nodes c.args.layout c.args.n c.args.have c.args.nodes.now) (lent_nodes c.args.layout2 c.args.m c.args.had c.args.other.now) (lent_nodes c.args.layout c.args.n c.args.room c.args.third.now) = (pair_whole (lent_nodes c.args.layout c.args.n c.args.have c.args.nodes.now) (lent_nodes c.args.layout2 c.args.m c.args.had c.args.other.now) (lent_nodes c.args.layout c.args.n c.args.room c.args.third.now) passes) in
-    let w = whole in (
+    let w = pair_whole (lent_nodes c.args.layout c.args.n c.args.have c.args.nodes.now) (lent_nodes c.args.layout2 c.args.m c.args.had c.args.other.now) (lent_nodes c.args.layout c.args.n c.args.room c.args.third.now) (sym c.in_ok-check_pair.ensures) in (
       rw (leaves_are w.first c.leaf_count.ensures) (some_leaf c.args.layout c.args.n w.first.some_bin),
       omega (arith, leaves_are w.first c.leaf_count.ensures, w.first.few_leaves),
       w.first.all_rows,
@@ -33,50 +26,31 @@ common-requires c =
       omega arith,
     )
 
+pub returns-in_err-k : goal.returns-in_err-k
+returns-in_err-k c =
+    let p = err_from_is_err_and c.from_residual-in_err-k.result c.from_residual-in_err-k.ensures.1 in
+    let passes = sym c.in_ok-check_pair.ensures in
+    let w = pair_whole (lent_nodes c.args.layout c.args.n c.args.have c.args.nodes.now) (lent_nodes c.args.layout2 c.args.m c.args.had c.args.other.now) (lent_nodes c.args.layout c.args.n c.args.room c.args.third.now) passes in
+    let e = common_refused (lent_nodes c.args.layout c.args.n c.args.have c.args.nodes.now) (lent_nodes c.args.layout2 c.args.m c.args.had c.args.other.now) (lent_nodes c.args.layout c.args.n c.args.room c.args.third.now) passes _ (lent_again c.args.have c.args.had c.args.nodes.now c.args.other.now (replicate 512 0) c.common.new.out (Err _) w.same (c.in_err-k.ensures c.args.layout c.args.n c.args.have c.args.had (leaves_are w.first c.leaf_count.ensures))) in
+    rw (p.1, p.2) (e, demand (lent_nodes c.args.layout c.args.n c.args.have c.args.nodes.now) (lent_nodes c.args.layout2 c.args.m c.args.had c.args.other.now) (lent_nodes c.args.layout c.args.n c.args.room c.args.third.now) _ _ e)
+
 pub slice_bounds-store-end : goal.slice_bounds-store-end
 slice_bounds-store-end c =
-    let passes : first_refusal (pair_checks (lent_nodes c.args.layout c.args.n c.args.have c.args.nodes.now) (lent_nodes c.args.layout2 c.args.m c.args.had c.args.other.now) (lent_nodes c.args.layout c.args.n c.args.room c.args.third.now)) ≡ none = (sym c.check_pair-checked.ensures ∙ ap refusal_in c.in_default.is) in
-    let whole : Whole (lent_nodes c.args.layout c.args.n c.args.have c.args.nodes.now) (lent_nodes c.args.layout2 c.args.m c.args.had c.args.other.now) (lent_nodes c.args.layout c.args.n c.args.room c.args.third.now) = (pair_whole (lent_nodes c.args.layout c.args.n c.args.have c.args.nodes.now) (lent_nodes c.args.layout2 c.args.m c.args.had c.args.other.now) (lent_nodes c.args.layout c.args.n c.args.room c.args.third.now) passes) in
-    let works : LendsCommon (lent_nodes c.args.layout c.args.n c.args.have c.args.nodes.now) (lent_nodes c.args.layout2 c.args.m c.args.had c.args.other.now) (replicate 512 0) c.common.new.out c.common.result = (let w = whole in
-    subst (λ (l : Layout). LendsCommon (lent_nodes c.args.layout c.args.n c.args.have c.args.nodes.now) (lent_nodes l c.args.m c.args.had c.args.other.now) (replicate 512 0) c.common.new.out c.common.result) w.same.0
-    (subst (λ (m : ℕ). LendsCommon (lent_nodes c.args.layout c.args.n c.args.have c.args.nodes.now) (lent_nodes c.args.layout m c.args.had c.args.other.now) (replicate 512 0) c.common.new.out c.common.result) w.same.1
-    (c.common.ensures c.args.layout c.args.n c.args.have c.args.had (leaves_are w.first c.leaf_count.ensures)))) in
-    let new-tree : CommonLent (lent_nodes c.args.layout c.args.n c.args.have c.args.nodes.now) (lent_nodes c.args.layout2 c.args.m c.args.had c.args.other.now) (replicate 512 0) c.common.new.out c.in-Tree.k = (subst (LendsCommon (lent_nodes c.args.layout c.args.n c.args.have c.args.nodes.now) (lent_nodes c.args.layout2 c.args.m c.args.had c.args.other.now) (replicate 512 0) c.common.new.out) c.in-Tree.is works) in
-    omega (arith, wrote_most new-tree.wrote)
+    let w = pair_whole (lent_nodes c.args.layout c.args.n c.args.have c.args.nodes.now) (lent_nodes c.args.layout2 c.args.m c.args.had c.args.other.now) (lent_nodes c.args.layout c.args.n c.args.room c.args.third.now) (sym c.in_ok-check_pair.ensures) in
+    let t = lent_again c.args.have c.args.had c.args.nodes.now c.args.other.now (replicate 512 0) c.common.new.out (Ok c.in_ok-k.k) w.same (c.in_ok-k.ensures c.args.layout c.args.n c.args.have c.args.had (leaves_are w.first c.leaf_count.ensures)) in
+    omega (arith, wrote_most t.wrote)
 
 pub store-requires : goal.store-requires
 store-requires c =
-    let passes : first_refusal (pair_checks (lent_nodes c.args.layout c.args.n c.args.have c.args.nodes.now) (lent_nodes c.args.layout2 c.args.m c.args.had c.args.other.now) (lent_nodes c.args.layout c.args.n c.args.room c.args.third.now)) ≡ none = (sym c.check_pair-checked.ensures ∙ ap refusal_in c.in_default.is) in
-    let whole : Whole (lent_nodes c.args.layout c.args.n c.args.have c.args.nodes.now) (lent_nodes c.args.layout2 c.args.m c.args.had c.args.other.now) (lent_nodes c.args.layout c.args.n c.args.room c.args.third.now) = (pair_whole (lent_nodes c.args.layout c.args.n c.args.have c.args.nodes.now) (lent_nodes c.args.layout2 c.args.m c.args.had c.args.other.now) (lent_nodes c.args.layout c.args.n c.args.room c.args.third.now) passes) in
-    let works : LendsCommon (lent_nodes c.args.layout c.args.n c.args.have c.args.nodes.now) (lent_nodes c.args.layout2 c.args.m c.args.had c.args.other.now) (replicate 512 0) c.common.new.out c.common.result = (let w = whole in
-    subst (λ (l : Layout). LendsCommon (lent_nodes c.args.layout c.args.n c.args.have c.args.nodes.now) (lent_nodes l c.args.m c.args.had c.args.other.now) (replicate 512 0) c.common.new.out c.common.result) w.same.0
-    (subst (λ (m : ℕ). LendsCommon (lent_nodes c.args.layout c.args.n c.args.have c.args.nodes.now) (lent_nodes c.args.layout m c.args.had c.args.other.now) (replicate 512 0) c.common.new.out c.common.result) w.same.1
-    (c.common.ensures c.args.layout c.args.n c.args.have c.args.had (leaves_are w.first c.leaf_count.ensures)))) in
-    let new-tree : CommonLent (lent_nodes c.args.layout c.args.n c.args.have c.args.nodes.now) (lent_nodes c.args.layout2 c.args.m c.args.had c.args.other.now) (replicate 512 0) c.common.new.out c.in-Tree.k = (subst (LendsCommon (lent_nodes c.args.layout c.args.n c.args.have c.args.nodes.now) (lent_nodes c.args.layout2 c.args.m c.args.had c.args.other.now) (replicate 512 0) c.common.new.out) c.in-Tree.is works) in
-    let t = new-tree in
-    let w = whole in
-    ((leaf_count c.args.layout c.args.n, record { shown = t.tree; is = read_part t.wrote; in_form = common_form (lent_nodes c.args.layout c.args.n c.args.have c.args.nodes.now) (lent_nodes c.args.layout2 c.args.m c.args.had c.args.other.now) w.same w.first.few_leaves t.tree t.is; few_leaves = w.first.few_leaves }), w.third_rows)
+    let w = pair_whole (lent_nodes c.args.layout c.args.n c.args.have c.args.nodes.now) (lent_nodes c.args.layout2 c.args.m c.args.had c.args.other.now) (lent_nodes c.args.layout c.args.n c.args.room c.args.third.now) (sym c.in_ok-check_pair.ensures) in
+    let t = lent_again c.args.have c.args.had c.args.nodes.now c.args.other.now (replicate 512 0) c.common.new.out (Ok c.in_ok-k.k) w.same (c.in_ok-k.ensures c.args.layout c.args.n c.args.have c.args.had (leaves_are w.first c.leaf_count.ensures)) in
+    let form = common_form (lent_nodes c.args.layout c.args.n c.args.have c.args.nodes.now) (lent_nodes c.args.layout2 c.args.m c.args.had c.args.other.now) w.same w.first.few_leaves t.tree t.is in
+    ((leaf_count c.args.layout c.args.n, record { shown = t.tree; is = read_part t.wrote; in_form = form; few_leaves = w.first.few_leaves }), w.third_rows)
 
-pub returns-in-Refused : goal.returns-in-Refused
-returns-in-Refused c =
-    let passes : first_refusal (pair_checks (lent_nodes c.args.layout c.args.n c.args.have c.args.nodes.now) (lent_nodes c.args.layout2 c.args.m c.args.had c.args.other.now) (lent_nodes c.args.layout c.args.n c.args.room c.args.third.now)) ≡ none = (sym c.check_pair-checked.ensures ∙ ap refusal_in c.in_default.is) in
-    let whole : Whole (lent_nodes c.args.layout c.args.n c.args.have c.args.nodes.now) (lent_nodes c.args.layout2 c.args.m c.args.had c.args.other.now) (lent_nodes c.args.layout c.args.n c.args.room c.args.third.now) = (pair_whole (lent_nodes c.args.layout c.args.n c.args.have c.args.nodes.now) (lent_nodes c.args.layout2 c.args.m c.args.had c.args.other.now) (lent_nodes c.args.layout c.args.n c.args.room c.args.third.now) passes) in
-    let works : LendsCommon (lent_nodes c.args.layout c.args.n c.args.have c.args.nodes.now) (lent_nodes c.args.layout2 c.args.m c.args.had c.args.other.now) (replicate 512 0) c.common.new.out c.common.result = (let w = whole in
-    subst (λ (l : Layout). LendsCommon (lent_nodes c.args.layout c.args.n c.args.have c.args.nodes.now) (lent_nodes l c.args.m c.args.had c.args.other.now) (replicate 512 0) c.common.new.out c.common.result) w.same.0
-    (subst (λ (m : ℕ). LendsCommon (lent_nodes c.args.layout c.args.n c.args.have c.args.nodes.now) (lent_nodes c.args.layout m c.args.had c.args.other.now) (replicate 512 0) c.common.new.out c.common.result) w.same.1
-    (c.common.ensures c.args.layout c.args.n c.args.have c.args.had (leaves_are w.first c.leaf_count.ensures)))) in
-    let e = common_refused (lent_nodes c.args.layout c.args.n c.args.have c.args.nodes.now) (lent_nodes c.args.layout2 c.args.m c.args.had c.args.other.now) (lent_nodes c.args.layout c.args.n c.args.room c.args.third.now) passes c.in-Refused.refusal (subst (LendsCommon (lent_nodes c.args.layout c.args.n c.args.have c.args.nodes.now) (lent_nodes c.args.layout2 c.args.m c.args.had c.args.other.now) (replicate 512 0) c.common.new.out) c.in-Refused.is works) in
-    (e, demand (lent_nodes c.args.layout c.args.n c.args.have c.args.nodes.now) (lent_nodes c.args.layout2 c.args.m c.args.had c.args.other.now) (lent_nodes c.args.layout c.args.n c.args.room c.args.third.now) _ _ e)
-
-pub returns-in-Tree : goal.returns-in-Tree
-returns-in-Tree c =
-    let passes : first_refusal (pair_checks (lent_nodes c.args.layout c.args.n c.args.have c.args.nodes.now) (lent_nodes c.args.layout2 c.args.m c.args.had c.args.other.now) (lent_nodes c.args.layout c.args.n c.args.room c.args.third.now)) ≡ none = (sym c.check_pair-checked.ensures ∙ ap refusal_in c.in_default.is) in
-    let whole : Whole (lent_nodes c.args.layout c.args.n c.args.have c.args.nodes.now) (lent_nodes c.args.layout2 c.args.m c.args.had c.args.other.now) (lent_nodes c.args.layout c.args.n c.args.room c.args.third.now) = (pair_whole (lent_nodes c.args.layout c.args.n c.args.have c.args.nodes.now) (lent_nodes c.args.layout2 c.args.m c.args.had c.args.other.now) (lent_nodes c.args.layout c.args.n c.args.room c.args.third.now) passes) in
-    let works : LendsCommon (lent_nodes c.args.layout c.args.n c.args.have c.args.nodes.now) (lent_nodes c.args.layout2 c.args.m c.args.had c.args.other.now) (replicate 512 0) c.common.new.out c.common.result = (let w = whole in
-    subst (λ (l : Layout). LendsCommon (lent_nodes c.args.layout c.args.n c.args.have c.args.nodes.now) (lent_nodes l c.args.m c.args.had c.args.other.now) (replicate 512 0) c.common.new.out c.common.result) w.same.0
-    (subst (λ (m : ℕ). LendsCommon (lent_nodes c.args.layout c.args.n c.args.have c.args.nodes.now) (lent_nodes c.args.layout m c.args.had c.args.other.now) (replicate 512 0) c.common.new.out c.common.result) w.same.1
-    (c.common.ensures c.args.layout c.args.n c.args.have c.args.had (leaves_are w.first c.leaf_count.ensures)))) in
-    let new-tree : CommonLent (lent_nodes c.args.layout c.args.n c.args.have c.args.nodes.now) (lent_nodes c.args.layout2 c.args.m c.args.had c.args.other.now) (replicate 512 0) c.common.new.out c.in-Tree.k = (subst (LendsCommon (lent_nodes c.args.layout c.args.n c.args.have c.args.nodes.now) (lent_nodes c.args.layout2 c.args.m c.args.had c.args.other.now) (replicate 512 0) c.common.new.out) c.in-Tree.is works) in
-    let t = new-tree in
+pub returns : goal.returns
+returns c =
+    let passes = sym c.in_ok-check_pair.ensures in
+    let w = pair_whole (lent_nodes c.args.layout c.args.n c.args.have c.args.nodes.now) (lent_nodes c.args.layout2 c.args.m c.args.had c.args.other.now) (lent_nodes c.args.layout c.args.n c.args.room c.args.third.now) passes in
+    let t = lent_again c.args.have c.args.had c.args.nodes.now c.args.other.now (replicate 512 0) c.common.new.out (Ok c.in_ok-k.k) w.same (c.in_ok-k.ensures c.args.layout c.args.n c.args.have c.args.had (leaves_are w.first c.leaf_count.ensures)) in
     let e = common_done (lent_nodes c.args.layout c.args.n c.args.have c.args.nodes.now) (lent_nodes c.args.layout2 c.args.m c.args.had c.args.other.now) (lent_nodes c.args.layout c.args.n c.args.room c.args.third.now) passes t c.store.new.table (c.store.ensures t.tree (read_part t.wrote)) in
     (e, demand (lent_nodes c.args.layout c.args.n c.args.have c.args.nodes.now) (lent_nodes c.args.layout2 c.args.m c.args.had c.args.other.now) (lent_nodes c.args.layout c.args.n c.args.room c.args.third.now) _ _ e)
