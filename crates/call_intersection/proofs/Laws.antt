@@ -97,8 +97,8 @@ module _ (nodes other third : Nodes) where
       subst (λ x. Intersects nodes.layout nodes.bins t u x.answer x.table) (sym e) (intersect_meets nodes other third t u h g same records rows)
 
 -- Of a table lent for a second ring or rack of the same kind and as many bins.
-pub lent_again : {l l2 : Layout} {n m : ℕ} (have had : ℕ) (rows rows2 old new : List ℕ) (x : Result ℕ Refusal) → (l ≡ l2) × (n ≡ m)
+pub lent_again : {l l2 : Layout} {n : ℕ} (m have had : ℕ) (rows rows2 old new : List ℕ) (x : Result ℕ Refusal) → (l ≡ l2) × (n ≡ m)
     → LendsCommon (lent_nodes l n have rows) (lent_nodes l n had rows2) old new x → LendsCommon (lent_nodes l n have rows) (lent_nodes l2 m had rows2) old new x
-lent_again {l = l} {n = n} have had rows rows2 old new x e h =
-    subst (λ (k : Layout). LendsCommon (lent_nodes l n have rows) (lent_nodes k _ had rows2) old new x) e.0
+lent_again {l = l} {n = n} m have had rows rows2 old new x e h =
+    subst (λ (k : Layout). LendsCommon (lent_nodes l n have rows) (lent_nodes k m had rows2) old new x) e.0
     (subst (λ (j : ℕ). LendsCommon (lent_nodes l n have rows) (lent_nodes l j had rows2) old new x) e.1 h)

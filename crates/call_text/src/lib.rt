@@ -26,7 +26,13 @@ fn fill(toks: &[u16], bytes: &mut [u8]) -> usize
 
 // Writes the tree text, of a rack that of its ring of n + 1 bins, and zeros up to 2,048 bytes. Answers the text's length; or refuses (1, 15, 2, 3), and
 // leaves the bytes as they were.
-pub fn write(layout: Layout, n: usize, nodes: &[u16], have: usize, bytes: &mut [u8]) -> Result<usize, Refusal>
+pub fn write(
+    layout: Layout,
+    n: usize,
+    nodes: &[u16],
+    have: usize,
+    bytes: &mut [u8],
+) -> Result<usize, Refusal>
     ensures { WritePromise (lent_nodes layout n have nodes.now) bytes.old bytes.new (report result) }
 {
     let mut toks = [0u16; 512];
@@ -46,16 +52,9 @@ pub fn read(
 ) -> Result<usize, Refusal>
     ensures { ReadPromise (lent_nodes layout n have nodes.old) (lent_book book.old 0) text.now nodes.new (lent_book book.new 0) (report result) }
 {
-    call_checks::check_tables(
-        layout,
-        n,
-        nodes,
-        have,
-        book.len() < 384,
-    )?;
+    call_checks::check_tables(layout, n, nodes, have, book.len() < 384)?;
     let mut toks = [0u16; 512];
-    let found = text_read::read_text(text, layout.leaf_count(n), &mut toks);
-    match found {
+    match text_read::read_text(text, layout.leaf_count(n), &mut toks) {
         Err(byte) => Err(Refusal::TreeText(byte)),
         Ok(k) => {
             table_store::store(&toks[0..k], nodes);
