@@ -22,7 +22,7 @@ fn mark_line(list: &[u16], n: usize, marks: &mut [u64])
     requires { (n ≤ 256) × (length marks.old ≡ 4) × (WellFormed n list.now) }
     ensures { marks.new ≡ words_of 4 (group_of n list.now) }
 {
-    table_book::check_list(list, n, marks);
+    let _ = table_book::check_list(list, n, marks);
 }
 
 // Appends the fields of a group line that is refused: the ring's groups in conflict with it, by their input lines.
