@@ -17,7 +17,7 @@ pub struct Lent {
 }
 
 // Reads the fields `n rack rec` at a place.
-fn records(line: &[u8], at: usize) -> Result<usize, Refusal> {
+fn records(line: &[u8], at: usize) -> Lent {
     let n = fields::number(line, at);
     let rack = fields::number(line, n.next);
     let have = fields::number(line, rack.next);
@@ -33,7 +33,7 @@ fn records(line: &[u8], at: usize) -> Result<usize, Refusal> {
 }
 
 // Reads the fields `n rack rec size` of a line.
-fn sized(line: &[u8]) -> Result<usize, Refusal> {
+fn sized(line: &[u8]) -> Lent {
     let mut lent = records(line, 2);
     let size = fields::number(line, lent.next);
     lent.size = size.value;
@@ -42,24 +42,24 @@ fn sized(line: &[u8]) -> Result<usize, Refusal> {
 }
 
 // Reads the field TREE into a table of zeros. Past the 256 records stands a 7.
-fn with_tree(line: &[u8], mut lent: Lent, nodes: &mut [u16]) -> Result<usize, Refusal> {
+fn with_tree(line: &[u8], mut lent: Lent, nodes: &mut [u16]) -> Lent {
     lent.next = fields::tree(line, lent.next, layout(lent.rack), lent.n, nodes);
     test_fields::set_number(nodes, 65792, 7);
     lent
 }
 
 // Reads the node table at a place of a line, `n rack rec TREE`, into a table of zeros.
-pub fn nodes(line: &[u8], at: usize, nodes: &mut [u16]) -> Result<usize, Refusal> {
+pub fn nodes(line: &[u8], at: usize, nodes: &mut [u16]) -> Lent {
     with_tree(line, records(line, at), nodes)
 }
 
 // Reads the node table of a line, `n rack rec size TREE`, into a table of zeros.
-pub fn tree(line: &[u8], nodes: &mut [u16]) -> Result<usize, Refusal> {
+pub fn tree(line: &[u8], nodes: &mut [u16]) -> Lent {
     with_tree(line, sized(line), nodes)
 }
 
 // Reads the sizes of a line, `n rack rec words days`, where days is 0.
-pub fn sizes(line: &[u8]) -> Result<usize, Refusal> {
+pub fn sizes(line: &[u8]) -> Lent {
     let mut lent = sized(line);
     let days = fields::number(line, lent.next);
     lent.next = days.next;
@@ -67,7 +67,7 @@ pub fn sizes(line: &[u8]) -> Result<usize, Refusal> {
 }
 
 // Reads both tables of a line, `n rack rec words days TREE BOOK DAYS`, into tables of zeros.
-pub fn ring(line: &[u8], nodes: &mut [u16], book: &mut [u64]) -> Result<usize, Refusal> {
+pub fn ring(line: &[u8], nodes: &mut [u16], book: &mut [u64]) -> Lent {
     let mut lent = with_tree(line, sizes(line), nodes);
     let groups = groups(line, lent.next, book);
     lent.count = groups.value;

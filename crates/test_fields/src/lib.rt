@@ -159,7 +159,7 @@ pub fn least(x: usize, most: usize) -> usize
 
 // The layout that a number names: 0 is a ring, any other number a rack.
 pub fn layout(number: usize) -> Layout {
-    spec_calls::layout_numbered(least(number, 1) as u8)
+    Layout::from(least(number, 1) as u8)
 }
 
 // The number of the table at i is the low 16 bits of x, where there is room.
