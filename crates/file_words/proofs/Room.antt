@@ -7,7 +7,7 @@ use Prim.Native.Nat.{ℕ, ◌≤◌, ◌<◌}
 use native.Mathlib.Omega.{arith}
 use lib.Dec.{eqb, ltb}
 use lib.ListN.{length}
-use borrow.Author.Tests.{eq-eqb, ne_eqb, lt-ltb, le-ltb}
+use borrow.Author.Tests.{lt-ltb, le-ltb}
 use Rattle.std.specs.Bool.{MatchBool}
 use Rattle.std.specs.Char.{IsAsciiAlphanumeric, IsNotAsciiAlphanumeric}
 use Rattle.spec_orders.specs.Lists.{All, Distinct, elem, those_of, begins_with}
@@ -29,7 +29,7 @@ pub name_words : (ns : List (List ℕ)) → All Name ns → All Word ns
 name_words ns h = in_all Word ns (λ w i. in_all (λ b. b ≡ 32 → ⊥) w (λ b j. no_space b (all_in NameByte b w (all_in Name w ns h i).each j)))
 
 -- How many names begin with the same m bytes, 7 or more.
-abbrev limit : ℕ → ℕ
+abbrev pub limit : ℕ → ℕ
 limit m = cond (eqb m 7) 63 (cond (eqb m 8) 1 0)
 
 -- Room, as the code counts it.
@@ -40,24 +40,8 @@ module _ (ns : List (List ℕ)) (t : List ℕ) (k : All Name ns) (d : Distinct n
   room_count : 7 ≤ length t → (m : ℕ) → limit (length t) ≡ m → room ns t ≡ ltb n m
   room_count h m q = ap (λ c. cond c true (spare ns (longer t))) (le-ltb (length t) 7 h) ∙ spare_count ns t k d h ∙ ap₂ ltb (sym e) q
 
-  limit_7 : length t ≡ 7 → limit (length t) ≡ 63
-  limit_7 h = ap (λ c. cond c 63 (cond (eqb (length t) 8) 1 0)) (eq-eqb (length t) 7 h)
-
-  limit_8 : length t ≡ 8 → limit (length t) ≡ 1
-  limit_8 h = ap (λ c. cond c 63 (cond (eqb (length t) 8) 1 0)) (ne_eqb (length t) 7 (omega arith)) ∙ ap (λ c. cond c 1 0) (eq-eqb (length t) 8 h)
-
-  limit_0 : 9 ≤ length t → limit (length t) ≡ 0
-  limit_0 h =
-      ap (λ c. cond c 63 (cond (eqb (length t) 8) 1 0)) (ne_eqb (length t) 7 (omega arith)) ∙ ap (λ c. cond c 1 0) (ne_eqb (length t) 8 (omega arith))
-
-  pub room_7 : length t ≡ 7 → ltb n 63 ≡ room ns t
-  room_7 h = sym (room_count (omega arith) 63 (limit_7 h))
-
-  pub room_8 : length t ≡ 8 → ltb n 1 ≡ room ns t
-  room_8 h = sym (room_count (omega arith) 1 (limit_8 h))
-
-  pub room_9 : 9 ≤ length t → false ≡ room ns t
-  room_9 h = sym (room_count (omega arith) 0 (limit_0 h) ∙ le-ltb n 0 (omega arith))
+  pub room_test : 7 ≤ length t → ltb n (limit (length t)) ≡ room ns t
+  room_test h = sym (room_count h (limit (length t)) refl)
 
 pub new_empty : (ns : List (List ℕ)) (w : List ℕ) → length w ≡ 0 → false ≡ is_new ns w
 new_empty ns [] h = refl

@@ -1,10 +1,11 @@
 // The words of a names line: whether one can be new, and where one stands.
 #![tactic(auto)]
 
-ghost use Rattle.std.specs.Prelude.{◌≡◌, List, ℕ, ◌≤◌, length, ◌==◌, ◌||◌};
-ghost use Rattle.spec_orders.specs.Lists.{All, Distinct, elem, those_of, begins_with};
+ghost use Rattle.std.specs.Prelude.{◌≡◌, List, ℕ, ◌≤◌, length, ◌==◌, ◌||◌, if◌then◌else◌, nat_eq};
+ghost use Rattle.std.specs.List.{filter, slice_split, starts_with};
+ghost use Rattle.spec_orders.specs.Lists.{All, Distinct, elem};
 ghost use Rattle.file_syntax.specs.RingFile.{alphabet, Name};
-ghost use Rattle.file_syntax.specs.Words.{word_end, Word, spaced, is_among, place_in};
+ghost use Rattle.file_syntax.specs.Words.{word_end, spaced, place_in};
 ghost use Rattle.file_syntax.specs.Scanner.{room, is_new};
 
 // Whether b may stand in a name.
@@ -14,58 +15,33 @@ pub fn letter(b: u8) -> bool
     b.is_ascii_alphanumeric()
 }
 
-// Whether w is one of the words of x, a space after each. j: how many bytes of the word are those of w; m + 1 where it differs.
-fn is_among(x: &[u8], w: &[u8]) -> bool
-    ensures { (ns : List (List ℕ)) → All Word ns → x.now ≡ spaced ns → result ≡ is_among ns w.now }
-{
-    let m = w.len();
-    let mut j = 0;
-    for &b in x {
-        if b == b' ' {
-            if j == m {
-                return true;
-            }
-            j = 0;
-        } else if j < m && w[j] == b {
-            j += 1;
-        } else {
-            j = m + 1;
-        }
-    }
-    false
-}
-
-// How many of the words of x, a space after each, begin with t. j: as in is_among, but m where more bytes follow t.
-fn begin_with(x: &[u8], t: &[u8]) -> usize
-    ensures by_index { (ns : List (List ℕ)) → All Word ns → x.now ≡ spaced ns → result ≡ length (those_of (begins_with t.now) ns) }
-    ensures upper_bound { result ≤ length x.now }
-{
-    let m = t.len();
-    let mut count = 0;
-    let mut j = 0;
-    for &b in x {
-        if b == b' ' {
-            if j == m {
-                count += 1;
-            }
-            j = 0;
-        } else if j < m {
-            j = if t[j] == b { j + 1 } else { m + 1 };
-        }
-    }
-    count
-}
-
-// Whether the begun name t can become a new name. x: the earlier names, a space after each. Of 63 names that begin with the same 7 bytes one is left
-// where fewer are taken; a shorter name has more.
+// Whether the begun name t can become a new name. x: the earlier names, a space after each.
 pub fn has_room(x: &[u8], t: &[u8]) -> bool
     ensures { (ns : List (List ℕ)) → All Name ns → Distinct ns → x.now ≡ spaced ns → result ≡ room ns t.now }
 {
-    match t.len() {
-        0..=6 => true,
-        7 => begin_with(x, t) < 63,
-        8 => begin_with(x, t) < 1,
-        _ => false,
+    if t.len() < 7 {
+        return true;
+    }
+    begin_with(x, t) < begun_so(t.len())
+}
+
+// How many of the parts of x, which is split at the spaces, begin with t.
+fn begin_with(x: &[u8], t: &[u8]) -> usize
+    ensures { result ≡ length (filter (λ part. starts_with nat_eq part t.now) (slice_split (λ b. b == 32) x.now)) }
+{
+    x.split(|b| *b == b' ')
+        .filter(|part| part.starts_with(t))
+        .count()
+}
+
+// How many names begin with the same so many bytes, 7 or more.
+fn begun_so(bytes: usize) -> usize
+    ensures { result ≡ (if bytes == 7 then 63 else (if bytes == 8 then 1 else 0)) }
+{
+    match bytes {
+        7 => 63,
+        8 => 1,
+        _ => 0,
     }
 }
 
@@ -73,7 +49,7 @@ pub fn has_room(x: &[u8], t: &[u8]) -> bool
 pub fn is_new(x: &[u8], w: &[u8]) -> bool
     ensures { (ns : List (List ℕ)) → All Name ns → x.now ≡ spaced ns → result ≡ is_new ns w.now }
 {
-    w.len() != 0 && !is_among(x, w)
+    w.len() != 0 && !x.split(|b| *b == b' ').any(|name| w == name)
 }
 
 // Whether b ends a word: a space or a line end.

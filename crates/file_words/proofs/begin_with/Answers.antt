@@ -1,9 +1,12 @@
-use Rattle.std.proofs.Common.{arith}
-use Rattle.file_words.proofs.Matching.{at_least, one_more, tally_words, at_end}
+use Rattle.std.proofs.Common.{rules}
+use Rattle.std.proofs.lemmas.Iterator.Consumers.{YieldsList-from_filter, count_from_yields_List}
+use Rattle.std.proofs.lemmas.Iterator.Splits.{YieldsList-from_slice_split}
+use Rattle.file_words.proofs.Matching.{space, begun}
 use Rattle.file_words.proofs.begin_with.Goals as goal
 
-pub returns-clause-by_index : goal.returns-clause-by_index
-returns-clause-by_index c =
-    let x = c.args.x.now in
-    let t = c.args.t.now in
-    λ ns h e. omega (arith, tally_words t x ns h e, c.loop-b.invariant.1, at_end at_least t one_more 0 x c.loop-b.b-index c.loop-b.j (omega arith))
+pub returns : goal.returns
+returns c =
+    count_from_yields_List c.filter.result c.count.result c.count.ensures.ran
+    (YieldsList-from_filter _ (begun c.args.t.now)
+    (YieldsList-from_slice_split _ space c.args.x.now (cc) (cc) (cc) (λ y b q k. search rules))
+    c.filter.ensures.closure (λ y b q k. search rules))
