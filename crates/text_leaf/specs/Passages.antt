@@ -6,7 +6,7 @@ use Rattle.tree_tokens.specs.Tokens.{Wrote, flat}
 use Rattle.text_scanner.specs.Scan.{TextState, open_due, due, after, need, run_at, refused}
 use Rattle.text_scanner.specs.Unused.{unused}
 use Rattle.text_leaf.specs.declared.NodeKind.{NodeKind}
-use Rattle.text_leaf.specs.declared.NodeKind.TheVariants.{PNode, CNode}
+use Rattle.text_leaf.specs.declared.NodeKind.TheVariants as kinds
 use Rattle.text_leaf.specs.declared.Reached.{Reached}
 
 -- The marks tell `many` unused leaves, from 1 to 256.
@@ -59,7 +59,7 @@ abbrev pub OpenedRead : List ℕ → ℕ → ℕ → ℕ → List ℕ → List �
 OpenedRead x at want many before used old new r =
     Passed x at (λ f. 40 ∷ text f) (λ cs. open_due cs (unused 0 before)) (λ cs l. after (0 ∷ cs) l) want many want 2 used old new r × IfOk r (Closed x)
 
--- The kind that the code names.
-abbrev pub kind_of : NodeKind → Kind
-kind_of PNode = P
-kind_of CNode = C
+-- The kind, as a tree has it.
+abbrev pub tree_kind : NodeKind → Kind
+tree_kind kinds.P = P
+tree_kind kinds.C = C

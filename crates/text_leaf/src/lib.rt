@@ -5,7 +5,7 @@ ghost use Rattle.std.specs.Prelude.{◌≡◌, false, ℕ, ◌+◌, ◌-◌, ◌
 ghost use Rattle.spec_orders.specs.TreeText.{letter};
 ghost use Rattle.tree_tokens.specs.Tokens.{E, node_token};
 ghost use Rattle.text_scanner.specs.Scan.{letter?};
-ghost use Rattle.text_leaf.specs.Passages.{Marks, ItemRead, kind_of};
+ghost use Rattle.text_leaf.specs.Passages.{Marks, ItemRead, tree_kind};
 
 // How far the text was read: up to the byte `at`, with `left` leaves unused and `count` tokens written.
 #[derive(Clone, Copy)]
@@ -18,17 +18,17 @@ pub struct Reached {
 // The kind of a node.
 #[derive(Clone, Copy)]
 pub enum NodeKind {
-    PNode,
-    CNode,
+    P,
+    C,
 }
 
 // The kind that the byte is the letter of, if it is one.
 pub fn node_kind(b: u8) -> Option<NodeKind>
-    ensures { MatchOption result (letter? b ≡ false) (λ k. b ≡ letter (kind_of k)) }
+    ensures { MatchOption result (letter? b ≡ false) (λ k. b ≡ letter (tree_kind k)) }
 {
     match b {
-        b'P' => Some(NodeKind::PNode),
-        b'C' => Some(NodeKind::CNode),
+        b'P' => Some(NodeKind::P),
+        b'C' => Some(NodeKind::C),
         _ => None,
     }
 }
@@ -68,11 +68,11 @@ pub fn leaf(
 #[tactic(auto, unfolding(tree_tokens::specs::Tokens::node_token))]
 pub fn header(kind: NodeKind, m: usize) -> u16
     requires { m ≤ 512 }
-    ensures { result ≡ node_token E (kind_of kind) m }
+    ensures { result ≡ node_token E (tree_kind kind) m }
 {
     let bits = match kind {
-        NodeKind::PNode => 8,
-        NodeKind::CNode => 24,
+        NodeKind::P => 8,
+        NodeKind::C => 24,
     };
     (32 * m + bits) as u16
 }

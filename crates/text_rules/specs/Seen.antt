@@ -6,7 +6,7 @@ use Rattle.spec_orders.specs.TreeText.{text}
 use Rattle.text_scanner.specs.Rule.{broken_at}
 use Rattle.text_rules.specs.declared.Seen.{Seen}
 
--- The byte that `broken_at` finds, if it finds one.
+-- The byte that `broken_at` finds, if it finds one. (It says 0 for none, and the theorems of text_scanner/proofs/Rule and Outcomes go by that.)
 abbrev pub found_byte : ℕ → Option ℕ
 found_byte zero = None
 found_byte (suc p) = Some (suc p)

@@ -22,7 +22,7 @@ use Rattle.std.specs.Prelude.{Option, Some, None, MatchOption, Result, Ok, Err}
 use Rattle.std.specs.Option.{ok_or}
 use Rattle.text_leaf.specs.declared.NodeKind.{NodeKind}
 use Rattle.text_leaf.specs.declared.Reached.{Reached}
-use Rattle.text_leaf.specs.Passages.{Marks, Stops, OpenedRead, kind_of}
+use Rattle.text_leaf.specs.Passages.{Marks, Stops, OpenedRead, tree_kind}
 use Rattle.text_shape.specs.Texts.{TextBegins, Opening, Whole, WholeRead, ShapeRead}
 use Rattle.text_number.proofs.Numerals.{drop-step}
 use Rattle.text_node.proofs.Nodes.{is_letter, node_wrote}
@@ -78,7 +78,7 @@ not_letter : (x l : List ℕ) → 2 < length x → get_or x 0 0 ≡ 49 → get_o
 not_letter x l h one space n = pre_byte x 0 (omega arith) 49 (32 ∷ []) l one ∙ pre_byte x 1 (omega arith) 32 [] l space ∙ pre_none x 2 h l n
 
 pub opening_kind : (x : List ℕ) (o : Option NodeKind) → 2 < length x → get_or x 0 0 ≡ 49 → get_or x 1 0 ≡ 32
-    → MatchOption o (letter? (get_or x 2 0) ≡ false) (λ k. get_or x 2 0 ≡ letter (kind_of k)) → Opening x (ok_or o 2)
+    → MatchOption o (letter? (get_or x 2 0) ≡ false) (λ k. get_or x 2 0 ≡ letter (tree_kind k)) → Opening x (ok_or o 2)
 opening_kind x (Some k) h one space e = record { long = omega arith; one = one; space = space; named = e }
 opening_kind x None h one space e = λ l. not_letter x l h one space e
 
@@ -89,9 +89,9 @@ module _ (x : List ℕ) (kind : NodeKind) (b : TextBegins x kind) where
   to_root : (l : List ℕ) → run_at x 0 (pre (49 ∷ 32 ∷ []) l) ≡ run_at x 3 (open_due [] l)
   to_root l =
       pre_byte x 0 (omega (arith, b.long)) 49 (32 ∷ []) l b.one ∙ pre_byte x 1 (omega (arith, b.long)) 32 [] l b.space
-      ∙ pre_letter x 2 (omega (arith, b.long)) l (ap letter? b.named ∙ is_letter (kind_of kind))
+      ∙ pre_letter x 2 (omega (arith, b.long)) l (ap letter? b.named ∙ is_letter (tree_kind kind))
 
-  first-bytes : x ≡ 49 ∷ 32 ∷ letter (kind_of kind) ∷ drop 3 x
+  first-bytes : x ≡ 49 ∷ 32 ∷ letter (tree_kind kind) ∷ drop 3 x
   first-bytes =
       drop-step x 0 (omega (arith, b.long))
       ∙ ap₂ ◌∷◌ b.one (drop-step x 1 (omega (arith, b.long)) ∙ ap₂ ◌∷◌ b.space (drop-step x 2 (omega (arith, b.long)) ∙ ap (λ c. c ∷ drop 3 x) b.named))
@@ -115,16 +115,16 @@ module _ (x : List ℕ) (kind : NodeKind) (b : TextBegins x kind) where
         pub whole_more : r.at + 1 < length x → run_at x 0 (pre (49 ∷ 32 ∷ []) (unused 0 used)) ≡ refused (r.at + 1)
         whole_more n = closed ∙ after_root x (r.at + 1) n (unused 0 used')
 
-        pub whole_read : {t : ℕ} → length x ≤ r.at + 1 → 0 < length old → many ≤ 255 → t ≡ node_token E (kind_of kind) r.count
+        pub whole_read : {t : ℕ} → length x ≤ r.at + 1 → 0 < length old → many ≤ 255 → t ≡ node_token E (tree_kind kind) r.count
             → Whole x (unused 0 used) old (set (put_mid 1 (length old - 1) old part) 0 t) (1 + r.count)
         unfolding tree_text
         whole_read n s m t = let p = o.0 in record {
-          spelled = node (kind_of kind) p.forest nil;
+          spelled = node (tree_kind kind) p.forest nil;
           bytes = first-bytes
-              ∙ ap (λ l. 49 ∷ 32 ∷ letter (kind_of kind) ∷ l)
+              ∙ ap (λ l. 49 ∷ 32 ∷ letter (tree_kind kind) ∷ l)
               (p.bytes ∙ ap (λ l. 40 ∷ (text p.forest ++ l))
               (drop-step x r.at o.1.there ∙ ap₂ ◌∷◌ o.1.bracket (drop_of_length-le x n)));
-          wrote = node_wrote (kind_of kind) p.forest s t p.wrote;
+          wrote = node_wrote (tree_kind kind) p.forest s t p.wrote;
           all_used = closed ∙ all_read x (r.at + 1) (unused 0 used') n;
           few = omega (arith, p.few);
         }

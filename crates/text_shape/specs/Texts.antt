@@ -4,7 +4,7 @@ use Rattle.spec_orders.specs.Tree.{Forest}
 use Rattle.spec_orders.specs.TreeText.{letter, tree_text, Shaped, ShapeRefused}
 use Rattle.tree_tokens.specs.Tokens.{Wrote, flat}
 use Rattle.text_leaf.specs.declared.NodeKind.{NodeKind}
-use Rattle.text_leaf.specs.Passages.{kind_of}
+use Rattle.text_leaf.specs.Passages.{tree_kind}
 use Rattle.text_scanner.specs.Scan.{lit, pre, run_at, accepted, refused}
 
 -- The text against one word; or the byte at which it is refused.
@@ -17,7 +17,7 @@ pub record TextBegins (x : List ℕ) (k : NodeKind) : Type 0 where
   pub long : 3 ≤ length x
   pub one : get_or x 0 0 ≡ 49
   pub space : get_or x 1 0 ≡ 32
-  pub named : get_or x 2 0 ≡ letter (kind_of k)
+  pub named : get_or x 2 0 ≡ letter (tree_kind k)
 
 -- The same; or the byte at which the text is refused.
 abbrev pub Opening : List ℕ → Result NodeKind ℕ → Type 0

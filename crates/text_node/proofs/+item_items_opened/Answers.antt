@@ -1,6 +1,6 @@
 use Rattle.std.proofs.Common.{arith, sym, ◌∙◌, ap, ◌+◌}
 use Rattle.std.proofs.lemmas.Result.{err_from_is_err_and}
-use Rattle.text_leaf.specs.Passages.{kind_of}
+use Rattle.text_leaf.specs.Passages.{tree_kind}
 use Rattle.text_node.proofs.Nodes.{item_ends, item_few, item_stops, item_node, items_end, items_few, items_stops, items_read, items_other, items_short, opened_ends, opened_bad, opened_read}
 use Rattle.text_node.proofs.+item_items_opened.Goals.{opened-then-at-text-via-then-at-text, opened-then-at-text-via-else-at-text+then-text-at-ne40}
 use Rattle.text_node.proofs.+item_items_opened.Goals as goal
@@ -11,18 +11,18 @@ item-returns-in_default t c = item_ends c.args.text.now c.args.at c.args.few c.a
 pub item-returns-then-many-inner : goal.item-returns-then-many-inner
 item-returns-then-many-inner t c =
     let b = c.in-Some.ensures.lookup.3 in
-    item_few c.args.text.now c.args.at c.args.few c.args.want c.args.many c.args.used.now c.requires.1 b.0 (kind_of c.in-Some-node_kind.kind) (sym (b.1 0) ∙ c.in-Some-node_kind.ensures) _ (ap (λ d. d + c.args.want) c.saturating_sub.ensures) c.if-many-inner.true
+    item_few c.args.text.now c.args.at c.args.few c.args.want c.args.many c.args.used.now c.requires.1 b.0 (tree_kind c.in-Some-node_kind.kind) (sym (b.1 0) ∙ c.in-Some-node_kind.ensures) _ (ap (λ d. d + c.args.want) c.saturating_sub.ensures) c.if-many-inner.true
 
 pub item-returns-in_err-within : goal.item-returns-in_err-within
 item-returns-in_err-within t c =
     let b = c.in-Some.ensures.lookup.3 in
     let p = err_from_is_err_and c.from_residual.result c.from_residual.ensures.1 in
-    rw (p.1, p.2) (item_stops c.args.text.now c.args.at c.args.few c.args.want c.args.many c.args.used.now c.requires.1 b.0 (kind_of c.in-Some-node_kind.kind) (sym (b.1 0) ∙ c.in-Some-node_kind.ensures) _ (ap (λ d. d + c.args.want) c.saturating_sub.ensures) c.if-many-inner.false _ c.in_err-within.ensures.0)
+    rw (p.1, p.2) (item_stops c.args.text.now c.args.at c.args.few c.args.want c.args.many c.args.used.now c.requires.1 b.0 (tree_kind c.in-Some-node_kind.kind) (sym (b.1 0) ∙ c.in-Some-node_kind.ensures) _ (ap (λ d. d + c.args.want) c.saturating_sub.ensures) c.if-many-inner.false _ c.in_err-within.ensures.0)
 
 pub item-returns : goal.item-returns
 item-returns t c =
     let b = c.in-Some.ensures.lookup.3 in
-    item_node c.args.text.now c.args.at c.args.few c.args.want c.args.many c.args.used.now c.requires.1 b.0 (kind_of c.in-Some-node_kind.kind) (sym (b.1 0) ∙ c.in-Some-node_kind.ensures) _ (ap (λ d. d + c.args.want) c.saturating_sub.ensures) c.if-many-inner.false _ (omega (arith, c.saturating_sub.ensures)) c.header.ensures c.in_ok-within.ensures
+    item_node c.args.text.now c.args.at c.args.few c.args.want c.args.many c.args.used.now c.requires.1 b.0 (tree_kind c.in-Some-node_kind.kind) (sym (b.1 0) ∙ c.in-Some-node_kind.ensures) _ (ap (λ d. d + c.args.want) c.saturating_sub.ensures) c.if-many-inner.false _ (omega (arith, c.saturating_sub.ensures)) c.header.ensures c.in_ok-within.ensures
 
 pub items-returns-in_default : goal.items-returns-in_default
 items-returns-in_default t c = (items_end c.args.text.now c.args.at c.args.few c.args.want c.args.many c.args.used.now _ c.in_ok-first.ensures c.in_default.ensures.lookup.3, tt)
