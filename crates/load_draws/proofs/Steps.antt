@@ -1,11 +1,10 @@
 -- A draw, one exchange of the shuffle, and the places numbered.
 use mathlib.Core.Path.{◌≡◌, refl, ap, ◌∙◌}
-use mathlib.Core.List.{List, ◌++◌, append-nil}
+use mathlib.Core.List.{List, ◌++◌}
 use Prim.Native.Nat.{ℕ, zero, suc, ◌+◌, ◌-◌, ◌*◌, ◌/◌, ◌%◌, ◌^◌, ◌≤◌, ◌<◌}
 use native.Mathlib.Omega.{arith}
 use lib.Bits.{bit_xor}
 use lib.ListN.{length, drop, get_or, set}
-use lib.Seq.{drop-length}
 use Rattle.spec_orders.specs.Lists.{numbers_from}
 use Rattle.spec_orders.proofs.Numbers.{numbers_length, numbers_append}
 use Rattle.tree_tokens.proofs.Writes.{write_step}
@@ -47,14 +46,11 @@ shuffled_end zero x l h = (refl, refl)
 shuffled_end (suc zero) x l h = (refl, refl)
 shuffled_end (suc (suc i)) x l h = absurd (omega arith)
 
--- One number more; all of them.
+-- One number more.
 pub numbers_step : (d : List ℕ) (i : ℕ) → i < length d → set (numbers_from 1 i ++ drop i d) i (i + 1) ≡ numbers_from 1 (i + 1) ++ drop (i + 1) d
 numbers_step d i h =
     let v : 1 + i ≡ i + 1 = omega arith in
     write_step (numbers_from 1 i) d i (i + 1) (numbers_length 1 i) h ∙ rw (numbers_append 1 i 1, v)
-
-pub numbers_end : (d : List ℕ) (i : ℕ) → i ≡ length d → numbers_from 1 i ++ drop i d ≡ numbers_from 1 (length d)
-numbers_end d i e = rw (e, drop-length d, append-nil (numbers_from 1 (length d)))
 
 -- The numbered places, shuffled.
 pub circle_is : (n x : ℕ) {mid new : List ℕ} {y : ℕ} → mid ≡ numbers_from 1 n → y ≡ state_after (length mid - 1) x → new ≡ shuffled (length mid) x mid

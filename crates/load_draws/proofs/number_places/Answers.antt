@@ -1,10 +1,5 @@
-use native.Mathlib.Omega.{arith}
-use mathlib.Core.Path.{◌∙◌}
-use Rattle.load_draws.proofs.Steps.{numbers_step, numbers_end}
+use Rattle.load_draws.proofs.Steps.{numbers_step}
 use Rattle.load_draws.proofs.number_places.Goals as goal
 
 pub loop-i-preserved : goal.loop-i-preserved
 loop-i-preserved c = rw c.loop-i.invariant (numbers_step c.args.places.now c.loop-i.i c.loop-i-test.true)
-
-pub returns : goal.returns
-returns c = c.loop-i.invariant ∙ numbers_end c.args.places.now c.loop-i.i (omega arith)
