@@ -68,14 +68,11 @@ fn join_p_items(toks: &[u16], n: usize, into: &mut [u16], many: usize) -> Option
         → Grows (joins (map elem (p_items (tree j))) t) into.new result }
 {
     let mut k = many;
-    let mut i = 0;
-    while i < toks.len() {
-        let y = &toks[i..];
-        i += tree_tokens::size(y);
-        let ItemShape::PNode = tree_tokens::shape(y) else {
+    for item in tree_tokens::each(toks) {
+        let ItemShape::PNode = tree_tokens::shape(item) else {
             continue;
         };
-        k = join_leaves(tree_tokens::items(y), n, into, k)?;
+        k = join_leaves(tree_tokens::items(item), n, into, k)?;
     }
     Some(k)
 }

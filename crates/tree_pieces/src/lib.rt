@@ -20,13 +20,10 @@ fn count(x: &[u16], s: u16) -> usize
         × ((j : Judged) → x.now ≡ encode j → result ≡ length (with_state s (totals j))) }
 {
     let mut n = 0;
-    let mut i = 0;
-    while i < x.len() {
-        let y = &x[i..];
-        if tree_tokens::state(y) == s {
+    for item in tree_tokens::each(x) {
+        if tree_tokens::state(item) == s {
             n += 1;
         }
-        i += tree_tokens::size(y);
     }
     n
 }

@@ -132,6 +132,26 @@ third_shape (j_leaf s b j) ne h g = absurd (h refl)
 third_shape (j_node s P i j) ne h g = absurd (g refl)
 third_shape (j_node s C i j) ne h g = refl
 
+-- What is seen of the first item alone.
+pub shape-first : (j : Judged) → shape_of (first_of j) ≡ shape_of j
+unfolding shape_of first_of
+shape-first j_nil = refl
+shape-first (j_leaf s b j) = refl
+shape-first (j_node s P i j) = refl
+shape-first (j_node s C i j) = refl
+
+pub state-first : (j : Judged) → state_of (first_of j) ≡ state_of j
+unfolding state_of first_of
+state-first j_nil = refl
+state-first (j_leaf s b j) = refl
+state-first (j_node s k i j) = refl
+
+pub items-first : (j : Judged) → items_of (first_of j) ≡ items_of j
+unfolding items_of first_of
+items-first j_nil = refl
+items-first (j_leaf s b j) = refl
+items-first (j_node s k i j) = refl
+
 -- The tokens of one item.
 pub encode_node : (s : State) (k : Kind) (i : Judged) → encode (j_node s k i j_nil) ≡ node_token s k (length (encode i)) ∷ encode i
 unfolding encode

@@ -11,7 +11,7 @@ use Rattle.spec_orders.proofs.ListLaws.{part_to_end}
 use Rattle.spec_orders.proofs.Laws.{frontier-append}
 use Rattle.tree_tokens.specs.Tokens.{Judged, j_nil, j_leaf, j_node, tree, j_append, encode, Tokens}
 use Rattle.tree_tokens.specs.Views.{first_of, items_of, rest_of}
-use Rattle.tree_tokens.proofs.Laws.{at_end, leaf_even, leaf_number, node_odd, node_size, encode_split, size_leaf}
+use Rattle.tree_tokens.proofs.Laws.{at_end, sizes, leaf_even, leaf_number, node_odd, node_size, encode_split, size_leaf}
 use Rattle.tree_tokens.proofs.Sequences.{encode-append, tree-append}
 
 -- At index i of the tokens of any sequence j stand those of a sequence k, and the two are as Q says.
@@ -131,3 +131,31 @@ frontier_leaf_at {k = k} p h = rw (← p.head) (leaves_leaf k p.some (rw (← p.
 
 pub frontier-node_at : {l : List ℕ} {i : ℕ} {k : Judged} → Here l i k → (get_or l i 0 / 8 % 2 ≡ 0 → ⊥) → frontier (tree k) ≡ frontier (tree (opened k))
 frontier-node_at {k = k} p h = leaves_node k p.some (rw (← p.head) at h)
+
+-- `rest` are the tokens of a sequence k that is left of any sequence j with the tokens l, and the two are as Q says.
+pub record StillLeft (l rest : List ℕ) (Q : Judged → Judged → Type 0) : Type 0 where
+  pub at : (j : Judged) → l ≡ encode j → (k : Judged) × (rest ≡ encode k) × Q j k
+
+pub all_left : {l rest : List ℕ} {Q : Judged → Judged → Type 0} → rest ≡ l → ((j : Judged) → Q j j) → StillLeft l rest Q
+all_left e q = record { at = λ j w. (j, e ∙ w, q j) }
+
+-- One item is taken; none is left.
+pub item_taken : {l s t x : List ℕ} {Q R : Judged → Judged → Type 0} → StillLeft l s Q
+    → (length t < length s) × ((k : Judged) → s ≡ encode k → (x ≡ encode (first_of k)) × (t ≡ encode (rest_of k)))
+    → ((j k : Judged) → 0 < length (encode k) → x ≡ encode (first_of k) → Q j k → R j (rest_of k)) → StillLeft l t R
+item_taken h step go = record {
+  at = λ j e.
+      let r = h.at j e in
+      let w = step.1 r.0 r.1 in
+      (rest_of r.0, w.1, go j r.0 (omega (arith, step.0, ap length r.1)) w.0 r.2);
+}
+
+pub item_tokens : {l s t x : List ℕ} {Q : Judged → Judged → Type 0} → StillLeft l s Q → Tokens l
+    → (length t < length s) × ((k : Judged) → s ≡ encode k → (x ≡ encode (first_of k)) × (t ≡ encode (rest_of k))) → Tokens x × (0 < length x)
+item_tokens h p step =
+    let r = h.at p.0 p.1 in
+    let w = step.1 r.0 r.1 in
+    ((first_of r.0, w.0), omega (arith, step.0, sizes r.0 r.1, ap length w.0, ap length w.1))
+
+pub none_left : {l s : List ℕ} {Q : Judged → Judged → Type 0} → StillLeft l s Q → length s ≡ 0 → (j : Judged) → l ≡ encode j → Q j j_nil
+none_left {Q = Q} h z j e = let r = h.at j e in subst (Q j) (at_end r.0 r.1 z) r.2

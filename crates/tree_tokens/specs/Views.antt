@@ -1,8 +1,9 @@
 -- What code sees of a sequence: its first item, that item's parts, and the items after it.
 use Rattle.std.proofs.Math.Option.{Option, none, some}
-use Rattle.std.specs.Prelude.{ℕ}
+use Rattle.std.specs.Prelude.{◌≡◌, List, [], ℕ, ◌<◌, length, Option as CodeOption, MatchOption}
+use denote.Ref.{Bor}
 use Rattle.spec_orders.specs.Tree.{P, C}
-use Rattle.tree_tokens.specs.Tokens.{State, E, Judged, j_nil, j_leaf, j_node}
+use Rattle.tree_tokens.specs.Tokens.{State, E, Judged, j_nil, j_leaf, j_node, encode}
 use Rattle.tree_tokens.specs.declared.ItemShape.{ItemShape}
 use Rattle.tree_tokens.specs.declared.ItemShape.TheVariants.{Leaf, PNode, CNode}
 
@@ -38,3 +39,8 @@ unfoldable pub rest_of : Judged → Judged
 rest_of j_nil = j_nil
 rest_of (j_leaf s b j) = j
 rest_of (j_node s k i j) = j
+
+-- Of the items whose tokens are s the first one is taken, and those of the others are left; or there is none.
+abbrev pub TakesItem : List ℕ → CodeOption (Bor (List ℕ)) → List ℕ → Type 0
+TakesItem s r t = MatchOption r ((s ≡ []) × (t ≡ []))
+    (λ item. (length t < length s) × ((j : Judged) → s ≡ encode j → (item.now ≡ encode (first_of j)) × (t ≡ encode (rest_of j))))

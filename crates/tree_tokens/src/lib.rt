@@ -2,14 +2,17 @@
 // its items follow. An item's state under a restriction, 0 to 4, is added to its token; so code too has a state as that number.
 #![tactic(auto)]
 
-ghost use Rattle.std.specs.Prelude.{◌≡◌, ◌<◌, ◌≤◌, length};
+ghost use Rattle.std.specs.Prelude.{◌≡◌, List, ℕ, ◌<◌, ◌≤◌, length};
+ghost use Rattle.std.specs.Iterator.{at_most};
 ghost use Rattle.std.proofs.Math.Option.{some};
 ghost use Rattle.spec_orders.specs.Lists.{numbers_from};
 ghost use Rattle.spec_orders.specs.Tree.{rev, items};
 ghost use Rattle.spec_orders.specs.Form.{first};
 ghost use Rattle.spec_orders.specs.Join.{fresh, leaf_items};
 ghost use Rattle.tree_tokens.specs.Tokens.{number, Judged, tree, j_rev, encode, Tokens, Wrote, flat};
-ghost use Rattle.tree_tokens.specs.Views.{shape_of, state_of, leaf_of, first_of, items_of, rest_of};
+ghost use Rattle.tree_tokens.specs.Views.{shape_of, state_of, leaf_of, first_of, items_of, rest_of, TakesItem};
+
+use std::marker::Model;
 
 // What an item is.
 #[derive(Clone, Copy, PartialEq, Eq)]
@@ -93,6 +96,46 @@ pub fn rest(toks: &[u16]) -> &[u16]
     &toks[m..]
 }
 
+// The items that tokens show, one after the other: each as its tokens.
+#[derive(Drop)]
+pub struct EachItem<'a> {
+    toks: &'a [u16],
+}
+
+impl<'a> Model for EachItem<'a> {
+    ghost Value = { List ℕ };
+
+    ghost view = { λ s. s.toks.now };
+
+    ghost invariant = { λ s. Tokens s.toks.now };
+}
+
+impl<'a> Iterator for EachItem<'a> {
+    type Item = &'a [u16];
+
+    ghost next_gives = { TakesItem };
+
+    ghost remaining = { λ s. at_most (length s) };
+
+    fn next(&mut self) -> Option<&'a [u16]> {
+        let toks = self.toks;
+        if toks.len() == 0 {
+            return None;
+        }
+        let m = size(toks);
+        self.toks = &toks[m..];
+        Some(&toks[..m])
+    }
+}
+
+// Goes over the items.
+pub fn each(toks: &[u16]) -> EachItem<'_>
+    requires { Tokens toks.now }
+    ensures { result ≡ toks.now }
+{
+    EachItem { toks }
+}
+
 // The first leaf of the first item; 0 where there is no item, or none in it.
 pub fn first_leaf(toks: &[u16]) -> u16
     requires { Tokens toks.now }
@@ -137,9 +180,7 @@ pub fn item_count(toks: &[u16]) -> usize
         × ((j : Judged) → toks.now ≡ encode j → result ≡ length (items (tree j))) }
 {
     let mut n = 0;
-    let mut i = 0;
-    while i < toks.len() {
-        i += size(&toks[i..]);
+    for _item in each(toks) {
         n += 1;
     }
     n

@@ -1,11 +1,9 @@
-use Prim.Native.Nat.{◌+◌, ◌-◌, ◌≤◌}
+use mathlib.Core.Path.{◌≡◌}
+use Prim.Native.Nat.{◌+◌, ◌≤◌}
 use lib.ListN.{length}
+use Rattle.tree_tokens.proofs.Steps.{StillLeft}
 use Rattle.tree_pieces.proofs.Laws.{many}
-use Rattle.tree_pieces.proofs.Walks.{Left}
 use Rattle.tree_pieces.proofs.count.Given as goal
 
-abbrev pub invariant-loop-i : goal.invariant-loop-i
-invariant-loop-i l = (l.i ≤ length l.x) × (l.n ≤ l.i) × Left (many l.s) (λ a. l.n + a) l.x l.i
-
-abbrev pub decreases-loop-i : goal.decreases-loop-i
-decreases-loop-i l = length l.x - l.i
+abbrev pub invariant-loop-item : goal.invariant-loop-item
+invariant-loop-item l = (l.n + length l.item-iterator ≤ length l.x) × StillLeft l.x l.item-iterator (λ j k. many l.s j ≡ l.n + many l.s k)

@@ -1,10 +1,21 @@
+use mathlib.Core.Path.{ap}
 use native.Mathlib.Omega.{arith}
+use borrow.Author.Rules.{rules}
+use lib.ListN.{length}
 use Rattle.tree_tokens.proofs.Counts.{items_more}
-use Rattle.tree_tokens.proofs.Steps.{at_last, next_item}
+use Rattle.tree_tokens.proofs.Steps.{all_left, item_taken, none_left}
 use Rattle.tree_tokens.proofs.item_count.Goals as goal
 
-pub loop-i-preserved : goal.loop-i-preserved
-loop-i-preserved c = (omega arith, omega arith, next_item c.loop-i.invariant.2 (omega arith) c.size-i.ensures.2 (λ j k p q. omega (arith, items_more k p.some)))
+pub loop-item-init : goal.loop-item-init
+loop-item-init c = (search rules, all_left (search rules) (λ j. omega arith))
+
+pub loop-item-preserved : goal.loop-item-preserved
+loop-item-preserved c =
+    let step = c.in-Some.ensures.steps in
+    (omega (arith, step.0, c.loop-item.invariant.0), item_taken c.loop-item.invariant.1 step (λ j k h x q. omega (arith, q, items_more k h)))
 
 pub returns : goal.returns
-returns c = (omega arith, λ j e. omega (arith, at_last c.loop-i.invariant.2 (omega arith) j e))
+returns c = (
+  omega (arith, c.loop-item.invariant.0),
+  λ j e. omega (arith, none_left c.loop-item.invariant.1 (ap length c.in-None.ensures.steps.0) j e),
+)
