@@ -1,4 +1,5 @@
-// The leaves of a tree in tokens, from left to right: the P-node walk and the C-node walk.
+// The leaves of a tree in tokens, from left to right: the P-node walk and the C-node walk. A P-node's items may be C-nodes and a C-node's items
+// P-nodes, so each walk calls the other. Both go by index: a leaf is passed by one test, without its size.
 #![tactic(auto)]
 
 ghost use Rattle.std.specs.Prelude.{◌≡◌, length};

@@ -41,7 +41,7 @@ fn join_leaves(toks: &[u16], n: usize, into: &mut [u16], many: usize) -> Option<
     Some(tree_tokens::copy(&next[0..m], into))
 }
 
-// Joins the leaves of each two neighbouring items.
+// Joins the leaves of each two neighbouring items. By index: the two are one part of the tokens.
 fn join_pairs(toks: &[u16], n: usize, into: &mut [u16], many: usize) -> Option<usize>
     requires { (Tokens toks.now) × (Growing n into.old many) }
     ensures { (j : Judged) (t : Forest) → toks.now ≡ encode j → take many into.old ≡ flat t

@@ -74,7 +74,8 @@ fn start(t: u16) -> u8
 }
 
 // Writes the items in the places from..to of toks to the same places of out, judged; answers where they take the automaton. `last` is the
-// state of the leaf just before, or 5 where there is none: another leaf of that state takes the automaton nowhere.
+// state of the leaf just before, or 5 where there is none: another leaf of that state takes the automaton nowhere. By index, since it writes
+// to the place from which it reads.
 fn judge_items(
     toks: &[u16],
     from: usize,

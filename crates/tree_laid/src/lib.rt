@@ -39,7 +39,7 @@ fn last_or(x: &[u16], b: u16) -> u16
     tree_tokens::last_leaf(x)
 }
 
-// How many tokens stand before the first item with a first leaf above b.
+// How many tokens stand before the first item with a first leaf above b: by index, which is the answer.
 fn rank(x: &[u16], b: u16) -> usize
     requires { Tokens x.now }
     ensures { (result ≤ length x.now)

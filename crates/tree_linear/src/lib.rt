@@ -112,6 +112,7 @@ fn turns(x: &[u16], back: bool) -> bool
 }
 
 // Writes the lines of all items, from the last to the first: those of the others, then that of the first one; where it turns, its items are left.
+// Going down is no iterator's step: each time both ends of what is left change.
 #[cycle(line_line_c_line_p_lines_lines_back)]
 fn lines_back(x: &[u16], back: bool, out: &mut [u16]) -> usize
     requires { (Fits (λ ts. all_in_line back (reverse ts)) x.now out.old) × (length x.now ≤ 512) }

@@ -55,7 +55,7 @@ fn put_first(x: &[u16], out: &mut [u16]) -> usize
     tree_tokens::strip(tree_tokens::first(x), out)
 }
 
-// Writes the items of state s, in their order.
+// Writes the items of state s, in their order. By index: from one run of such items to the next.
 fn only(x: &[u16], s: u16, out: &mut [u16]) -> usize
     requires { (Fits (λ ts. whole_of (with_state s ts)) x.now out.old) × (s ≤ 4) }
     ensures { (j : Judged) → x.now ≡ encode j
@@ -86,7 +86,7 @@ pub fn pack_state(x: &[u16], s: u16, out: &mut [u16]) -> usize
     1 + k
 }
 
-// The items from the first partial one on.
+// The items from the first partial one on. By index: a leaf is passed by one test, without its size.
 pub fn find_partial(x: &[u16]) -> &[u16]
     requires { Tokens x.now }
     ensures { (length result.now ≤ length x.now)
@@ -147,7 +147,8 @@ pub fn c_node(x: &[u16], out: &mut [u16]) -> usize
     1 + m
 }
 
-// Writes the empty items of x, and t, whose first leaf is b, before the first of them with a larger first leaf.
+// Writes the empty items of x, and t, whose first leaf is b, before the first of them with a larger first leaf. By index: the items from there on
+// are written in one run.
 fn insert(x: &[u16], b: u16, t: &[u16], out: &mut [u16]) -> usize
     requires { (j : Judged) × (g : Forest) × (x.now ≡ encode j) × (t.now ≡ flat g) × (b ≡ first g)
         × (length (flat (put_sorted g (whole_of (with_state 0 (totals j))))) ≤ length out.old) }

@@ -28,7 +28,7 @@ fn index_of(toks: &[u16], b: u16) -> usize
     place_of(toks, 16 * b).unwrap_or(toks.len())
 }
 
-// How many tokens stand before the item that holds the token p.
+// How many tokens stand before the item that holds the token p: by index, which is the answer.
 fn before(toks: &[u16], p: usize) -> usize
     requires { ((f : Forest) × (toks.now ≡ flat f)) × (p < length toks.now) }
     ensures { (result ≤ p) × ((f : Forest) → toks.now ≡ flat f → Held f p result) }

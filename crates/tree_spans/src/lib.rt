@@ -1,5 +1,5 @@
 // The items of one state at the start of a judged sequence. A leaf whose state has the number s is the token 16b + s, so it is passed by one
-// test and without its size: the walks of the update are runs of such leaves.
+// test and without its size: the walks of the update are runs of such leaves. So they go by index, which is also what they answer.
 #![tactic(auto)]
 
 ghost use Rattle.std.specs.Prelude.{◌≡◌, ◌≤◌, length};

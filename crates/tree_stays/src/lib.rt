@@ -7,7 +7,8 @@ ghost use Rattle.tree_stays.specs.Stays.{stays};
 
 use tree_tokens::ItemShape;
 
-// Whether the states say that the first item, reduced, is as it was. Goes down as long as one item alone is not empty.
+// Whether the states say that the first item, reduced, is as it was. Goes down as long as one item alone is not empty:
+// no iterator's step, since each time both ends of what is left change.
 pub fn stays(x: &[u16]) -> bool
     requires { (Tokens x.now) × (0 < length x.now) }
     ensures { (j : Judged) → x.now ≡ encode j → result ≡ stays j }

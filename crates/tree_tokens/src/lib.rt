@@ -152,7 +152,8 @@ pub fn first_leaf(toks: &[u16]) -> u16
     0
 }
 
-// The first leaf of the last item; 0 where there is no item, or none in it.
+// The first leaf of the last item; 0 where there is no item, or none in it. By index and not by `each`: a leaf that nobody judged is passed by one
+// test.
 pub fn last_leaf(toks: &[u16]) -> u16
     requires { Tokens toks.now }
     ensures { (j : Judged) → toks.now ≡ encode j → result ≡ first (rev (tree j)) }
