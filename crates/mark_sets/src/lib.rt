@@ -17,27 +17,15 @@ fn low_marks(k: usize) -> u64
     (one << (k as u64)) - 1
 }
 
-// How many of n leaves are left after one word's.
-fn after_word(n: usize) -> usize
-    ensures { result ≡ n - 64 }
-{
-    if n < 64 {
-        return 0;
-    }
-    n - 64
-}
-
 // Marks the leaves from 1 to n that were not marked, and no other.
 pub fn complement(words: &mut [u64], n: usize)
     ensures { words.new ≡ words_of (length words.old) (outside n (marked words.old)) }
 {
     let mut left = n;
-    let mut i = 0;
-    while i < words.len() {
+    for i in 0..words.len() {
         let mask = low_marks(left);
         words[i] = mask ^ (words[i] & mask);
-        left = after_word(left);
-        i += 1;
+        left = left.saturating_sub(64);
     }
 }
 
@@ -46,13 +34,11 @@ pub fn within(words: &[u64], n: usize) -> bool
     ensures { result ≡ all_of (λ b. leb b n) (leaves_of words.now) }
 {
     let mut rest = n;
-    let mut i = 0;
-    while i < words.len() {
-        if words[i] & low_marks(rest) != words[i] {
+    for &word in words {
+        if word & low_marks(rest) != word {
             return false;
         }
-        rest = after_word(rest);
-        i += 1;
+        rest = rest.saturating_sub(64);
     }
     true
 }
@@ -61,12 +47,10 @@ pub fn within(words: &[u64], n: usize) -> bool
 pub fn is_empty(words: &[u64]) -> bool
     ensures { result ≡ no_mark? words.now }
 {
-    let mut i = 0;
-    while i < words.len() {
-        if words[i] != 0 {
+    for &word in words {
+        if word != 0 {
             return false;
         }
-        i += 1;
     }
     true
 }

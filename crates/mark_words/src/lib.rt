@@ -47,9 +47,5 @@ pub fn set(words: &mut [u64], leaf: u16)
 pub fn clear(words: &mut [u64])
     ensures { words.new ≡ words_of (length words.old) no_leaf }
 {
-    let mut w = 0;
-    while w < words.len() {
-        words[w] = 0;
-        w += 1;
-    }
+    words.fill(0);
 }

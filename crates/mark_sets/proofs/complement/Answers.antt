@@ -15,5 +15,5 @@ loop-i-preserved c =
       written_one G c.args.words.now c.loop-i.i c.loop-i.words _ c.loop-i.invariant.0 (omega arith)
           (rw (c.low_marks-mask.ensures ∙ ap (λ (k : ℕ). 2 ^ min k 64 - 1) c.loop-i.invariant.1.0, written_read G c.args.words.now c.loop-i.i c.loop-i.words c.loop-i.invariant.0 (omega arith))
           (outside_word c.args.words.now c.args.n c.loop-i.i c.loop-i.invariant.1.1)),
-      (omega (arith, c.after_word-left.ensures), c.loop-i.invariant.1.1),
+      (omega (arith, c.saturating_sub-left.ensures), c.loop-i.invariant.1.1),
     )

@@ -6,8 +6,5 @@ use lib.Bits.{bit_and}
 use Rattle.mark_sets.proofs.Steps.{low}
 use Rattle.mark_sets.proofs.within.Given as goal
 
-abbrev pub invariant-loop-i : goal.invariant-loop-i
-invariant-loop-i l = (l.i ≤ length l.words) × (l.rest ≡ l.n - 64 * l.i) × ((k : ℕ) → k < l.i → bit_and (get_or l.words k 0) (low l.n k) ≡ get_or l.words k 0)
-
-abbrev pub decreases-loop-i : goal.decreases-loop-i
-decreases-loop-i l = length l.words - l.i
+abbrev pub invariant-loop-word : goal.invariant-loop-word
+invariant-loop-word l = (l.word-index ≤ length l.words) × (l.rest ≡ l.n - 64 * l.word-index) × ((k : ℕ) → k < l.word-index → bit_and (get_or l.words k 0) (low l.n k) ≡ get_or l.words k 0)
