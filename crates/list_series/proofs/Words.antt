@@ -1,34 +1,38 @@
--- Words with one byte between, element by element.
-use mathlib.Core.Path.{◌≡◌, refl}
-use mathlib.Core.List.{List, [], ◌∷◌, ◌++◌, map, append_assoc}
-use Prim.Native.Nat.{ℕ}
-use native.Mathlib.Omega.{arith}
-use lib.ListN.{length, get_or}
-use Rattle.spec_orders.specs.Lists.{All}
-use Rattle.spec_orders.proofs.ListLaws.{tail, tail_is}
+-- Words with one byte between, one after another.
+use Rattle.std.proofs.Common.{◌≡◌, ℕ, zero, suc, ◌+◌, ◌≤◌, ◌<◌, List, [], ◌∷◌, ◌++◌, map, length, get_or, take, arith, refl, append_assoc, append-nil, add-one}
+use Rattle.list_bytes.specs.Appends.{Appends}
+use Rattle.list_bytes.proofs.Laws.{appends_then, appends_as}
 use Rattle.spec_listing.specs.Listing.{between}
 
+-- The byte in front of a word: none in front of the first.
+abbrev pub link : ℕ → ℕ → List ℕ
+link c zero = []
+link c (suc i) = c ∷ []
+
+pub length-link : (c i : ℕ) → length (link c i) ≤ 1
+length-link c zero = omega arith
+length-link c (suc i) = omega arith
+
+module _ {old new : List ℕ} {at r : ℕ} where
+  pub linked : (c i : ℕ) → (i ≡ 0 → ⊥) → Appends (c ∷ []) at old new r → Appends (link c i) at old new r
+  linked c zero n a = absurd (n refl)
+  linked c (suc i) n a = a
+
+pub unlinked : (c i : ℕ) (old : List ℕ) (at : ℕ) → i ≡ 0 → Appends (link c i) at old old at
+unlinked c zero old at e = record { past = omega arith; after = λ before base v. rw append-nil v }
+unlinked c (suc i) old at e = absurd (omega (arith, e))
+
 module _ (c : ℕ) (g : ℕ → List ℕ) where
-  pub words_none : (l : List ℕ) → length l ≡ 0 → between c (map g l) ≡ []
-  words_none [] h = refl
-  words_none (x ∷ l) h = absurd (omega arith)
+  between_more : (l : List ℕ) (i : ℕ) → i < length l
+      → (between c (map g (take i l)) ++ link c i) ++ g (get_or l i 0) ≡ between c (map g (take (suc i) l))
+  between_more [] i h = absurd (omega arith)
+  between_more (x ∷ l) zero h = refl
+  between_more (x ∷ []) (suc i) h = absurd (omega arith)
+  between_more (x ∷ (y ∷ l)) (suc zero) h = simp append_assoc
+  between_more (x ∷ (y ∷ l)) (suc (suc i)) h = rw (← between_more (y ∷ l) (suc i) (omega arith)) (simp append_assoc)
 
-  pub words_one : (l : List ℕ) → length l ≡ 1 → between c (map g l) ≡ g (get_or l 0 0)
-  words_one [] h = absurd (omega arith)
-  words_one (x ∷ []) h = refl
-  words_one (x ∷ (y ∷ l)) h = absurd (omega arith)
-
-  pub words_more : (l : List ℕ) → (length l ≡ 0 → ⊥) → (length l ≡ 1 → ⊥)
-      → between c (map g l) ≡ (g (get_or l 0 0) ++ (c ∷ [])) ++ between c (map g (tail l))
-  words_more [] h k = absurd (h refl)
-  words_more (x ∷ []) h k = absurd (k refl)
-  words_more (x ∷ (y ∷ l)) h k = rw (tail_is x (y ∷ l), append_assoc)
-
-module _ (P : ℕ → Type 0) where
-  pub all_first : (l : List ℕ) → All P l → (length l ≡ 0 → ⊥) → P (get_or l 0 0)
-  all_first [] h k = absurd (k refl)
-  all_first (x ∷ l) h k = h.0
-
-  pub all_tail : (l : List ℕ) → All P l → (length l ≡ 0 → ⊥) → All P (tail l)
-  all_tail [] h k = absurd (k refl)
-  all_tail (x ∷ l) h k = rw (tail_is x l) h.1
+  -- One word more is appended.
+  pub more_appends : (l : List ℕ) (i : ℕ) {old mid mid' new : List ℕ} {at a b r : ℕ} → i < length l
+      → Appends (between c (map g (take i l))) at old mid a → Appends (link c i) a mid mid' b → Appends (g (get_or l i 0)) b mid' new r
+      → Appends (between c (map g (take (i + 1) l))) at old new r
+  more_appends l i h p q s = rw add-one (appends_as (between_more l i h) (appends_then (appends_then p q) s))
