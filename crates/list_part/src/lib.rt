@@ -26,7 +26,7 @@ pub fn part(file: &[u8], from: usize, out: &mut [u8]) -> Piece
 {
     match file_read::scan(file) {
         Ok(found) => print_listing(found, from, out),
-        Err(why) => print_error(spec_calls::place(why), from, out),
+        Err(why) => print_error(why.place(), from, out),
     }
 }
 
