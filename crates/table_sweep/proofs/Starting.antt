@@ -4,14 +4,14 @@ use mathlib.Core.List.{List, [], ◌∷◌, ◌++◌}
 use Prim.Native.Nat.{ℕ, suc, ◌+◌, ◌-◌, ◌*◌, ◌≤◌}
 use native.Mathlib.Omega.{arith}
 use native.Mathlib.Numerals.{add-one}
-use lib.ListN.{length, get_or, set, take, drop, replicate, length-append, length-replicate, get_or-replicate, replicate-append-replicate, drop_of_length-le}
+use borrow.Rule.Slice.PartMut.{put_mid}
+use lib.ListN.{length, get_or, take, drop, replicate, length-append, length-replicate, get_or-replicate, replicate-append-replicate, drop_of_length-le}
 use lib.Seq.{take_at, drop_at, drop-cons, get_or-drop, length-take-le}
 use Rattle.spec_orders.specs.Lists.{elem}
 use Rattle.spec_orders.specs.CircularOrder.{Restriction}
 use Rattle.spec_orders.specs.Tree.{nil}
 use Rattle.mark_words.specs.Marks.{marked, words_of, no_leaf}
 use Rattle.mark_words.proofs.Words.{words_agree, no_words}
-use Rattle.mark_words.proofs.Steps.{four_words}
 use Rattle.table_reading.specs.Reading.{row_at, blanks}
 use Rattle.table_sweep.specs.Kept.{Roots, Kept, Swept, all_blank, Blank, Started}
 use Rattle.table_reading.proofs.Complete as complete
@@ -41,17 +41,15 @@ started n S p t four z h table r b =
     (complete.all_blank n S table (256 - r) r (omega (arith, b.0)) (b.1 ∙ ap (λ (k : ℕ). replicate k 0) d))
 
 -- A restriction's four words are put over zeros.
-pub begun : (n : ℕ) (marks w : List ℕ) → length marks ≡ 4 → length w ≡ 265 → w ≡ words_of (length w) no_leaf
-    → Started n (marked marks) (set (set (set (set w 0 (get_or marks 0 0)) 1 (get_or marks 1 0)) 2 (get_or marks 2 0)) 3 (get_or marks 3 0))
-begun n marks w four long clear = subst (Started n (marked marks)) (sym is) (started n (marked marks) marks (replicate 261 0) four refl (λ b l m. refl))
+pub begun : (n : ℕ) (marks w part : List ℕ) → length marks ≡ 4 → length w ≡ 265 → w ≡ words_of (length w) no_leaf → part ≡ marks
+    → Started n (marked marks) (put_mid 0 4 w part)
+begun n marks w part four long clear e = subst (Started n (marked marks)) (sym is) (started n (marked marks) marks (replicate 261 0) four refl (λ b l m. refl))
   where
     zeros : w ≡ 0 ∷ (0 ∷ (0 ∷ (0 ∷ replicate 261 0)))
     zeros = clear ∙ ap (λ (k : ℕ). words_of k no_leaf) long ∙ no_words 265 ∙ sym (replicate-append-replicate 4 261 0)
 
-    is : set (set (set (set w 0 (get_or marks 0 0)) 1 (get_or marks 1 0)) 2 (get_or marks 2 0)) 3 (get_or marks 3 0) ≡ marks ++ replicate 261 0
-    is =
-        ap (λ (v : List ℕ). set (set (set (set v 0 (get_or marks 0 0)) 1 (get_or marks 1 0)) 2 (get_or marks 2 0)) 3 (get_or marks 3 0)) zeros
-        ∙ ap (λ (v : List ℕ). v ++ replicate 261 0) (four_words marks four)
+    is : put_mid 0 4 w part ≡ marks ++ replicate 261 0
+    is = ap (λ (v : List ℕ). put_mid 0 4 v part) zeros ∙ ap (λ (v : List ℕ). v ++ replicate 261 0) e
 
 -- A row of a table.
 pub row_of_table : (table : List ℕ) (r : ℕ) → 257 * r + 257 ≤ length table

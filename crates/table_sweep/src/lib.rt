@@ -167,10 +167,7 @@ fn read_entries(kind: NodeKind, places: &[u16], r: usize, n: usize, work: &mut [
 fn head(first: u16, b: u16) -> u16
     ensures { result ≡ head first b }
 {
-    if first == 0 {
-        return b;
-    }
-    first
+    if first == 0 { b } else { first }
 }
 
 // Whether all numbers are zero. Joined by `|`, with no test for each, they are read as vectors; `all` takes seven times as long.
@@ -252,10 +249,7 @@ pub fn begin(marks: &[u64], work: &mut [u64])
     ensures { (n : ℕ) → Started n (marked marks.now) work.new }
 {
     mark_words::clear(work);
-    work[0] = marks[0];
-    work[1] = marks[1];
-    work[2] = marks[2];
-    work[3] = marks[3];
+    work[..4].copy_from_slice(marks);
 }
 
 // Reads the 256 records of a table, from the last to the first; work is ready before, and afterwards has what `at_end` needs, and the state of

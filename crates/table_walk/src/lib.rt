@@ -8,7 +8,7 @@ ghost use Rattle.spec_calls.specs.NodeTable.{kind_of, tree_in};
 ghost use Rattle.tree_tokens.specs.Tokens.{E, node_token, Wrote, flat};
 ghost use Rattle.table_walk.specs.Walks.{NodeThere, ItemsThere, NodeWritten, ItemsWritten, Loads};
 
-// The token of a node whose items have m tokens; `kind` is the number of its kind.
+// The token of a node whose items have m tokens; `kind` is the number of its kind in a table that holds a tree: 2 for a C-node, else 1.
 fn header(kind: u16, m: usize) -> u16
     requires { m ≤ 512 }
     ensures { result ≡ node_token E (kind_of kind) m }
