@@ -19,12 +19,10 @@ fn rising(count: usize, out: &mut [u16]) -> usize
     requires { (count ≤ 96) × (count ≤ length out.old) }
     ensures { Wrote (numbers_from 1 count) out.old out.new result }
 {
-    let mut i = 0;
-    while i < count {
+    for i in 0..count {
         out[i] = (i + 1) as u16;
-        i += 1;
     }
-    i
+    count
 }
 
 // Writes the numbers of the groups in conflict with the group that four words mark, in a ring of n bins, rising, and says how many.
