@@ -3,14 +3,11 @@ use Rattle.list_ring.specs.Stands.{lists_of}
 use Rattle.list_ring.proofs.Files.{few_lines}
 use Rattle.spec_listing.specs.Listing.{listing}
 use Rattle.list_line.proofs.Printing.{listed_length}
-use Rattle.list_part.proofs.Parts.{shown_none, shown_more, short_part, whole_part}
+use Rattle.list_part.proofs.Parts.{shown_more, short_part, whole_part}
 use Rattle.list_part.proofs.print_lines.Goals as goal
 
 pub overflow_add-end : goal.overflow_add-end
 overflow_add-end c = omega (arith, few_lines c.args.whole.now.file.holds)
-
-pub loop-i-init : goal.loop-i-init
-loop-i-init c = record { stops = omega arith; within = omega arith; ring = c.requires; shown = shown_none _ c.args.from c.args.out.now }
 
 pub returns-then-out-at-lt4096 : goal.returns-then-out-at-lt4096
 returns-then-out-at-lt4096 c =
