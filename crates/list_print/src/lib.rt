@@ -7,7 +7,7 @@ use std::io;
 use std::io::Read;
 
 // Reads to the start of the table, until it is full or the input ends, and answers how many bytes. Fails where a read fails: then the start of the
-// table may hold what was read before.
+// table may hold what was read before. Each round goes on by as many bytes as came.
 pub fn read(source: &mut impl Read, table: &mut [u8]) -> io::Result<usize>
     ensures { ReadsAtMost result table.new }
 {

@@ -20,7 +20,8 @@ pub fn write_records(toks: &[u16], out: &mut [u16]) -> usize
     toks.len()
 }
 
-// Writes the places of the items, and says how many; `records` are the numbers that write_records wrote for these tokens.
+// Writes the places of the items, and says how many; `records` are the numbers that write_records wrote for these tokens. By index: both go on by
+// an item's size.
 fn write_entries(toks: &[u16], records: &[u16], out: &mut [u16]) -> usize
     requires { Placed toks.now records.now (length out.old) }
     ensures { (r : ℕ) (j : Judged) → records.now ≡ records_from r toks.now → toks.now ≡ encode j

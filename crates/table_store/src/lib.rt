@@ -45,7 +45,7 @@ fn write_rows(toks: &[u16], records: &[u16], out: &mut [u16]) -> usize
     k
 }
 
-// Makes the first `room` numbers zero, in which stand used rows and then blank ones.
+// Makes the first `room` numbers zero, in which stand used rows and then blank ones. By index, since it writes where it reads.
 fn erase_rows(room: usize, out: &mut [u16])
     requires { (c : ℕ) × (room ≡ 257 * c) × (RowsThere c out.old) }
     ensures { Wrote (replicate room 0) out.old out.new room }

@@ -72,7 +72,8 @@ fn see_item(toks: &[u16], o: usize) -> Seen
     }
 }
 
-// What is seen of the items of a node, a P-node if `rising`. Their text starts at byte o.
+// What is seen of the items of a node, a P-node if `rising`. Their text starts at byte o. By index: the first item starts what the others go on
+// with.
 #[cycle(see_item_see_items)]
 fn see_items(toks: &[u16], rising: bool, o: usize) -> Seen
     requires { (Tokens toks.now) × (0 < o) × (o + 6 * length toks.now ≤ 10000) }

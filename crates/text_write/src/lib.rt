@@ -54,7 +54,7 @@ fn write_closing(toks: &[u16], out: &mut [u8]) -> usize
     1 + write_gap(tree_tokens::rest(toks), &mut out[1..])
 }
 
-// Writes the text of a P-node's items, and says how many bytes.
+// Writes the text of a P-node's items, and says how many bytes. By index, as the other walk: an item's gap looks at the tokens behind it.
 #[cycle(write_c_write_p)]
 fn write_p(toks: &[u16], out: &mut [u8]) -> usize
     requires { Room text toks.now (length out.old) }

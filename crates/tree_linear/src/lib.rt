@@ -14,20 +14,14 @@ use tree_tokens::ItemShape;
 fn near(back: bool) -> u16
     ensures { result ≡ near back }
 {
-    if back {
-        return 1;
-    }
-    0
+    u16::from(back)
 }
 
 // The number of the state that comes last.
 fn far(back: bool) -> u16
     ensures { result ≡ far back }
 {
-    if back {
-        return 0;
-    }
-    1
+    u16::from(!back)
 }
 
 // Writes what takes the first item's place in a line.
