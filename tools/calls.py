@@ -57,15 +57,15 @@ class Enum(NamedTuple):
 
     crate: str  # that declares it
     type: str  # of the number
-    numbered: str  # the function of spec_calls that gives a number's value
+    numbered: str  # the definition of a number's value, which `from` gives
+    file: str  # of the crate's specs/, where it stands
 
     @property
     def definition(self):
-        """What that value is, of spec_calls/specs/Tables."""
-        return self.numbered
+        return f"Rattle.{self.crate}.specs.{self.file}.{{{self.numbered}}}"
 
 
-ENUMS = {"Layout": Enum("spec_orders", "u8", "layout_numbered")}
+ENUMS = {"Layout": Enum("spec_orders", "u8", "layout_numbered", "Layout")}
 
 
 class Call(NamedTuple):

@@ -28,7 +28,7 @@ def at_entry(p):
 
 def coded_entry(p):
     """The same in a function for C or Rust."""
-    return f"({p.enum.definition} {p.name})" if p.enum else at_entry(p)
+    return f"({p.enum.numbered} {p.name})" if p.enum else at_entry(p)
 
 
 def at_exit(p):
@@ -53,6 +53,9 @@ def with_value(call):
     return call.does + (f" The value is {call.value}." if call.value else "")
 
 
+ANSWER = "Result<usize, Refusal>"
+
+
 def with_answer(call):
     if not call.value:
         return call.does
@@ -62,7 +65,7 @@ def with_answer(call):
 
 def decoded(call):
     """What a function for C or Rust does first: of each number of an enum's value it takes the value."""
-    return [f"let {p.name} = spec_calls::{p.enum.numbered}({p.name});" for p in enums(call)]
+    return [f"let {p.name} = {p.type}::from({p.name});" for p in enums(call)]
 
 
 def uses(module, named):
@@ -83,9 +86,13 @@ def c_source(crate):
     where = f", {on_tables(made)} of rows of 257 numbers, one row a record" if tables else ""
     yield comment(f"{calls.CRATES[crate]}, for C and Rust{where}. {CODED} {MADE}")
     yield TACTIC
-    yield from uses("Rattle.spec_calls.specs.Tables", ["lent_rows"] * bool(tables) + enum_uses(made) + lent_uses(made))
+    yield from enum_uses(made)
+    yield from uses("Rattle.spec_calls.specs.Tables", ["lent_rows"] * bool(tables) + lent_uses(made))
     yield from uses("Rattle.spec_calls.specs.Refusals", ["reply"])
     yield from uses("Rattle.spec_calls.specs.Promises", [call.promise for call in made])
+    if named := enum_names(made):
+        yield ""
+        yield from named
     for call in made:
         body = decoded(call) + [f"let {calls.RECORDS[x]} = c_rows::records({x});" for x in node_tables(call)]
         body += called(f"let answer = {call.rows}::{call.name}", counted(call)).splitlines()
@@ -132,7 +139,7 @@ def enum_names(made):
 
 def on_records_head(call):
     """The comment, the head and the contract of the call on node records."""
-    return [comment(with_answer(call)), head(f"pub fn {call.name}", params(call.lent), "Answer", "Node"), f"ensures {{ {on_records(call, at_entry, at_exit, '(report result)')} }}"]
+    return [comment(with_answer(call)), head(f"pub fn {call.name}", params(call.lent), ANSWER, "Node"), f"ensures {{ {on_records(call, at_entry, at_exit, '(report result)')} }}"]
 
 
 def records_source(crate):
@@ -141,14 +148,14 @@ def records_source(crate):
     yield comment(f"{calls.CRATES[crate]}, {on_tables(made)} of records{apart}. {MADE}")
     yield TACTIC
     yield from records_uses(made, "report", ["lent_nodes"] * any(f.in_rows for call in made for f in functions(call)))
-    yield "use spec_calls::Answer;"
+    yield "use spec_calls::Refusal;"
     yield from enum_names(made)
     for call in made:
         for f in functions(call):
             does, public = (with_answer(call), "pub ") if f.name == call.name else (with_rows(f), "")
             ensures = on_records(call, at_entry, at_exit, "(report result)", f.in_rows)
             yield "\n" + comment(does)
-            yield function(head(f"{public}fn {f.name}", f.params(), "Answer", "Node"), ensures, records_body(f))
+            yield function(head(f"{public}fn {f.name}", f.params(), ANSWER, "Node"), ensures, records_body(f))
 
 
 def records_body(f):
@@ -165,7 +172,9 @@ def tests_source():
     made = with_nodes()
     yield comment(f"The calls of crate `record_calls` on node records, for tests from C and Rust. {CODED} {MADE}")
     yield TACTIC
-    yield from records_uses(made, "reply", enum_uses(made))
+    yield from enum_uses(made)
+    yield from records_uses(made, "reply", [])
+    yield from enum_names(made)
     for call in made:
         body = decoded(call) + [f"let answer = record_calls::{call.name}({', '.join(names(call))});", "spec_calls::code(answer, value)"]
         yield "\n" + comment(with_value(call)) + "\n#[unsafe(no_mangle)]"

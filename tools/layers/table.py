@@ -130,5 +130,5 @@ def lent_uses(made):
 
 
 def enum_uses(made):
-    """The definitions there by which a value of an enum is given for C and Rust."""
-    return sorted({p.enum.definition for call in made for p in enums(call)})
+    """The uses of the definitions by which a value of an enum is given for C and Rust."""
+    return sorted({f"ghost use {p.enum.definition};" for call in made for p in enums(call)})

@@ -7,6 +7,8 @@ ghost use Rattle.spec_calls.specs.Tables.{lent_book};
 ghost use Rattle.spec_calls.specs.Refusals.{reply};
 ghost use Rattle.spec_calls.specs.Promises.{ConflictPromise};
 
+use spec_orders::Layout;
+
 // Writes the numbers of the book's groups in conflict with the list's group, rising, then zeros, to the first 96 places of conflicts: none where the
 // whole book and the group can be consecutive together. The value is how many numbers.
 #[unsafe(no_mangle)]

@@ -8,6 +8,8 @@ ghost use Rattle.spec_calls.specs.Tables.{lent_rows};
 ghost use Rattle.spec_calls.specs.Refusals.{reply};
 ghost use Rattle.spec_calls.specs.Promises.{IntersectPromise};
 
+use spec_orders::Layout;
+
 // Writes the tree that allows exactly the orders allowed by the tree of n bins and by that of m to the third node table; a rack is taken as its ring
 // of n + 1 bins. The value is 0.
 #[unsafe(no_mangle)]

@@ -8,6 +8,8 @@ ghost use Rattle.spec_calls.specs.Tables.{lent_rows, lent_book};
 ghost use Rattle.spec_calls.specs.Refusals.{reply};
 ghost use Rattle.spec_calls.specs.Promises.{OrderPromise, AimPromise};
 
+use spec_orders::Layout;
+
 // Writes the standard order, of a ring from leaf 1, of a rack the first allowed list, to the first n places of order. The value is n.
 #[unsafe(no_mangle)]
 pub extern "C" fn tokuwhape_order(

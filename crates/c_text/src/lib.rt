@@ -8,6 +8,8 @@ ghost use Rattle.spec_calls.specs.Tables.{lent_rows, lent_book};
 ghost use Rattle.spec_calls.specs.Refusals.{reply};
 ghost use Rattle.spec_calls.specs.Promises.{WritePromise, ReadPromise};
 
+use spec_orders::Layout;
+
 // Writes the tree text, of a rack that of its ring of n + 1 bins, then zeros, to the first 2,048 bytes. The value is the length of the text.
 #[unsafe(no_mangle)]
 pub extern "C" fn tokuwhape_write(

@@ -8,6 +8,8 @@ ghost use Rattle.spec_calls.specs.Tables.{lent_rows, lent_book};
 ghost use Rattle.spec_calls.specs.Refusals.{reply};
 ghost use Rattle.spec_calls.specs.Promises.{OpenPromise, JoinPromise, TrialPromise};
 
+use spec_orders::Layout;
+
 // Opens a ring or a rack of n bins: its node table gets the fresh tree, and its book is emptied. The value is the count of groups, 0.
 #[unsafe(no_mangle)]
 pub extern "C" fn tokuwhape_open(

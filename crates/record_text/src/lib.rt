@@ -23,7 +23,13 @@ pub fn write(layout: Layout, n: usize, nodes: &[Node], bytes: &mut [u8]) -> Resu
 
 // Reads a tree text for n bins, of a rack for its ring of n + 1, lent without zeros after it: the node table gets its tree, a P-node where the text
 // has a C-node with two items, and the book is emptied. Answers the count of groups, 0; or refuses (1, 15, 2, 12), and leaves every table as it was.
-pub fn read(layout: Layout, n: usize, nodes: &mut [Node], book: &mut [u64], text: &[u8]) -> Result<usize, Refusal>
+pub fn read(
+    layout: Layout,
+    n: usize,
+    nodes: &mut [Node],
+    book: &mut [u64],
+    text: &[u8],
+) -> Result<usize, Refusal>
     ensures { ReadPromise (lent_records layout n nodes.old) (lent_book book.old 0) text.now (node_rows nodes.new) (lent_book book.new 0) (report result) × Left nodes.old nodes.new (report result) }
 {
     let mut flat = [0u16; 65792];

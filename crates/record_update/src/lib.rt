@@ -14,7 +14,12 @@ use spec_orders::Layout;
 
 // Opens a ring or a rack of n bins: its node table gets the fresh tree, and its book is emptied. Answers the count of groups, 0; or refuses (1, 15,
 // 2), and leaves every table as it was.
-pub fn open(layout: Layout, n: usize, nodes: &mut [Node], book: &mut [u64]) -> Result<usize, Refusal>
+pub fn open(
+    layout: Layout,
+    n: usize,
+    nodes: &mut [Node],
+    book: &mut [u64],
+) -> Result<usize, Refusal>
     ensures { OpenPromise (lent_records layout n nodes.old) (lent_book book.old 0) (node_rows nodes.new) (lent_book book.new 0) (report result) × Left nodes.old nodes.new (report result) }
 {
     let mut flat = [0u16; 65792];

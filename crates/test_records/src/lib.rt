@@ -10,6 +10,7 @@ ghost use Rattle.record_copy.specs.Rows.{node_rows};
 ghost use Rattle.record_left.specs.Records.{lent_records, Left};
 
 use record_copy::Node;
+use spec_orders::Layout;
 
 // Opens a ring or a rack of n bins: its node table gets the fresh tree, and its book is emptied. The value is the count of groups, 0.
 #[unsafe(no_mangle)]
