@@ -47,7 +47,12 @@ pub fn read(line: &[u8]) -> usize
 }
 
 // Makes the call on as many records and words as are lent.
-fn read_call(lent: Lent, nodes: &mut [u16], book: &mut [u64], text: &[u8]) -> Result<usize, Refusal> {
+fn read_call(
+    lent: Lent,
+    nodes: &mut [u16],
+    book: &mut [u64],
+    text: &[u8],
+) -> Result<usize, Refusal> {
     let a = least(lent.numbers, nodes.len());
     let b = least(lent.size, book.len());
     call_text::read(
@@ -61,7 +66,14 @@ fn read_call(lent: Lent, nodes: &mut [u16], book: &mut [u64], text: &[u8]) -> Re
 }
 
 // 1, 2 or 3, of the answer at a place of the line and the tables after the call, which held 7 throughout.
-fn after(line: &[u8], at: usize, got: Result<usize, Refusal>, lent: Lent, nodes: &[u16], book: &[u64]) -> usize
+fn after(
+    line: &[u8],
+    at: usize,
+    got: Result<usize, Refusal>,
+    lent: Lent,
+    nodes: &[u16],
+    book: &[u64],
+) -> usize
     ensures { result ≤ 3 }
 {
     match answers::compare(line, at, got) {

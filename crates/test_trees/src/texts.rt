@@ -35,7 +35,13 @@ fn run(n: usize, hex: &[u8], answer: &[u8]) -> usize
 }
 
 // 1, 2 or 3, of what reading the text answered and the node table after it.
-fn compared(n: usize, got: Result<usize, Refusal>, nodes: &[u16], text: &[u8], answer: &[u8]) -> usize
+fn compared(
+    n: usize,
+    got: Result<usize, Refusal>,
+    nodes: &[u16],
+    text: &[u8],
+    answer: &[u8],
+) -> usize
     ensures { result ≤ 3 }
 {
     match got {
