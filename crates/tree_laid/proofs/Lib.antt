@@ -1,2 +1,3 @@
 -- What the proofs of several functions use, here and in the crates above.
 pub mod Laws
+pub mod Around

@@ -17,7 +17,8 @@ pub struct Laid {
     pub first: u16,
 }
 
-// The first leaf of x, or b where x has no item.
+// The first leaf of x, or b where x has no item. A function that took the reader of the leaf, for this and the next, would be no plainer: the two
+// promise different ends.
 fn first_or(x: &[u16], b: u16) -> u16
     requires { Tokens x.now }
     ensures { (j : Judged) (g : Forest) → x.now ≡ encode j → b ≡ first g → result ≡ first (append (tree j) g) }

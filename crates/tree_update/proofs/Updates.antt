@@ -141,6 +141,18 @@ tokens_short n l p = omega (arith, ap length p.1, form_short n p.0 p.2 p.3)
 pub judged_part : (S : Restriction) (t : Forest) {old new : List ℕ} {m : ℕ} → Wrote (encode (judge S (tree (plain t)))) old new m → take (m - 0) (drop 0 new) ≡ encode (judge S t)
 judged_part S t w = read_part (begins w) ∙ ap (λ (f : Forest). encode (judge S f)) (tree_plain t)
 
+-- What the judge wrote, new, for the tokens of a tree, and what the first of its states says.
+module _ (S : Restriction) {toks old new : List ℕ} (judged : (j : Judged) → toks ≡ encode j → Wrote (encode (judge S (tree j))) old new (length toks)) where
+  pub judged_text : (t : Forest) → toks ≡ flat t → take (length toks - 0) (drop 0 new) ≡ encode (judge S t)
+  judged_text t e = judged_part S t (judged (plain t) e)
+
+  module _ {n s : ℕ} (state : (j : Judged) → take (length toks - 0) (drop 0 new) ≡ encode j → s ≡ number (state_of j)) (p : TokensWithin n toks) where
+    pub not_reduced : s ≡ 4 → (t : Forest) → toks ≡ flat t → reduce S t ≡ none
+    not_reduced x t e = reduce_no n S t (the_form n toks p t e) (sym (state _ (judged_text t e)) ∙ x)
+
+    pub is_reduced : (s ≡ 4 → ⊥) → (t : Forest) → toks ≡ flat t → reduce S t ≡ some (first_reduced (totals (judge S t)))
+    is_reduced x t e = reduce_yes n S t (the_form n toks p t e) (λ h. x (state _ (judged_text t e) ∙ h))
+
 -- A judged tree that can be reduced: its tokens are few, every tree with them has the form, its nodes have two items or more, and what is written
 -- has few tokens too.
 module _ {n : ℕ} {S : Restriction} {t : Forest} {toks judged : List ℕ} (p : JudgedTree n S t toks judged) where

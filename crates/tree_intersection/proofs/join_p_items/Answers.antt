@@ -1,6 +1,5 @@
 use mathlib.Core.Path.{◌≡◌, refl, sym, ap, ◌∙◌}
 use mathlib.Core.List.{[], ◌∷◌, map}
-use borrow.Author.Rules.{rules}
 use lib.ListN.{length, take}
 use Rattle.spec_orders.specs.Lists.{elem}
 use Rattle.spec_orders.specs.Tree.{Forest, frontier}
@@ -8,14 +7,11 @@ use Rattle.spec_orders.specs.Join.{joins}
 use Rattle.tree_tokens.specs.Tokens.{Judged, tree, encode, flat}
 use Rattle.tree_tokens.specs.Views.{first_of, items_of, rest_of}
 use Rattle.tree_tokens.proofs.Laws.{shape_read, shape-first, items-first}
-use Rattle.tree_tokens.proofs.Steps.{all_left, item_taken, item_tokens, none_left}
+use Rattle.tree_tokens.proofs.Steps.{item_taken, item_tokens, none_left}
 use Rattle.tree_intersection.specs.Intersect.{Grows}
 use Rattle.tree_intersection.proofs.Groups.{p_item_more, p_item_other}
-use Rattle.tree_intersection.proofs.Growth.{grows_as, joins-one, growing_more, joining_start, joining_same, joining_more, joining_none, joining_end}
+use Rattle.tree_intersection.proofs.Growth.{grows_as, joins-one, growing_more, joining_same, joining_more, joining_none, joining_end}
 use Rattle.tree_intersection.proofs.join_p_items.Goals as goal
-
-pub loop-item-init : goal.loop-item-init
-loop-item-init c = (refl, c.requires.1, all_left (search rules) (λ j. joining_start _ _ _ j))
 
 pub shape-requires : goal.shape-requires
 shape-requires c = item_tokens c.loop-item.invariant.2 c.requires.0 c.in-Some.ensures.steps

@@ -1,16 +1,12 @@
 use mathlib.Core.Path.{sym, ap, ◌∙◌}
 use native.Mathlib.Omega.{arith}
-use borrow.Author.Rules.{rules}
 use lib.ListN.{length}
 use Rattle.tree_tokens.specs.Tokens.{number}
 use Rattle.tree_tokens.proofs.Laws.{state-first}
-use Rattle.tree_tokens.proofs.Steps.{all_left, item_taken, item_tokens, none_left}
+use Rattle.tree_tokens.proofs.Steps.{item_taken, item_tokens, none_left}
 use Rattle.tree_pieces.specs.Writers.{with_state}
 use Rattle.tree_pieces.proofs.Laws.{at_first, totals_none, with_in, with_out}
 use Rattle.tree_pieces.proofs.count.Goals as goal
-
-pub loop-item-init : goal.loop-item-init
-loop-item-init c = (search rules, all_left (search rules) (λ j. omega arith))
 
 pub state-requires : goal.state-requires
 state-requires c = item_tokens c.loop-item.invariant.1 c.requires c.in-Some.ensures.steps

@@ -1,13 +1,9 @@
 use mathlib.Core.Path.{ap}
 use native.Mathlib.Omega.{arith}
-use borrow.Author.Rules.{rules}
 use lib.ListN.{length}
 use Rattle.tree_tokens.proofs.Counts.{items_more}
-use Rattle.tree_tokens.proofs.Steps.{all_left, item_taken, none_left}
+use Rattle.tree_tokens.proofs.Steps.{item_taken, none_left}
 use Rattle.tree_tokens.proofs.item_count.Goals as goal
-
-pub loop-item-init : goal.loop-item-init
-loop-item-init c = (search rules, all_left (search rules) (λ j. omega arith))
 
 pub loop-item-preserved : goal.loop-item-preserved
 loop-item-preserved c =
