@@ -8,7 +8,7 @@ use native.Mathlib.Numerals.{add-one}
 use lib.ListN.{length, length-take, take, drop, get_or, take-append-drop}
 use lib.Seq.{take-suc, drop-cons, take_all}
 use Rattle.spec_calls.specs.declared.Refusal.TheVariants.{RingFile}
-use Rattle.std.specs.Prelude.{Option as Maybe, Some, None}
+use Rattle.std.specs.Prelude.{Bool, true, IsTrue, Option as Maybe, Some, None}
 use Rattle.file_read.specs.RingFile.{Value, FileRefused, FileHolds, Says, told_of, malformed}
 use Rattle.file_read.specs.Reach.{CursorReaches}
 use Rattle.file_cursor.specs.declared.Phase.TheVariants.{Names, Due, Got}
@@ -56,7 +56,7 @@ module _ (x : List ℕ) (c : Cursor) (l : length x ≤ 65536) (k : CursorReaches
   ran : Run file_start x k.state
   ran = subst (λ z. Run file_start z k.state) (take_all (length x) x (omega arith)) k.run
 
-  pub whole_holds : c.phase ≡ Due → c.got ≡ 0 → FileHolds x c.names c.start c.lines
+  whole_holds : c.phase ≡ Due → c.got ≡ 0 → FileHolds x c.names c.start c.lines
   whole_holds p g = go k.state k.stands ran
     where
       go : (s : FileState) → CursorStands c s → Run file_start x s → FileHolds x c.names c.start c.lines
@@ -72,6 +72,9 @@ module _ (x : List ℕ) (c : Cursor) (l : length x ≤ 65536) (k : CursorReaches
         where
           apart : Due ≡ Got → ⊥
           apart e = cc
+
+  pub ended_holds : {t : Bool} → t ≡ true → (IsTrue t → (c.phase ≡ Due) × (c.got ≡ 0)) → FileHolds x c.names c.start c.lines
+  ended_holds e h = let end = h e in whole_holds end.0 end.1
 
   pub says_short : ((c.phase ≡ Due) × (c.got ≡ 0) → ⊥) → Says x (told_of (RingFile (length x)))
   says_short n =

@@ -114,5 +114,8 @@ module _ (x : List ℕ) (k s : ℕ) (p : s ≡ place_in x k) where
           (there l, q ∙ ap word_end (part_to_end x s ∙ ap (λ j. drop j x) (there l)) ∙ (at_word x k l).named.size)
 
 -- The part of the bytes that is cut out.
+pub name_inside : (x : List ℕ) (k s n : ℕ) → s ≡ name_start x k → n ≡ length (name_in x k) → s + n ≤ length x
+name_inside x k s n p q = omega (arith, p, q, (name_part x k).0)
+
 pub name_there : (x : List ℕ) (k s n : ℕ) → s ≡ name_start x k → n ≡ length (name_in x k) → take (s + n - s) (drop s x) ≡ name_in x k
 name_there x k s n p q = part_is x s n ∙ ap₂ (λ i j. take i (drop j x)) q p ∙ (name_part x k).1
