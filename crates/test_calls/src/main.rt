@@ -6,7 +6,7 @@
 
 use spec_calls::Refusal;
 use std::io;
-use test_fields::{at, least};
+use test_fields::at;
 
 fn main(rt: HostRuntime) -> io::Result<()> {
     let mut text = test_fields::buffer();
@@ -42,11 +42,9 @@ fn run(
     conflicts: &mut [u16],
     bytes: &mut [u8],
 ) -> io::Result<()> {
-    let mut at = 0;
-    while at < text.len() {
-        let end = test_fields::find(text, at, b'\n');
-        line(rt, &text[at..end], nodes, book, order, conflicts, bytes)?;
-        at = end + 1;
+    for part in text.split_inclusive(|b| *b == b'\n') {
+        let command = test_fields::without_end(part, b'\n');
+        line(rt, command, nodes, book, order, conflicts, bytes)?;
     }
     Ok(())
 }
@@ -81,8 +79,8 @@ fn on_book(
     if letter != b'C' {
         return Ok(());
     }
-    let b = least(at(numbers, 2), book.len());
-    let c = least(at(numbers, 4), conflicts.len());
+    let b = at(numbers, 2).min(book.len());
+    let c = at(numbers, 4).min(conflicts.len());
     let got = conflict_list(numbers, &book[0..b], &mut conflicts[0..c]);
     test_commands::answer(rt, letter, got)?;
     test_sums::book_and_conflicts(rt, book, conflicts)

@@ -2,7 +2,7 @@
 ghost use Rattle.std.specs.Prelude.{◌≤◌};
 
 use crate::{answers, fields, rings};
-use test_fields::{layout, least};
+use test_fields::layout;
 
 // 1 where the call is done as in the file, 2 where it is refused as in the file, 3 where the answer is another.
 pub fn outcome(line: &[u8]) -> usize
@@ -12,8 +12,8 @@ pub fn outcome(line: &[u8]) -> usize
     let mut book = [0u64; 388];
     let lent = rings::ring(line, &mut nodes, &mut book);
     let group = fields::number(line, lent.next);
-    let a = least(lent.numbers, 66049);
-    let b = least(lent.size, 388);
+    let a = lent.numbers.min(66049);
+    let b = lent.size.min(388);
     let got = call_order::aim(
         layout(lent.rack),
         lent.n,

@@ -3,10 +3,9 @@ ghost use Rattle.std.specs.Prelude.{◌≤◌};
 
 use crate::fields;
 use spec_calls::Refusal;
-use test_fields::least;
 
 // How the two compare: both are done with one value, and what the call gave begins at this place of the line; both are refused with one number
-// and place; or they differ.
+// and place; or they differ. The three cases are neither an option nor a result: only one of the two that agree has a value.
 #[derive(Drop)]
 pub enum Compared {
     Done(usize),
@@ -16,27 +15,13 @@ pub enum Compared {
 
 // Compares the answer at a place of the line with the one that the call gave.
 pub fn compare(line: &[u8], at: usize, got: Result<usize, Refusal>) -> Compared {
-    let number = fields::number(line, least(at, line.len()) + 2);
+    let number = fields::number(line, at.min(line.len()) + 2);
     let value = fields::number(line, number.next);
     match got {
-        Ok(said) => {
-            if number.value != 0 {
-                return Compared::Another;
-            }
-            if said != value.value {
-                return Compared::Another;
-            }
-            Compared::Done(value.next)
-        }
-        Err(why) => {
-            if why.number() as usize != number.value {
-                return Compared::Another;
-            }
-            if why.place() != value.value {
-                return Compared::Another;
-            }
-            Compared::Refused
-        }
+        Ok(said) if number.value == 0 && said == value.value => Compared::Done(value.next),
+        Err(why) if why.number() as usize == number.value && why.place() == value.value =>
+            Compared::Refused,
+        _ => Compared::Another,
     }
 }
 

@@ -2,7 +2,6 @@
 ghost use Rattle.std.specs.Prelude.{◌≤◌, length};
 
 use spec_orders::Layout;
-use test_fields::least;
 
 // What a field holds, and where the next one begins.
 #[derive(Clone, Copy)]
@@ -13,7 +12,7 @@ pub struct Field {
 
 // The number of the field at a place.
 pub fn number(line: &[u8], at: usize) -> Field {
-    let from = least(at, line.len());
+    let from = at.min(line.len());
     let end = test_fields::find(line, from, b' ');
     Field {
         value: test_fields::number(&line[from..end]),
@@ -29,7 +28,7 @@ pub fn bytes(line: &[u8], at: usize, out: &mut [u8]) -> Field
     if many.value == 0 {
         return many;
     }
-    let from = least(many.next, line.len());
+    let from = many.next.min(line.len());
     let end = test_fields::find(line, from, b' ');
     let k = test_fields::hex_bytes(&line[from..end], out);
     Field {
@@ -41,26 +40,23 @@ pub fn bytes(line: &[u8], at: usize, out: &mut [u8]) -> Field
 // Puts the numbers at a place, how many and then a place of the table and a value for each, into the table. Answers where the next field begins.
 fn changes(line: &[u8], at: usize, table: &mut [u16]) -> usize {
     let many = number(line, at);
-    let count = least(many.value, 1000);
+    let count = many.value.min(1000);
     let mut from = many.next;
-    let mut i = 0;
-    while i < count {
+    for _ in 0..count {
         let place = number(line, from);
         let value = number(line, place.next);
         test_fields::set_number(table, place.value, value.value);
         from = value.next;
-        i += 1;
     }
     from
 }
 
 // Reads a tree text, if it has bytes, into a table.
 fn read_text(layout: Layout, n: usize, text: &[u8], table: &mut [u16]) {
-    if text.len() == 0 {
-        return;
+    if !text.is_empty() {
+        let mut book = [0u64; 384];
+        let _ = call_text::read(layout, n, table, 256, &mut book, text);
     }
-    let mut book = [0u64; 384];
-    let _ = call_text::read(layout, n, table, 256, &mut book, text);
 }
 
 // Reads the tree text at a place into a table of zeros, and then changes it. Answers where the next field begins.
@@ -75,12 +71,10 @@ pub fn tree(line: &[u8], at: usize, layout: Layout, n: usize, table: &mut [u16])
 // Writes so many words, one a field from a place on, to the start of a table. Answers where the next field begins.
 pub fn words(line: &[u8], at: usize, count: usize, table: &mut [u64]) -> usize {
     let mut from = at;
-    let mut i = 0;
-    while i < count {
+    for i in 0..count {
         let word = number(line, from);
         test_fields::set_word(table, i, word.value);
         from = word.next;
-        i += 1;
     }
     from
 }
@@ -90,7 +84,7 @@ pub fn words(line: &[u8], at: usize, count: usize, table: &mut [u64]) -> usize {
 pub fn book(line: &[u8], at: usize, table: &mut [u64]) -> Field {
     let count = number(line, at);
     let groups = number(line, count.next);
-    let next = words(line, groups.next, 4 * least(groups.value, 96), table);
+    let next = words(line, groups.next, 4 * groups.value.min(96), table);
     Field {
         value: count.value,
         next,
@@ -102,14 +96,12 @@ pub fn list(line: &[u8], at: usize, out: &mut [u16]) -> Field
     ensures { result.value ≤ length out.old }
 {
     let many = number(line, at);
-    let count = least(many.value, out.len());
+    let count = many.value.min(out.len());
     let mut from = many.next;
-    let mut i = 0;
-    while i < count {
+    for i in 0..count {
         let x = number(line, from);
         test_fields::set_number(out, i, x.value);
         from = x.next;
-        i += 1;
     }
     Field {
         value: count,

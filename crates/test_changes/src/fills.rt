@@ -6,7 +6,7 @@ use crate::answers::Compared;
 use crate::rings::Lent;
 use crate::{answers, fields, rings};
 use spec_calls::Refusal;
-use test_fields::{layout, least};
+use test_fields::layout;
 
 // 1 where opening is done as in the file, 2 where it is refused as in the file, 3 where the answer or a table is another.
 pub fn opened(line: &[u8]) -> usize
@@ -21,8 +21,8 @@ pub fn opened(line: &[u8]) -> usize
 
 // Makes the call on as many records and words as are lent.
 fn open_call(lent: Lent, nodes: &mut [u16], book: &mut [u64]) -> Result<usize, Refusal> {
-    let a = least(lent.numbers, nodes.len());
-    let b = least(lent.size, book.len());
+    let a = lent.numbers.min(nodes.len());
+    let b = lent.size.min(book.len());
     call_update::open(
         layout(lent.rack),
         lent.n,
@@ -53,8 +53,8 @@ fn read_call(
     book: &mut [u64],
     text: &[u8],
 ) -> Result<usize, Refusal> {
-    let a = least(lent.numbers, nodes.len());
-    let b = least(lent.size, book.len());
+    let a = lent.numbers.min(nodes.len());
+    let b = lent.size.min(book.len());
     call_text::read(
         layout(lent.rack),
         lent.n,
@@ -77,28 +77,15 @@ fn after(
     ensures { result ≤ 3 }
 {
     match answers::compare(line, at, got) {
-        Compared::Done(next) => {
-            if !is_filled(line, next, lent, nodes, book) {
-                return 3;
-            }
-            1
-        }
-        Compared::Refused => {
-            if !is_kept(nodes, book) {
-                return 3;
-            }
-            2
-        }
-        Compared::Another => 3,
+        Compared::Done(next) if is_filled(line, next, lent, nodes, book) => 1,
+        Compared::Refused if is_kept(nodes, book) => 2,
+        _ => 3,
     }
 }
 
 // Whether the node table holds the tree whose text stands at a place of the line, the book is empty, and both still hold 7 past their sizes.
 fn is_filled(line: &[u8], at: usize, lent: Lent, nodes: &[u16], book: &[u64]) -> bool {
-    if !is_tree(line, at, lent, nodes) {
-        return false;
-    }
-    is_empty(book)
+    is_tree(line, at, lent, nodes) && is_empty(book)
 }
 
 // Whether the node table holds the tree whose text stands at a place of the line, and still 7 past its 256 records.
@@ -109,26 +96,20 @@ pub fn is_tree(line: &[u8], at: usize, lent: Lent, nodes: &[u16]) -> bool {
     if !test_tables::is_text(layout(lent.rack), lent.n, nodes, &text[0..k]) {
         return false;
     }
-    let past = least(65792, nodes.len());
+    let past = nodes.len().min(65792);
     test_tables::all_are(&nodes[past..], 7)
 }
 
 // Whether the book has 384 words of 0, and 7 past them.
 fn is_empty(book: &[u64]) -> bool {
-    let end = least(384, book.len());
+    let end = book.len().min(384);
     let none = [0u64; 384];
-    if !test_tables::same_words(&book[0..end], &none) {
-        return false;
-    }
     let past = [7u64; 4];
-    test_tables::same_words(&book[end..], &past)
+    book[..end] == none[..] && book[end..] == past[..]
 }
 
 // Whether both tables hold 7 throughout.
 fn is_kept(nodes: &[u16], book: &[u64]) -> bool {
-    if !test_tables::all_are(nodes, 7) {
-        return false;
-    }
     let old = [7u64; 388];
-    test_tables::same_words(book, &old)
+    test_tables::all_are(nodes, 7) && book == &old[..]
 }

@@ -5,7 +5,7 @@ use crate::answers::Compared;
 use crate::rings::Lent;
 use crate::{answers, fields, fills, rings};
 use spec_calls::Refusal;
-use test_fields::{layout, least};
+use test_fields::layout;
 
 // 1 where the call is done as in the file, 2 where it is refused as in the file, 3 where the answer or a table is another.
 pub fn outcome(line: &[u8]) -> usize
@@ -13,7 +13,7 @@ pub fn outcome(line: &[u8]) -> usize
 {
     let mut nodes = [0u16; 66049];
     let lent = rings::nodes(line, 2, &mut nodes);
-    let end = least(lent.numbers, 66049);
+    let end = lent.numbers.min(66049);
     with_first(line, lent, &nodes[0..end])
 }
 
@@ -23,7 +23,7 @@ fn with_first(line: &[u8], lent: Lent, nodes: &[u16]) -> usize
 {
     let mut other = [0u16; 66049];
     let second = rings::nodes(line, lent.next, &mut other);
-    let end = least(second.numbers, 66049);
+    let end = second.numbers.min(66049);
     with_both(line, lent, nodes, second, &other[0..end])
 }
 
@@ -46,7 +46,7 @@ fn call(
     third: &mut [u16],
     room: usize,
 ) -> Result<usize, Refusal> {
-    let end = least(257 * least(room, 257), third.len());
+    let end = (257 * room.min(257)).min(third.len());
     call_intersection::intersect(
         layout(lent.rack),
         lent.n,
@@ -66,18 +66,8 @@ fn after(line: &[u8], at: usize, got: Result<usize, Refusal>, lent: Lent, third:
     ensures { result ≤ 3 }
 {
     match answers::compare(line, at, got) {
-        Compared::Done(next) => {
-            if !fills::is_tree(line, next, lent, third) {
-                return 3;
-            }
-            1
-        }
-        Compared::Refused => {
-            if !test_tables::all_are(third, 7) {
-                return 3;
-            }
-            2
-        }
-        Compared::Another => 3,
+        Compared::Done(next) if fills::is_tree(line, next, lent, third) => 1,
+        Compared::Refused if test_tables::all_are(third, 7) => 2,
+        _ => 3,
     }
 }

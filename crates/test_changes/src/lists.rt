@@ -7,7 +7,7 @@ use crate::rings::Lent;
 use crate::{answers, fields, rings};
 use spec_calls::Refusal;
 use spec_orders::Layout;
-use test_fields::{layout, least};
+use test_fields::layout;
 
 // 1 where the order is made as in the file, 2 where that is refused as in the file, 3 where the answer or the order is another.
 pub fn ordered(line: &[u8]) -> usize
@@ -15,7 +15,7 @@ pub fn ordered(line: &[u8]) -> usize
 {
     let mut nodes = [0u16; 66049];
     let lent = rings::tree(line, &mut nodes);
-    let a = least(lent.numbers, 66049);
+    let a = lent.numbers.min(66049);
     let mut order = [7u16; 260];
     let got = order_call(lent, &nodes[0..a], &mut order);
     after(line, lent.next, got, lent.n, &order)
@@ -23,7 +23,7 @@ pub fn ordered(line: &[u8]) -> usize
 
 // Makes the call on as many places of the table as are lent.
 fn order_call(lent: Lent, nodes: &[u16], order: &mut [u16]) -> Result<usize, Refusal> {
-    let end = least(lent.size, order.len());
+    let end = lent.size.min(order.len());
     call_order::order(
         layout(lent.rack),
         lent.n,
@@ -44,7 +44,7 @@ pub fn conflicted(line: &[u8]) -> usize
     let places = fields::number(line, days.next);
     let mut book = [0u64; 388];
     let groups = rings::groups(line, places.next, &mut book);
-    let end = least(words.value, 388);
+    let end = words.value.min(388);
     let layout = layout(rack.value);
     of_book(
         line,
@@ -87,7 +87,7 @@ fn conflict_call(
     conflicts: &mut [u16],
     places: usize,
 ) -> Result<usize, Refusal> {
-    let end = least(places, conflicts.len());
+    let end = places.min(conflicts.len());
     call_conflict::conflict(layout, n, book, count, list, &mut conflicts[0..end])
 }
 
@@ -97,19 +97,9 @@ fn after(line: &[u8], at: usize, got: Result<usize, Refusal>, filled: usize, tab
     ensures { result ≤ 3 }
 {
     match answers::compare(line, at, got) {
-        Compared::Done(next) => {
-            if !is_list(line, next, filled, table) {
-                return 3;
-            }
-            1
-        }
-        Compared::Refused => {
-            if !test_tables::all_are(table, 7) {
-                return 3;
-            }
-            2
-        }
-        Compared::Another => 3,
+        Compared::Done(next) if is_list(line, next, filled, table) => 1,
+        Compared::Refused if test_tables::all_are(table, 7) => 2,
+        _ => 3,
     }
 }
 
@@ -117,10 +107,7 @@ fn after(line: &[u8], at: usize, got: Result<usize, Refusal>, filled: usize, tab
 fn is_list(line: &[u8], at: usize, filled: usize, table: &[u16]) -> bool {
     let mut want = [0u16; 256];
     let _ = fields::list(line, at, &mut want);
-    let k = least(filled, 256);
-    let end = least(k, table.len());
-    if table[0..end] != want[0..k] {
-        return false;
-    }
-    test_tables::all_are(&table[end..], 7)
+    let k = filled.min(256);
+    let end = k.min(table.len());
+    table[0..end] == want[0..k] && test_tables::all_are(&table[end..], 7)
 }

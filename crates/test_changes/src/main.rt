@@ -37,18 +37,15 @@ fn file(rt: &(impl Files + Print), name: &str) -> io::Result<()> {
 
 // Counts the outcome of each line.
 fn run(text: &[u8], sums: &mut [u64]) {
-    let mut at = 0;
-    while at < text.len() {
-        let end = test_fields::find(text, at, b'\n');
-        test_sums::add(sums, outcome(&text[at..end]));
-        at = end + 1;
+    for line in text.split_inclusive(|b| *b == b'\n') {
+        test_sums::add(sums, outcome(test_fields::without_end(line, b'\n')));
     }
 }
 
 // 4n + 1 where the answer is done as in the file, 4n + 2 where it is refused as in the file, 4n + 3 where it is another; 0 for a comment. n is the
 // first number of the line, 256 where that is more.
 fn outcome(line: &[u8]) -> usize {
-    let n = test_fields::least(fields::number(line, 2).value, 256);
+    let n = fields::number(line, 2).value.min(256);
     match test_fields::letter(line) {
         b'#' => 0,
         b'A' => 4 * n + aims::outcome(line),

@@ -1,7 +1,7 @@
 // What a line lends: a ring or a rack, its node table, and the size of a second table.
 use crate::fields;
 use crate::fields::Field;
-use test_fields::{layout, least};
+use test_fields::layout;
 
 // What is lent beside the tables: 0 for a ring or 1 for a rack, n, how many records, the numbers that these are, how many entries of the second
 // table, and the book's count; and where the next field begins. What the line does not have is 0.
@@ -25,7 +25,7 @@ fn records(line: &[u8], at: usize) -> Lent {
         rack: rack.value,
         n: n.value,
         have: have.value,
-        numbers: 257 * least(have.value, 257),
+        numbers: 257 * have.value.min(257),
         size: 0,
         count: 0,
         next: have.next,

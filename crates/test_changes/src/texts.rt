@@ -5,7 +5,7 @@ use crate::answers::Compared;
 use crate::rings::Lent;
 use crate::{answers, fields, rings};
 use spec_calls::Refusal;
-use test_fields::{layout, least};
+use test_fields::layout;
 
 // 1 where the text is written as in the file, 2 where that is refused as in the file, 3 where the answer or a byte is another.
 pub fn outcome(line: &[u8]) -> usize
@@ -13,7 +13,7 @@ pub fn outcome(line: &[u8]) -> usize
 {
     let mut nodes = [0u16; 66049];
     let lent = rings::tree(line, &mut nodes);
-    let a = least(lent.numbers, 66049);
+    let a = lent.numbers.min(66049);
     let mut bytes = [7u8; 2052];
     let got = call(lent, &nodes[0..a], &mut bytes);
     after(line, lent.next, got, &bytes)
@@ -21,7 +21,7 @@ pub fn outcome(line: &[u8]) -> usize
 
 // Makes the call on as many bytes as are lent.
 fn call(lent: Lent, nodes: &[u16], bytes: &mut [u8]) -> Result<usize, Refusal> {
-    let end = least(lent.size, bytes.len());
+    let end = lent.size.min(bytes.len());
     call_text::write(
         layout(lent.rack),
         lent.n,
@@ -36,20 +36,9 @@ fn after(line: &[u8], at: usize, got: Result<usize, Refusal>, bytes: &[u8]) -> u
     ensures { result ≤ 3 }
 {
     match answers::compare(line, at, got) {
-        Compared::Done(next) => {
-            if !is_written(line, next, bytes) {
-                return 3;
-            }
-            1
-        }
-        Compared::Refused => {
-            let old = [7u8; 2052];
-            if !test_fields::equal(bytes, &old) {
-                return 3;
-            }
-            2
-        }
-        Compared::Another => 3,
+        Compared::Done(next) if is_written(line, next, bytes) => 1,
+        Compared::Refused if is_kept(bytes) => 2,
+        _ => 3,
     }
 }
 
@@ -57,10 +46,13 @@ fn after(line: &[u8], at: usize, got: Result<usize, Refusal>, bytes: &[u8]) -> u
 fn is_written(line: &[u8], at: usize, bytes: &[u8]) -> bool {
     let mut want = [0u8; 2048];
     let _ = fields::bytes(line, at, &mut want);
-    let end = least(2048, bytes.len());
-    if !test_fields::equal(&bytes[0..end], &want) {
-        return false;
-    }
+    let end = bytes.len().min(2048);
     let past = [7u8; 4];
-    test_fields::equal(&bytes[end..], &past)
+    bytes[..end] == want[..] && bytes[end..] == past[..]
+}
+
+// Whether the bytes are 7 throughout.
+fn is_kept(bytes: &[u8]) -> bool {
+    let old = [7u8; 2052];
+    bytes == &old[..]
 }

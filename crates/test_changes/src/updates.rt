@@ -6,7 +6,7 @@ use crate::answers::Compared;
 use crate::rings::Lent;
 use crate::{answers, fields, rings};
 use spec_calls::Refusal;
-use test_fields::{layout, least};
+use test_fields::layout;
 
 // 1 where joining is done as in the file, 2 where it is refused as in the file, 3 where the answer or a table is another.
 pub fn joined(line: &[u8]) -> usize
@@ -24,8 +24,8 @@ pub fn joined(line: &[u8]) -> usize
 
 // Joins the group of the list to the lent part of the tables.
 fn join(lent: Lent, nodes: &mut [u16], book: &mut [u64], list: &[u16]) -> Result<usize, Refusal> {
-    let a = least(lent.numbers, nodes.len());
-    let b = least(lent.size, book.len());
+    let a = lent.numbers.min(nodes.len());
+    let b = lent.size.min(book.len());
     call_update::join(
         layout(lent.rack),
         lent.n,
@@ -42,19 +42,9 @@ fn after(line: &[u8], at: usize, got: Result<usize, Refusal>, nodes: &[u16], boo
     ensures { result ≤ 3 }
 {
     match answers::compare(line, at, got) {
-        Compared::Done(next) => {
-            if !is_joined(line, next, nodes, book) {
-                return 3;
-            }
-            1
-        }
-        Compared::Refused => {
-            if !is_kept(line, nodes, book) {
-                return 3;
-            }
-            2
-        }
-        Compared::Another => 3,
+        Compared::Done(next) if is_joined(line, next, nodes, book) => 1,
+        Compared::Refused if is_kept(line, nodes, book) => 2,
+        _ => 3,
     }
 }
 
@@ -70,17 +60,17 @@ fn is_joined(line: &[u8], at: usize, nodes: &[u16], book: &[u64]) -> bool {
     if !test_tables::is_text(layout(lent.rack), lent.n, nodes, &text[0..k]) {
         return false;
     }
-    let past = least(65792, nodes.len());
+    let past = nodes.len().min(65792);
     if nodes[past..] != old[65792..] {
         return false;
     }
     add_group(line, want.next, lent.count, &mut groups);
-    test_tables::same_words(book, &groups)
+    book == &groups[..]
 }
 
 // Writes the four words at a place of the line behind the first groups of a book, as many as its count.
 fn add_group(line: &[u8], at: usize, count: usize, book: &mut [u64]) {
-    let from = least(4 * least(count, 96), book.len());
+    let from = (4 * count.min(96)).min(book.len());
     let _ = fields::words(line, at, 4, &mut book[from..]);
 }
 
@@ -89,10 +79,7 @@ fn is_kept(line: &[u8], nodes: &[u16], book: &[u64]) -> bool {
     let mut old = [0u16; 66049];
     let mut groups = [0u64; 388];
     let _ = rings::ring(line, &mut old, &mut groups);
-    if nodes != old.as_slice() {
-        return false;
-    }
-    test_tables::same_words(book, &groups)
+    nodes == &old[..] && book == &groups[..]
 }
 
 // 1 where trying is done as in the file, 2 where it is refused as in the file, 3 where the answer is another.
@@ -104,8 +91,8 @@ pub fn tried(line: &[u8]) -> usize
     let lent = rings::ring(line, &mut nodes, &mut book);
     let mut list = [0u16; 512];
     let group = fields::list(line, lent.next, &mut list);
-    let a = least(lent.numbers, 66049);
-    let b = least(lent.size, 388);
+    let a = lent.numbers.min(66049);
+    let b = lent.size.min(388);
     let k = group.value;
     let got = call_update::trial(
         layout(lent.rack),

@@ -13,7 +13,7 @@
 use spec_calls::Refusal;
 use spec_orders::Layout;
 use std::io;
-use test_fields::{at, layout, least};
+use test_fields::{at, layout};
 
 // Obeys the commands O, J, T, A, R, N and B; another letter changes nothing. Fails where a write fails, as do those below: the command is then done.
 pub fn on_ring(
@@ -73,25 +73,12 @@ fn refused(rt: &impl Print, refusal: Refusal) -> io::Result<()> {
 
 // Whether a place or byte is returned with a refusal's number.
 fn has_place(k: u8) -> bool {
-    match k {
-        5 => true,
-        6 => true,
-        11 => true,
-        12 => true,
-        _ => false,
-    }
+    matches!(k, 5 | 6 | 11 | 12)
 }
 
 // Whether it is the letter of a call that takes a node table and a book.
 fn on_both(letter: u8) -> bool {
-    match letter {
-        b'O' => true,
-        b'J' => true,
-        b'T' => true,
-        b'A' => true,
-        b'R' => true,
-        _ => false,
-    }
+    matches!(letter, b'O' | b'J' | b'T' | b'A' | b'R')
 }
 
 // Makes the call on the first parts of the tables, and prints its answer.
@@ -108,8 +95,8 @@ fn lend_ring(
     let layout = layout(at(numbers, 0));
     let n = at(numbers, 1);
     let have = at(numbers, 2);
-    let a = least(at(numbers, 3), nodes.len());
-    let b = least(at(numbers, 4), book.len());
+    let a = at(numbers, 3).min(nodes.len());
+    let b = at(numbers, 4).min(book.len());
     let got = call(
         letter,
         numbers,
@@ -190,8 +177,8 @@ fn standard(
     let layout = layout(at(numbers, 0));
     let n = at(numbers, 1);
     let have = at(numbers, 2);
-    let a = least(at(numbers, 3), nodes.len());
-    let c = least(at(numbers, 4), order.len());
+    let a = at(numbers, 3).min(nodes.len());
+    let c = at(numbers, 4).min(order.len());
     let got = call_order::order(layout, n, &nodes[0..a], have, &mut order[0..c]);
     answer(rt, b'S', got)?;
     test_sums::nodes_and_order(rt, nodes, order)
@@ -206,8 +193,8 @@ fn tree_text(
     let layout = layout(at(numbers, 0));
     let n = at(numbers, 1);
     let have = at(numbers, 2);
-    let a = least(at(numbers, 3), nodes.len());
-    let c = least(at(numbers, 4), bytes.len());
+    let a = at(numbers, 3).min(nodes.len());
+    let c = at(numbers, 4).min(bytes.len());
     let got = call_text::write(layout, n, &nodes[0..a], have, &mut bytes[0..c]);
     answer(rt, b'W', got)?;
     test_sums::nodes_and_text(rt, nodes, bytes)

@@ -5,37 +5,28 @@ use std::io;
 
 // One more at i, where there is room.
 pub fn add(sums: &mut [u64], i: usize) {
-    if i >= sums.len() {
-        return;
+    if i < sums.len() && sums[i] <= 1000000 {
+        sums[i] += 1;
     }
-    let s = sums[i];
-    if s > 1000000 {
-        return;
-    }
-    sums[i] = s + 1;
 }
 
 // The count at i, at most a million.
 fn get(sums: &[u64], i: usize) -> u64
     ensures { result ≤ 1000000 }
 {
-    if i >= sums.len() {
-        return 0;
+    if i < sums.len() {
+        sums[i].min(1000000)
+    } else {
+        0
     }
-    let s = sums[i];
-    if s > 1000000 {
-        return 1000000;
-    }
-    s
 }
 
 // Prints a line for each n that has cases, and one for all. Fails where a write fails.
 pub fn print(rt: &impl Print, sums: &[u64]) -> io::Result<()> {
-    let mut n = 0;
     let mut kept: u64 = 0;
     let mut none: u64 = 0;
     let mut bad: u64 = 0;
-    while n <= 256 {
+    for n in 0..257 {
         let a = get(sums, 4 * n + 1);
         let b = get(sums, 4 * n + 2);
         let c = get(sums, 4 * n + 3);
@@ -43,7 +34,6 @@ pub fn print(rt: &impl Print, sums: &[u64]) -> io::Result<()> {
         kept += a;
         none += b;
         bad += c;
-        n += 1;
     }
     print!(rt; "total: ")?;
     numbers(rt, kept + none + bad, none, bad)

@@ -1,8 +1,6 @@
 // What the programs of the outside vectors print: checksums of tables, and counts of outcomes.
 #![tactic(auto)]
 
-ghost use Rattle.std.specs.Prelude.{◌≤◌};
-
 mod counts;
 
 pub use counts::{add, print};
@@ -25,7 +23,7 @@ pub fn book_and_conflicts(rt: &impl Print, book: &[u64], conflicts: &[u16]) -> i
     sums(rt, sum64(book), sum16(conflicts))
 }
 
-fn sums(rt: &impl Print, first: u64, second: u64) -> io::Result<()> {
+fn sums(rt: &impl Print, first: u32, second: u32) -> io::Result<()> {
     println!(rt; " : {first} {second}")
 }
 
@@ -35,60 +33,24 @@ pub fn number(rt: &impl Print, x: u64) -> io::Result<()> {
 }
 
 // The checksum of a table with one number more.
-fn mix(sum: u64, x: u64) -> u64
-    requires { (sum ≤ 4294967295) × (x ≤ 4294967295) }
-    ensures { result ≤ 4294967295 }
-{
-    (sum * 65599 + x) % 4294967296
+fn mix(sum: u32, x: u32) -> u32 {
+    sum.wrapping_mul(65599).wrapping_add(x)
 }
 
 // With both halves of a word more.
-fn mix_word(sum: u64, x: u64) -> u64
-    requires { sum ≤ 4294967295 }
-    ensures { result ≤ 4294967295 }
-{
-    mix(mix(sum, x / 4294967296), x % 4294967296)
-}
-
-fn wide8(x: u8) -> u64
-    ensures { result ≤ 255 }
-{
-    x as u64
-}
-
-fn wide16(x: u16) -> u64
-    ensures { result ≤ 65535 }
-{
-    x as u64
+fn mix_word(sum: u32, x: u64) -> u32 {
+    mix(mix(sum, (x >> 32) as u32), (x % 4294967296) as u32)
 }
 
 // The checksum of a table.
-fn sum16(table: &[u16]) -> u64 {
-    let mut sum: u64 = 0;
-    let mut i = 0;
-    while i < table.len() {
-        sum = mix(sum, wide16(table[i]));
-        i += 1;
-    }
-    sum
+fn sum16(table: &[u16]) -> u32 {
+    table.iter().fold(0, |sum, x| mix(sum, u32::from(*x)))
 }
 
-fn sum64(table: &[u64]) -> u64 {
-    let mut sum: u64 = 0;
-    let mut i = 0;
-    while i < table.len() {
-        sum = mix_word(sum, table[i]);
-        i += 1;
-    }
-    sum
+fn sum64(table: &[u64]) -> u32 {
+    table.iter().fold(0, |sum, x| mix_word(sum, *x))
 }
 
-fn sum8(table: &[u8]) -> u64 {
-    let mut sum: u64 = 0;
-    let mut i = 0;
-    while i < table.len() {
-        sum = mix(sum, wide8(table[i]));
-        i += 1;
-    }
-    sum
+fn sum8(table: &[u8]) -> u32 {
+    table.iter().fold(0, |sum, x| mix(sum, u32::from(*x)))
 }

@@ -10,35 +10,10 @@ pub fn is_text(layout: Layout, n: usize, nodes: &[u16], want: &[u8]) -> bool {
     let Ok(k) = call_text::write(layout, n, nodes, 256, &mut bytes) else {
         return false;
     };
-    if k > 2048 {
-        return false;
-    }
-    test_fields::equal(&bytes[0..k], want)
+    k <= 2048 && &bytes[..k] == want
 }
 
 // Whether every number is x.
 pub fn all_are(table: &[u16], x: u16) -> bool {
-    let mut i = 0;
-    while i < table.len() {
-        if table[i] != x {
-            return false;
-        }
-        i += 1;
-    }
-    true
-}
-
-// Whether a and b hold the same words.
-pub fn same_words(a: &[u64], b: &[u64]) -> bool {
-    if a.len() != b.len() {
-        return false;
-    }
-    let mut i = 0;
-    while i < a.len() {
-        if a[i] != b[i] {
-            return false;
-        }
-        i += 1;
-    }
-    true
+    table.iter().all(|y| *y == x)
 }

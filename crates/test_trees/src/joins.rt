@@ -41,20 +41,8 @@ fn compared(n: usize, joined: Result<usize, Refusal>, nodes: &[u16], want: &[u8]
     ensures { result ≤ 3 }
 {
     match joined {
-        Ok(_) => {
-            if test_tables::is_text(Layout::Ring, n, nodes, want) {
-                return 1;
-            }
-            3
-        }
-        Err(why) => {
-            if why.number() != 8 {
-                return 3;
-            }
-            if want.len() == 1 {
-                return 2;
-            }
-            3
-        }
+        Ok(_) if test_tables::is_text(Layout::Ring, n, nodes, want) => 1,
+        Err(why) if why.number() == 8 && want.len() == 1 => 2,
+        _ => 3,
     }
 }

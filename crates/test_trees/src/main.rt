@@ -28,11 +28,8 @@ fn file(rt: &(impl Files + Print), name: &str, joins: bool) -> io::Result<()> {
 
 // Counts the outcome of each line.
 fn run(text: &[u8], joins: bool, sums: &mut [u64]) {
-    let mut at = 0;
-    while at < text.len() {
-        let end = test_fields::find(text, at, b'\n');
-        test_sums::add(sums, outcome(&text[at..end], joins));
-        at = end + 1;
+    for line in text.split_inclusive(|b| *b == b'\n') {
+        test_sums::add(sums, outcome(test_fields::without_end(line, b'\n'), joins));
     }
 }
 

@@ -17,7 +17,7 @@ pub fn outcome(n: usize, hex: &[u8], rest: &[u8]) -> usize
 // The byte of an answer `12 byte`; the largest usize where it is another.
 fn byte(answer: &[u8]) -> usize {
     if answer.len() < 4 {
-        return 18446744073709551615;
+        return usize::MAX;
     }
     test_fields::number(&answer[3..])
 }
@@ -45,21 +45,9 @@ fn compared(
     ensures { result ≤ 3 }
 {
     match got {
-        Ok(_) => {
-            if is_again(n, nodes, text, answer) {
-                return 1;
-            }
-            3
-        }
-        Err(why) => {
-            if why.number() != 12 {
-                return 3;
-            }
-            if why.place() == byte(answer) {
-                return 2;
-            }
-            3
-        }
+        Ok(_) if is_again(n, nodes, text, answer) => 1,
+        Err(why) if why.number() == 12 && why.place() == byte(answer) => 2,
+        _ => 3,
     }
 }
 
