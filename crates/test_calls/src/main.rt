@@ -43,7 +43,7 @@ fn run(
     bytes: &mut [u8],
 ) -> io::Result<()> {
     for part in text.split_inclusive(|b| *b == b'\n') {
-        let command = test_fields::without_end(part, b'\n');
+        let command = part.strip_suffix(b"\n").unwrap_or(part);
         line(rt, command, nodes, book, order, conflicts, bytes)?;
     }
     Ok(())

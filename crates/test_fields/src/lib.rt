@@ -72,7 +72,7 @@ pub fn number(text: &[u8]) -> usize {
 }
 
 // The text without the b that it ends in, if it does.
-pub fn without_end(text: &[u8], b: u8) -> &[u8] {
+fn without_end(text: &[u8], b: u8) -> &[u8] {
     match text.split_last() {
         Some((last, rest)) if *last == b => rest,
         _ => text,

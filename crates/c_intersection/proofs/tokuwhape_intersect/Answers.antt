@@ -10,5 +10,5 @@ pub returns : goal.returns
 returns c =
     coded
     (λ (z : Layout × (Layout × (ℕ × (ℕ × ℕ)))). IntersectPromise (lent_nodes z.0 c.args.n z.1.1.0 c.args.nodes.now) (lent_nodes z.1.0 c.args.m z.1.1.1.0 c.args.other.now) (lent_nodes z.0 c.args.n z.1.1.1.1 c.args.third.now) c.intersect-answer.new.third)
-    (both c.layout_numbered-layout.ensures (both c.layout_numbered-layout2.ensures (both c.records-have.ensures (both c.records-had.ensures c.records-room.ensures))))
+    (both c.from-layout.ensures (both c.from-layout2.ensures (both c.records-have.ensures (both c.records-had.ensures c.records-room.ensures))))
     c.code.ensures c.intersect-answer.ensures

@@ -10,8 +10,8 @@ use Rattle.test_records.proofs.ring_intersect.Goals as goal
 
 pub returns : goal.returns
 returns c =
-    let first : c.layout_numbered-layout.result ≡ layout_numbered c.args.layout = c.layout_numbered-layout.ensures in
-    let second : c.layout_numbered-layout2.result ≡ layout_numbered c.args.layout2 = c.layout_numbered-layout2.ensures in
+    let first : c.from-layout.result ≡ layout_numbered c.args.layout = c.from-layout.ensures in
+    let second : c.from-layout2.result ≡ layout_numbered c.args.layout2 = c.from-layout2.ensures in
     let said : report c.intersect-answer.result ≡ reply c.code.result c.code.new.value = sym c.code.ensures in
     subst
     (λ (z : Layout × (Layout × Reply)). IntersectPromise (lent_records z.0 c.args.n c.args.nodes.now) (lent_records z.1.0 c.args.m c.args.other.now) (lent_records z.0 c.args.n c.args.third.now) (node_rows c.intersect-answer.new.third) z.1.1
