@@ -5,7 +5,8 @@ ghost use Rattle.std.specs.Prelude.{◌≤◌, length};
 ghost use Rattle.spec_orders.specs.TreeText.{digits};
 ghost use Rattle.tree_tokens.specs.Tokens.{Wrote};
 
-// Writes the decimal digits of v, without leading zeros, and says how many.
+// Writes the decimal digits of v, without leading zeros, and says how many. By hand: `write!` writes to a `fmt::Write`, and a contract on lent bytes
+// would state that it is these.
 pub fn write_number(v: usize, out: &mut [u8]) -> usize
     requires { length (digits v) ≤ length out.old }
     ensures { Wrote (digits v) out.old out.new result }

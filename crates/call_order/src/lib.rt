@@ -55,7 +55,8 @@ fn starts(words: &[u64], before: u16, order: &[u16]) -> usize
     starts(words, leaf, &order[1..])
 }
 
-// The place, counted from p on, of the first marked leaf that follows one that is not marked; 0 where there is none.
+// The place, counted from p on, of the first marked leaf that follows one that is not marked; 0 where there is none, as
+// `start_after` says.
 fn first_start(words: &[u64], before: u16, p: usize, order: &[u16]) -> usize
     requires { p + length order.now ≤ 512 }
     ensures { (result ≤ 512) × (result ≡ start_after (marked words.now) before p order.now) }

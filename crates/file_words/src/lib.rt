@@ -66,7 +66,8 @@ pub fn word_end(x: &[u8]) -> usize
     x.iter().position(|b| ends_word(*b)).unwrap_or(x.len())
 }
 
-// Where word number k, from 0, of the first line of x starts: after so many spaces. Past the last byte where there is no such word.
+// Where word number k, from 0, of the first line of x starts: after so many spaces. Past the last byte where there is no such word, as
+// `place_in` says.
 pub fn place(x: &[u8], k: usize) -> usize
     ensures { result ≡ place_in x.now k }
 {

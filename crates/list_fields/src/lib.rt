@@ -67,7 +67,7 @@ pub fn put_fields(
     out: &mut [u8],
     at: usize,
 ) -> usize
-    requires { (Line file.names list.now) × (Ordered file.names order.now) × (ring.now.count ≤ 96) × (at + 2048 ≤ length out.old) }
+    requires { (Line file.names list.now) × (Ordered file.names order.now) × (before ≤ 96) × (at + 2048 ≤ length out.old) }
     ensures { (result ≤ at + 2048) × ((s : RingState) (k : ℕ)
         → before ≡ length s.groups
         → RingStands file.entry.names (next s k list.now (outcome file.entry.names s list.now)) ring.now

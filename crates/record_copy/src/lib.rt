@@ -13,7 +13,7 @@ pub struct Node {
     pub items: [u16; 255],
 }
 
-// Writes a record to row `at`.
+// Writes a record to row `at`, number by number: a record's kind is a byte, a row's a number.
 fn put_row(node: &Node, flat: &mut [u16], at: usize)
     requires { at * 257 + 257 ≤ length flat.old }
     ensures row { flat.new ≡ put_row flat.old at (row_of node.now) }

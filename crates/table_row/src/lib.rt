@@ -44,8 +44,8 @@ fn write_entries(toks: &[u16], records: &[u16], out: &mut [u16]) -> usize
     k
 }
 
-// Writes the row of a node over the row that stands there, and says how many numbers, 257: `kind` is the number of its kind, `inner` are its items,
-// and `records` the numbers that write_records wrote for their tokens.
+// Writes the row of a node over the row that stands there, and says how many numbers, 257: `kind` is the number of its kind in a node table, `inner`
+// are its items, and `records` the numbers that write_records wrote for their tokens.
 pub fn write_row(kind: u16, inner: &[u16], records: &[u16], out: &mut [u16]) -> usize
     requires { (Placed inner.now records.now 255) × (RowThere out.old) }
     ensures { (r : ℕ) (i : Judged) → records.now ≡ records_from r inner.now → inner.now ≡ encode i

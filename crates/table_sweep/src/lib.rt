@@ -77,7 +77,7 @@ fn read_entry(v: u16, next: usize, n: usize, work: &mut [u64]) -> Option<Item>
     read_root(next, work)
 }
 
-// The kind of a node.
+// The kind of a node, as a record tells it by number. The text's reader has one for letters: neither crate knows the other.
 #[derive(Clone, Copy)]
 enum NodeKind {
     P,
@@ -163,7 +163,7 @@ fn read_entries(kind: NodeKind, places: &[u16], r: usize, n: usize, work: &mut [
     })
 }
 
-// The first leaf so far (0: none), or else b.
+// The first leaf so far (0: none, as no leaf is 0), or else b.
 fn head(first: u16, b: u16) -> u16
     ensures { result ≡ head first b }
 {

@@ -17,18 +17,19 @@ fn main(rt: HostRuntime) -> io::Result<()> {
     let mut index = fs::open(&rt, "index.txt")?;
     let mut bytes = buffer();
     let n = list_print::read(&mut index, &mut bytes)?;
-    let Ok(names) = str::from_utf8(&bytes[..n]) else {
-        return Err(io::Error::from(io::ErrorKind::InvalidInput));
-    };
-    for name in names.lines() {
-        list(&rt, name)?;
+    for line in bytes[..n].split_inclusive(|b| *b == b'\n') {
+        list(&rt, line.strip_suffix(b"\n").unwrap_or(line))?;
     }
     Ok(())
 }
 
-// Prints the name, and the listing of the file. Fails where the file does not open.
-fn list(rt: &(impl Files + Print), name: &str) -> io::Result<()> {
-    println!(rt; "{name}")?;
+// Prints the name, and the listing of the file. Fails where the name is no text, or where the file does not open.
+fn list(rt: &(impl Files + Print), name: &[u8]) -> io::Result<()> {
+    rt.write_all(name)?;
+    println!(rt; "")?;
+    let Ok(name) = str::from_utf8(name) else {
+        return Err(io::Error::from(io::ErrorKind::InvalidInput));
+    };
     let mut file = fs::open(rt, name)?;
     let mut bytes = buffer();
     let n = list_print::read(&mut file, &mut bytes)?;

@@ -15,7 +15,7 @@ pub struct Reached {
     pub count: usize,
 }
 
-// The kind of a node.
+// The kind of a node, as its letter tells it. The sweep of a node table has one for numbers: neither crate knows the other.
 #[derive(Clone, Copy)]
 pub enum NodeKind {
     P,

@@ -20,7 +20,7 @@ fn place_of(toks: &[u16], token: u16) -> Option<usize>
     toks.iter().position(|t| *t == token)
 }
 
-// The index of the leaf b; the length where it is none.
+// The index of the leaf b; the length where it is none, as `index_of` of the specification says.
 fn index_of(toks: &[u16], b: u16) -> usize
     requires { b ≤ 4095 }
     ensures { result ≡ index_of b toks.now }

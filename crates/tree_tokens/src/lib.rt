@@ -136,7 +136,7 @@ pub fn each(toks: &[u16]) -> EachItem<'_>
     EachItem { toks }
 }
 
-// The first leaf of the first item; 0 where there is no item, or none in it.
+// The first leaf of the first item; 0 where there is no item, or none in it, as `first` of the specification says.
 pub fn first_leaf(toks: &[u16]) -> u16
     requires { Tokens toks.now }
     ensures { (j : Judged) → toks.now ≡ encode j → result ≡ first (tree j) }

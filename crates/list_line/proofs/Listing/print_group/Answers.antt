@@ -20,11 +20,10 @@ advance-requires c =
 
 pub put_fields-requires : goal.put_fields-requires
 put_fields-requires c =
-    let f = c.args.self.now.file.holds in
-    let s = c.advance.ensures (state_at c.args.self.now.file.names (lists_of f) c.args.l) c.requires.1 in (
+    let f = c.args.self.now.file.holds in (
       rw (read_back c.group-k.ensures.0) (file_line f c.args.l c.requires.0),
       last_order f c.args.self.now.last_order,
-      s.few,
+      c.requires.1.few,
       omega (arith, c.requires.2, c.put_number-a.ensures.0, c.put_number-a.auto.out),
     )
 
