@@ -54,10 +54,12 @@ impl Cursor {
         ensures cursor_within { IfSome result (λ r. CursorWithin r (at + 1)) }
         ensures advances { Advances file.now at self result }
     {
+        // Read ahead of the cases: a scan of many value lines is faster so.
+        let b = file[at];
         match self.phase {
             Phase::Names => self.on_name(file, at),
-            Phase::Due => self.on_value(file[at]),
-            Phase::Got => self.on_got(file[at]),
+            Phase::Due => self.on_value(b),
+            Phase::Got => self.on_got(b),
         }
     }
 

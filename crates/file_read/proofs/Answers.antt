@@ -10,6 +10,9 @@ use Rattle.file_syntax.proofs.Exact.{parts_once}
 use Rattle.file_read.proofs.Values.{line_some}
 use Rattle.file_read.specs.RingFile.{Accepted, line, FileRefused, FileHolds, Says, ring, too_long, malformed}
 
+pub ring_holds : {x : List ℕ} {n h l : ℕ} → Says x (0 ∷ n ∷ h ∷ l ∷ []) → FileHolds x n h l
+ring_holds (ring h) = h
+
 -- A refusal: an accepted file has a names line.
 pub refused_at : {x : List ℕ} {r p : ℕ} → Says x (r ∷ p ∷ 0 ∷ 0 ∷ []) → ((65536 < length x) × (p ≡ 65536)) ⊎ ((length x ≤ 65536) × FileRefused x p)
 refused_at (ring f) = absurd (omega (arith, f.head, line_some f.ns))

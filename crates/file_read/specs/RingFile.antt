@@ -2,7 +2,7 @@
 use Rattle.std.specs.Prelude.{ℕ, ◌≤◌, ◌<◌, List, [], ◌∷◌, length, Result, Ok, Err}
 use Rattle.spec_calls.specs.Refusals.{reported}
 use Rattle.spec_calls.specs.declared.Refusal.{Refusal}
-use Rattle.file_read.specs.declared.ring_file.RingFile.{RingFile}
+use Rattle.file_read.specs.declared.Scanned.{Scanned}
 unfoldable pub use Rattle.file_syntax.specs.RingFile.{alphabet, leaves_on, name_in, name_start, line_in, value_in, group_in, group_for}
 pub use Rattle.file_syntax.specs.RingFile.{NameByte, Name, Names, Value, off, on, hyphen, value_byte, in_group, value_word, further, line, value_lines, file_bytes, Rules, place_of, Accepted, FileRefused, FileHolds, words_in}
 
@@ -17,6 +17,6 @@ pub data Says (x : List ℕ) : List ℕ → Type 0 where
 abbrev pub told_of : Refusal → List ℕ
 told_of why = (reported why).number ∷ (reported why).value ∷ 0 ∷ 0 ∷ []
 
-abbrev pub told : Result RingFile Refusal → List ℕ
-told (Ok file) = 0 ∷ file.names ∷ file.head ∷ file.lines ∷ []
+abbrev pub told : Result Scanned Refusal → List ℕ
+told (Ok found) = 0 ∷ found.names ∷ found.head ∷ found.lines ∷ []
 told (Err why) = told_of why

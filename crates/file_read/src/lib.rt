@@ -1,7 +1,7 @@
 // The ring file: whether it is accepted, and its names and groups, read where they stand.
 #![tactic(auto)]
 
-ghost use Rattle.std.specs.Prelude.{◌≡◌, ◌+◌, ◌≤◌, length, IfOk, MatchResult};
+ghost use Rattle.std.specs.Prelude.{◌≡◌, ◌+◌, ◌≤◌, length, MatchResult};
 ghost use Rattle.tree_tokens.specs.Tokens.{Wrote};
 ghost use Rattle.file_read.specs.RingFile.{name_in, name_start, line_in, value_in, group_for, Says, told, told_of};
 ghost use Rattle.file_read.specs.Reach.{CursorReaches};
@@ -12,6 +12,14 @@ use file_cursor::Cursor;
 pub use ring_file::RingFile;
 use spec_calls::Refusal;
 
+// What an accepted file holds: a ring of `names` leaves, a names line of `head` bytes, and `lines` lines of values.
+#[derive(Clone, Copy)]
+pub struct Scanned {
+    pub names: usize,
+    pub head: usize,
+    pub lines: usize,
+}
+
 // A part of a file: its first byte, and how many bytes it has. Two numbers, since the C interface hands them out.
 #[derive(Drop)]
 pub struct Part {
@@ -20,9 +28,8 @@ pub struct Part {
 }
 
 // Reads the file: what it holds, or the byte at which it is refused.
-pub fn scan(file: &[u8]) -> Result<RingFile<'_>, Refusal>
-    ensures says { Says file.now (told result) }
-    ensures bytes { IfOk result (λ f. f.bytes.now ≡ file.now) }
+pub fn scan(file: &[u8]) -> Result<Scanned, Refusal>
+    ensures { Says file.now (told result) }
 {
     if 65536 < file.len() {
         return Err(Refusal::RingFile(65536));
@@ -31,8 +38,7 @@ pub fn scan(file: &[u8]) -> Result<RingFile<'_>, Refusal>
     if !cursor.may_end() {
         return Err(Refusal::RingFile(file.len()));
     }
-    Ok(RingFile {
-        bytes: file,
+    Ok(Scanned {
         names: cursor.names,
         head: cursor.start,
         lines: cursor.lines,

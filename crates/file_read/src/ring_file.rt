@@ -1,9 +1,12 @@
 // An accepted ring file.
 
-ghost use Rattle.std.specs.Prelude.{◌≡◌, [], ◌-◌, ◌≤◌, ◌<◌, length, get_or};
+ghost use Rattle.std.specs.Prelude.{◌≡◌, [], ◌-◌, ◌≤◌, ◌<◌, length, get_or, MatchResult};
 ghost use Rattle.tree_tokens.specs.Tokens.{Wrote};
 ghost use Rattle.file_syntax.specs.RingFile.{FileHolds, leaves_on};
 ghost use Rattle.file_syntax.proofs.Once.{FileHolds-prop};
+ghost use Rattle.file_read.specs.RingFile.{Says, told_of};
+
+use spec_calls::Refusal;
 
 // The bytes of an accepted file: a ring of `names` leaves, a names line of `head` bytes, and `lines` lines of values.
 #[derive(Clone, Copy)]
@@ -16,6 +19,19 @@ pub struct RingFile<'a> {
 }
 
 impl<'a> RingFile<'a> {
+    // Reads the file through: the file itself, or the byte at which it is refused.
+    pub fn open(file: &'a [u8]) -> Result<RingFile<'a>, Refusal>
+        ensures { MatchResult result (λ f. f.bytes.now ≡ file.now) (λ why. Says file.now (told_of why)) }
+    {
+        let found = crate::scan(file)?;
+        Ok(RingFile {
+            bytes: file,
+            names: found.names,
+            head: found.head,
+            lines: found.lines,
+        })
+    }
+
     // The name of a leaf.
     pub fn name(self, leaf: usize) -> &'a [u8]
         requires { (1 ≤ leaf) × (leaf ≤ self.names) }

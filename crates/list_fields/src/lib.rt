@@ -25,19 +25,28 @@ fn mark_line(list: &[u16], n: usize, marks: &mut [u64])
     let _ = table_book::check_list(list, n, marks);
 }
 
-// Appends the fields of a group line that is refused: the ring's groups in conflict with it, by their input lines.
-fn put_refused(n: usize, list: &[u16], ring: &list_ring::Ring, out: &mut [u8], at: usize) -> usize
-    requires { (n ≤ 256) × (WellFormed n list.now) × (ring.now.count ≤ 96) × (at + 2048 ≤ length out.old) }
+// Appends the fields of a group line that is refused: the groups in conflict with it, of the book's first `count`, by their input lines.
+fn put_refused(
+    n: usize,
+    list: &[u16],
+    count: usize,
+    book: &[u64],
+    table: &[usize],
+    out: &mut [u8],
+    at: usize,
+) -> usize
+    requires { (n ≤ 256) × (WellFormed n list.now) × (count ≤ 96) × (384 ≤ length book.now) × (count ≤ length table.now)
+        × (at + 2048 ≤ length out.old) }
     ensures { (result ≤ at + 2048)
-        × (Appends (bytes " refused - " ++ commas (take ring.now.count ring.now.table) (conflicts_of Ring n (lent_book ring.now.book ring.now.count) (elem list.now)))
+        × (Appends (bytes " refused - " ++ commas (take count table.now) (conflicts_of Ring n (lent_book book.now count) (elem list.now)))
         at out.old out.new result) }
 {
     let mut group = [0; 4];
     mark_line(list, n, &mut group);
     let mut numbers = [0; 96];
-    let k = call_conflict::find(n, &ring.book, ring.count, &group, &mut numbers);
+    let k = call_conflict::find(n, book, count, &group, &mut numbers);
     let a = put(b" refused - ", out, at);
-    list_series::put_conflicts(&numbers[..k], &ring.table[..ring.count], out, a)
+    list_series::put_conflicts(&numbers[..k], &table[..count], out, a)
 }
 
 // Appends the fields of a group line that is kept: its aim in the order, or `-` where it has no leaf.
@@ -57,27 +66,30 @@ fn put_kept(file: RingFile, list: &[u16], order: &[u16], out: &mut [u8], at: usi
     put(b" -", out, b)
 }
 
-// Appends what follows the number of a group line. The ring had `before` groups, and is now that after the line.
+// Appends what follows the number of a group line. The ring had `before` groups, and has `after` of them, in this book and table, after the line.
 pub fn put_fields(
     file: RingFile,
     list: &[u16],
     order: &[u16],
     before: usize,
-    ring: &list_ring::Ring,
+    after: usize,
+    book: &[u64],
+    table: &[usize],
     out: &mut [u8],
     at: usize,
 ) -> usize
-    requires { (Line file.names list.now) × (Ordered file.names order.now) × (before ≤ 96) × (at + 2048 ≤ length out.old) }
-    ensures { (result ≤ at + 2048) × ((s : RingState) (k : ℕ)
+    requires { (Line file.names list.now) × (Ordered file.names order.now) × (384 ≤ length book.now) × (96 ≤ length table.now)
+        × (before ≤ 96) × (at + 2048 ≤ length out.old) }
+    ensures { (result ≤ at + 2048) × ((s : RingState) (k : ℕ) (toks : List ℕ) (m : ℕ)
         → before ≡ length s.groups
-        → RingStands file.entry.names (next s k list.now (outcome file.entry.names s list.now)) ring.now
+        → RingStands file.entry.names (next s k list.now (outcome file.entry.names s list.now)) toks m book.now table.now after
         → Appends (fields file.entry.holds.ns order.now s list.now (outcome file.entry.names s list.now)) at out.old out.new result) }
 {
     if before == 96 {
         return put(b" full - -", out, at);
     }
-    if before < ring.count {
+    if before < after {
         return put_kept(file, list, order, out, at);
     }
-    put_refused(file.names, list, ring, out, at)
+    put_refused(file.names, list, before, book, table, out, at)
 }

@@ -1,6 +1,7 @@
 -- The tree and the order of a file's ring after all lines.
 use Rattle.std.proofs.Common.{◌≡◌, ℕ, ◌≤◌, List, sym, ap, subst, ◌∙◌, arith}
 use Rattle.spec_orders.specs.Form.{InForm, standard}
+use Rattle.tree_tokens.specs.Tokens.{flat, TreeTokens}
 use Rattle.file_read.specs.RingFile.{FileHolds}
 use Rattle.spec_listing.specs.Listing.{RingState, opened, run, state_at}
 use Rattle.spec_listing.proofs.EmptyLines.{state_form}
@@ -25,3 +26,6 @@ module _ {x : List ℕ} {n h k : ℕ} (f : FileHolds x n h k) where
 
   pub last_order : {order : List ℕ} → order ≡ standard (final f.ns (lists_of f)) → Ordered n order
   last_order e = record { tree = final f.ns (lists_of f); form = last_form; is = e; some_leaf = some_leaf; few_leaves = few_names f }
+
+  pub last_tokens : {toks : List ℕ} → toks ≡ flat (final f.ns (lists_of f)) → TreeTokens n toks
+  last_tokens e = record { shown = final f.ns (lists_of f); is = e; in_form = last_form; few_leaves = few_names f }

@@ -5,18 +5,17 @@ use Prim.Native.Nat.{ℕ, ◌+◌, ◌-◌, ◌≤◌, ◌<◌}
 use native.Mathlib.Omega.{arith}
 use lib.ListN.{length, get_or}
 use Rattle.spec_orders.specs.Tree.{Forest}
-use Rattle.spec_orders.specs.Form.{InForm, standard}
+use Rattle.spec_orders.specs.Form.{standard}
 use Rattle.spec_orders.specs.TreeText.{digits, tree_text}
 use Rattle.spec_orders.specs.Circles.{bytes}
 use Rattle.spec_orders.proofs.TextTree.{text-length}
-use Rattle.tree_tokens.specs.Tokens.{tree, plain}
+use Rattle.tree_tokens.specs.Tokens.{tree, plain, TreeTokens}
 use Rattle.tree_tokens.proofs.Sequences.{tree_plain}
 use Rattle.list_bytes.specs.Appends.{Appends}
 use Rattle.list_bytes.proofs.Laws.{appends_then, appends_as}
 use Rattle.file_read.specs.RingFile.{leaves_on, FileHolds}
 use Rattle.spec_listing.specs.Listing.{outcome, state_at, spaced_names, fields, listing}
-use Rattle.list_ring.specs.Stands.{lists_of, StandsAt}
-use Rattle.list_ring.specs.declared.Ring.{Ring}
+use Rattle.list_ring.specs.Stands.{lists_of, RingStands}
 use Rattle.list_ring.proofs.Files.{list_at, lists_length}
 use Rattle.list_line.specs.Printing.{group_line, final, ending}
 use Rattle.list_line.proofs.Lines.{listing-length, head-line, middle-line, end_line}
@@ -52,13 +51,14 @@ module _ (names : List (List ℕ)) (t : Forest) {j : ℕ} where
   end_text e = rw e (ap tree_text (tree_plain t))
 
 -- The length of a tree's text.
-pub short-text : {n : ℕ} (t : Forest) → InForm n t → n ≤ 256 → length (tree_text (tree (plain t))) ≤ 2048
-short-text {n} t h l = rw (tree_plain t) (text-length n t h l)
+pub short-text : {n : ℕ} {toks : List ℕ} (p : TreeTokens n toks) → length (tree_text (tree (plain p.shown))) ≤ 2048
+short-text {n} p = rw (tree_plain p.shown) (text-length n p.shown p.in_form p.few_leaves)
 
 -- The lines of the listing of a file.
 module _ {x : List ℕ} {n h k : ℕ} (f : FileHolds x n h k) where
-  pub stands_at : {a b : ℕ} {r : Ring} → a ≡ b → StandsAt f a r → StandsAt f b r
-  stands_at {r = r} e s = subst (λ (l : ℕ). StandsAt f l r) e s
+  pub stands_at : {a b : ℕ} {toks book table : List ℕ} {m count : ℕ} → a ≡ b → RingStands n (state_at n (lists_of f) a) toks m book table count
+      → RingStands n (state_at n (lists_of f) b) toks m book table count
+  stands_at {toks = toks} {book} {table} {m} {count} e s = subst (λ (l : ℕ). RingStands n (state_at n (lists_of f) l) toks m book table count) e s
 
   pub listed_length : length (listing f.ns (lists_of f)) ≡ k + 5
   listed_length = omega (arith, listing-length f.ns (lists_of f), lists_length f)

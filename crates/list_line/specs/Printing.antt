@@ -7,7 +7,7 @@ use Rattle.spec_orders.specs.Circles.{bytes}
 use Rattle.file_read.specs.RingFile.{FileHolds}
 use Rattle.spec_listing.specs.Listing.{opened, outcome, run, state_at, spaced_names, fields}
 use Rattle.list_ring.specs.Stands.{StandsAt}
-use Rattle.list_ring.specs.declared.Ring.{Ring}
+use Rattle.list_ring.specs.declared.lent.Ring.{Ring}
 
 -- The line of group line l, from 0, without its byte 10.
 unfoldable pub group_line : List (List ℕ) → List ℕ → List (List ℕ) → ℕ → List ℕ

@@ -21,9 +21,8 @@ use Rattle.file_read.specs.RingFile.{Value, leaves_on, Accepted, FileRefused, Fi
 use Rattle.file_read.proofs.Answers.{refused_at}
 use Rattle.spec_orders.proofs.FirstByte.{not_refused, refused_once}
 use Rattle.file_syntax.proofs.Exact.{parts_once}
-use Rattle.spec_listing.specs.Listing.{listing, error_line, Lists, accepted, too_long, malformed}
-use Rattle.list_ring.specs.Stands.{lists_of, StandsAt}
-use Rattle.list_ring.specs.declared.Ring.{Ring}
+use Rattle.spec_listing.specs.Listing.{state_at, listing, error_line, Lists, accepted, too_long, malformed}
+use Rattle.list_ring.specs.Stands.{lists_of, RingStands}
 use Rattle.list_ring.proofs.Files.{few_names}
 use Rattle.list_part.specs.declared.Piece.{Piece}
 use Rattle.list_line.specs.Printing.{final}
@@ -32,12 +31,12 @@ use Rattle.list_part.specs.Parts.{Parts, Listed}
 use Rattle.list_part.proofs.Parts.{shown_none, shown_more, whole_part}
 
 -- The ring after all lines.
-module _ {x : List ℕ} {n h k : ℕ} (f : FileHolds x n h k) {r : Ring} (s : StandsAt f k r) where
+module _ {x : List ℕ} {n h k : ℕ} (f : FileHolds x n h k) where
   abbrev t : Forest
   t = final f.ns (lists_of f)
 
-  pub final_tokens : take r.tokens r.toks ≡ flat t
-  final_tokens = s.tokens ∙ ap flat (last_tree f)
+  pub final_tokens : {toks book table : List ℕ} {m count : ℕ} → RingStands n (state_at n (lists_of f) k) toks m book table count → take m toks ≡ flat t
+  final_tokens s = s.tokens ∙ ap flat (last_tree f)
 
   pub order_room : length (standard (tree (plain t))) ≤ 256
   order_room = rw (tree_plain t) (omega (arith, form_length n t (last_form f), some_leaf f, few_names f))

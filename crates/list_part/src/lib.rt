@@ -2,10 +2,11 @@
 #![tactic(auto)]
 
 ghost use Rattle.std.specs.Prelude.{◌≡◌, [], ◌∷◌, ◌-◌, ◌≤◌};
+ghost use Rattle.tree_tokens.specs.Tokens.{flat};
 ghost use Rattle.list_ring.specs.Stands.{lists_of};
 ghost use Rattle.spec_listing.specs.Listing.{listing, error_line};
 ghost use Rattle.list_part.specs.Parts.{Listed, Parts};
-ghost use Rattle.list_line.specs.Printing.{Before};
+ghost use Rattle.list_line.specs.Printing.{final, Before};
 
 use file_read::RingFile;
 use list_bytes::put;
@@ -24,7 +25,7 @@ pub struct Piece {
 pub fn part(file: &[u8], from: usize, out: &mut [u8]) -> Piece
     ensures { Listed file.now from out.old out.new result }
 {
-    match file_read::scan(file) {
+    match RingFile::open(file) {
         Ok(found) => print_listing(found, from, out),
         Err(why) => print_error(why.place(), from, out),
     }
@@ -52,8 +53,18 @@ fn print_error(byte: usize, from: usize, out: &mut [u8]) -> Piece
 fn print_listing(file: RingFile, from: usize, out: &mut [u8]) -> Piece
     ensures { Parts (listing file.entry.holds.ns (lists_of file.entry.holds)) from out.old out.new result }
 {
-    let ring = Ring::replay(file, file.lines);
-    let tree = &ring.toks[..ring.tokens];
+    let (mut toks, mut book, mut table) = ([0; 512], [0; 384], [0; 96]);
+    let Ring { toks, tokens, .. } = Ring::replay(
+        file, file.lines, &mut toks, &mut book, &mut table,
+    );
+    print_tree(file, &toks[..tokens], from, out)
+}
+
+// The same, given the tree, in tokens, of the file's ring after all lines.
+fn print_tree(file: RingFile, tree: &[u16], from: usize, out: &mut [u8]) -> Piece
+    requires { tree.now ≡ flat (final file.holds.ns (lists_of file.holds)) }
+    ensures { Parts (listing file.entry.holds.ns (lists_of file.entry.holds)) from out.old out.new result }
+{
     let mut order = [0; 256];
     let n = tree_order::standard_order(tree, &mut order);
     let whole = Listing {
@@ -68,7 +79,9 @@ fn print_listing(file: RingFile, from: usize, out: &mut [u8]) -> Piece
 fn print_from(whole: &Listing, from: usize, out: &mut [u8]) -> Piece
     ensures { Parts (listing whole.now.file.holds.ns (lists_of whole.now.file.holds)) from out.old out.new result }
 {
-    let mut ring = Ring::replay(whole.file, lines_before(from, whole.file.lines));
+    let (mut toks, mut book, mut table) = ([0; 512], [0; 384], [0; 96]);
+    let before = lines_before(from, whole.file.lines);
+    let mut ring = Ring::replay(whole.file, before, &mut toks, &mut book, &mut table);
     print_lines(whole, from, &mut ring, out)
 }
 

@@ -9,8 +9,7 @@ use Rattle.file_read.specs.RingFile.{Value, leaves_on, line, value_lines, FileHo
 use Rattle.file_read.proofs.Values.{line-length, lines_long}
 use Rattle.file_read.proofs.Groups.{leaves_different, leaves_within}
 use Rattle.spec_listing.specs.Listing.{RingState, opened, outcome, next, state_at}
-use Rattle.list_ring.specs.Stands.{RingStands, Line, lists_of, StandsAt}
-use Rattle.list_ring.specs.declared.Ring.{Ring}
+use Rattle.list_ring.specs.Stands.{RingStands, Line, lists_of}
 use Rattle.list_ring.proofs.Runs.{state_none, state_more}
 
 -- The leaves of a line of values.
@@ -45,14 +44,14 @@ module _ {x : List ℕ} {n h k : ℕ} (f : FileHolds x n h k) where
       (line-length f.ns f.vss l f.rules (omega (arith, f.lines)) ∙ sym f.leaves) few_names
 
   -- The ring after one line more; before the first.
-  pub stands_more : (l : ℕ) {list : List ℕ} {r : Ring} → l < k → list ≡ leaves_on (get_or f.vss l [])
-      → RingStands n (next (state_at n (lists_of f) l) (l + 1) list (outcome n (state_at n (lists_of f) l) list)) r
-      → StandsAt f (l + 1) r
-  stands_more l {list} {r} q e s =
-      subst (λ (u : RingState). RingStands n u r)
+  pub stands_more : (l : ℕ) {list toks book table : List ℕ} {m count : ℕ} → l < k → list ≡ leaves_on (get_or f.vss l [])
+      → RingStands n (next (state_at n (lists_of f) l) (l + 1) list (outcome n (state_at n (lists_of f) l) list)) toks m book table count
+      → RingStands n (state_at n (lists_of f) (l + 1)) toks m book table count
+  stands_more l {list} {toks} {book} {table} {m} {count} q e s =
+      subst (λ (u : RingState). RingStands n u toks m book table count)
       (ap (λ (list : List ℕ). next (state_at n (lists_of f) l) (l + 1) list (outcome n (state_at n (lists_of f) l) list)) (e ∙ sym (list_at l))
       ∙ sym (state_more n (lists_of f) l (omega (arith, lists_length))))
       s
 
-  pub stands_none : {r : Ring} → RingStands n (opened n) r → StandsAt f 0 r
-  stands_none {r} s = subst (λ (u : RingState). RingStands n u r) (sym (state_none n (lists_of f))) s
+  pub stands_none : {toks book table : List ℕ} {m count : ℕ} → RingStands n (opened n) toks m book table count → RingStands n (state_at n (lists_of f) 0) toks m book table count
+  stands_none {toks} {book} {table} {m} {count} s = subst (λ (u : RingState). RingStands n u toks m book table count) (sym (state_none n (lists_of f))) s

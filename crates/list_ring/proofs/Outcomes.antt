@@ -31,18 +31,17 @@ use Rattle.list_attempt.specs.Attempts.{group_refusal, JoinedTree}
 use Rattle.list_attempt.proofs.Laws.{list_passed}
 use Rattle.spec_listing.specs.Listing.{Outcome, kept, refused, full, RingState, opened, joined, outcome, next}
 use Rattle.list_ring.specs.Stands.{RingStands, Line}
-use Rattle.list_ring.specs.declared.Ring.{Ring}
 
 -- The fresh ring.
-pub opened_stands : (n : ℕ) {old : List ℕ} (r : Ring) → Wrote (flat (fresh n)) old r.toks r.tokens → r.count ≡ 0 → RingStands n (opened n) r
+pub opened_stands : (n : ℕ) {old toks : List ℕ} {m : ℕ} → Wrote (flat (fresh n)) old toks m → (book table : List ℕ) → RingStands n (opened n) toks m book table 0
 unfolding groups
-opened_stands n r w e = record {
+opened_stands n w book table = record {
   form = fresh_form n;
   tokens = read_back w;
   all_tokens = wrote_most w;
-  in_book = rw e;
-  in_table = rw e;
-  counted = e;
+  in_book = refl;
+  in_table = refl;
+  counted = refl;
   few = omega arith;
 }
 
@@ -82,41 +81,39 @@ table_more : (table : List ℕ) (c line : ℕ) → c < length table → take (c 
 table_more table c line h = rw add-one (take-suc-set table c line h)
 
 -- The ring after a line.
-module _ (n : ℕ) (s : RingState) (line : ℕ) (list : List ℕ) (r : Ring) (h : RingStands n s r) where
-  pub tree_tokens : n ≤ 256 → TreeTokens n (take r.tokens r.toks)
+module _ (n : ℕ) (s : RingState) (line : ℕ) (list : List ℕ) {toks : List ℕ} {m : ℕ} {book table : List ℕ} {count : ℕ} (h : RingStands n s toks m book table count) where
+  pub tree_tokens : n ≤ 256 → TreeTokens n (take m toks)
   tree_tokens l = record { shown = s.tree; is = h.tokens; in_form = h.form; few_leaves = l }
 
-  pub stays : Line n list → (why : Refusal) → group_refusal s.tree n r.count list ≡ some why → RingStands n (next s line list (outcome n s list)) r
+  pub stays : Line n list → (why : Refusal) → group_refusal s.tree n count list ≡ some why → RingStands n (next s line list (outcome n s list)) toks m book table count
   stays l why e =
       let q = sym (outcome_refusal n s list l) ∙ ap (λ (c : ℕ). group_refusal s.tree n c list) (sym h.counted) ∙ e in
-      subst (λ (u : RingState). RingStands n u r) (sym (refused_next (outcome n s list) why q s line list)) h
+      subst (λ (u : RingState). RingStands n u toks m book table count) (sym (refused_next (outcome n s list) why q s line list)) h
 
-  module _ {marks old tree : List ℕ} {k : ℕ} (a : JoinedTree s.tree n r.count list marks old tree k) where
+  module _ {marks old tree : List ℕ} {k : ℕ} (a : JoinedTree s.tree n count list marks old tree k) where
     passed : bad_list n list ≡ none
-    passed = list_passed s.tree n r.count list a.passes
+    passed = list_passed s.tree n count list a.passes
 
     is_kept : outcome n s list ≡ kept a.tree
     is_kept = outcome-joined n s list (λ e. a.not_full (h.counted ∙ e)) ∙ ap (joined n s (elem list)) a.is
 
-    pub kept_few : r.count < 96
+    pub kept_few : count < 96
     kept_few = omega (arith, h.few, a.not_full)
 
-    pub kept_stands : (r' : Ring) {j : ℕ} → n ≤ 256 → Wrote (take k tree) r.toks r'.toks j → r'.tokens ≡ k
-        → r'.book ≡ booked r.book r.count (group_of n list) → r'.table ≡ set r.table r.count line → r'.count ≡ r.count + 1
-        → 384 ≤ length r.book → 96 ≤ length r.table
-        → RingStands n (next s line list (outcome n s list)) r'
-    kept_stands r' {j} l w t b v c all_words all_places =
-        let u : Wrote (flat a.tree) r.toks r'.toks j = subst (λ (u : List ℕ). Wrote u r.toks r'.toks j) (read_back a.wrote) w in
-        let q : j ≡ r'.tokens = u.many ∙ sym a.wrote.many ∙ sym t in
+    pub kept_stands : {toks' book' table' : List ℕ} {m' count' : ℕ} → n ≤ 256 → Wrote (take k tree) toks toks' m' → book' ≡ booked book count (group_of n list)
+        → table' ≡ set table count line → count' ≡ count + 1 → 384 ≤ length book → 96 ≤ length table
+        → RingStands n (next s line list (outcome n s list)) toks' m' book' table' count'
+    kept_stands {toks'} {m' = m'} l w b v c all_words all_places =
+        let u : Wrote (flat a.tree) toks toks' m' = subst (λ (u : List ℕ). Wrote u toks toks' m') (read_back a.wrote) w in
         rw is_kept
         (record {
           form = (join_some n (group_of n list) s.tree a.tree h.form a.is).form;
-          tokens = subst (λ (i : ℕ). take i r'.toks ≡ flat a.tree) q (read_back u);
-          all_tokens = omega (arith, wrote_most u, q);
+          tokens = read_back u;
+          all_tokens = wrote_most u;
           in_book = ap₂ (λ (book : List ℕ) (i : ℕ). groups (lent_book book i)) b c
-              ∙ groups-booked r.book r.count (group_of n list) (omega (arith, kept_few))
+              ∙ groups-booked book count (group_of n list) (omega (arith, kept_few))
               ∙ rw (h.in_book, group_held n list l passed);
-          in_table = ap₂ take c v ∙ table_more r.table r.count line (omega (arith, kept_few)) ∙ rw h.in_table;
+          in_table = ap₂ take c v ∙ table_more table count line (omega (arith, kept_few)) ∙ rw h.in_table;
           counted = omega (arith, h.counted, c, length-append s.groups (elem list ∷ []));
           few = omega (arith, kept_few, c);
         })

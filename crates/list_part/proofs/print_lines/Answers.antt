@@ -17,10 +17,10 @@ returns-then-out-at-lt4096 c =
 pub loop-i-preserved : goal.loop-i-preserved
 loop-i-preserved c =
     let f = c.args.whole.now.file.holds in
-    let line = c.print_line-line.ensures.1 (omega arith) in
+    let line = c.print_line-line.ensures.printed.1 (omega arith) in
     record {
       stops = omega arith;
-      within = omega (arith, c.put-at.ensures.past, c.put-at.auto.out, c.print_line-line.ensures.0, c.print_line-line.auto.out);
+      within = omega (arith, c.put-at.ensures.past, c.put-at.auto.out, c.print_line-line.ensures.printed.0, c.print_line-line.auto.out);
       ring = line.0;
       shown =
           shown_more (listing f.ns (lists_of f)) c.args.from c.loop-i.i (omega (arith, listed_length f)) (omega (arith, c.loop-i.auto.out)) c.loop-i.invariant.shown line.1

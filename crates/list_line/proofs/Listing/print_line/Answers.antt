@@ -1,34 +1,10 @@
-use Rattle.std.proofs.Common.{arith}
-use Rattle.list_bytes.proofs.Laws.{appends_as}
-use Rattle.list_line.proofs.Printing.{stands_at, listed_head, listed_group, listed_end}
+use Rattle.list_line.proofs.Last.{last_tokens, last_order}
 use Rattle.list_line.proofs.Listing.print_line.Goals as goal
 
-pub returns-then-i-eq0 : goal.returns-then-i-eq0
-returns-then-i-eq0 c =
-    let f = c.args.self.now.file.holds in (
-      omega (arith, c.put.ensures.past),
-      λ l. (
-        λ q. stands_at f (omega (arith, c.if-i-eq0.true)) (c.requires.0 (omega (arith, c.if-i-eq0.true))),
-        appends_as (listed_head f c.if-i-eq0.true) c.put.ensures,
-      ),
-    )
+pub print_line-requires : goal.print_line-requires
+print_line-requires c =
+    let s = c.args.self.now in
+    (c.requires.0, last_tokens s.file.holds s.last_tree, last_order s.file.holds s.last_order, c.requires.1)
 
-pub returns-then-i-self : goal.returns-then-i-self
-returns-then-i-self c =
-    let f = c.args.self.now.file.holds in (
-      c.print_group.ensures.0,
-      λ l. (
-        λ q. stands_at f (omega (arith, c.if-i-eq0.false)) c.print_group.ensures.1,
-        appends_as (listed_group f c.args.self.now.last_order c.args.i (omega (arith, c.if-i-eq0.false)) c.if-i-self.true) c.print_group.ensures.2,
-      ),
-    )
-
-pub returns : goal.returns
-returns c =
-    let f = c.args.self.now.file.holds in (
-      c.print_end.ensures.0,
-      λ l. (
-        λ q. absurd (omega (arith, q, c.if-i-self.false)),
-        appends_as (listed_end f c.args.i (omega (arith, c.if-i-self.false))) (c.print_end.ensures.1 (omega (arith, l, c.if-i-self.false))),
-      ),
-    )
+pub returns-clause-printed : goal.returns-clause-printed
+returns-clause-printed c = (c.print_line.ensures.printed.0, c.print_line.ensures.printed.1 c.args.self.now.last_tree c.args.self.now.last_order)

@@ -1,7 +1,7 @@
 use mathlib.Core.Path.{◌≡◌, ◌∙◌}
 use Prim.Native.Nat.{◌-◌}
 use native.Mathlib.Omega.{arith}
-use lib.ListN.{length, length-drop}
+use lib.ListN.{length-drop}
 use Rattle.spec_orders.proofs.ListLaws.{part_to_end}
 use Rattle.tree_tokens.specs.Tokens.{encode}
 use Rattle.tree_tokens.specs.Views.{rest_of}

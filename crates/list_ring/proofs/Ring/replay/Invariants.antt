@@ -1,5 +1,0 @@
-use Rattle.list_ring.specs.Stands.{StandsAt}
-use Rattle.list_ring.proofs.Ring.replay.Given as goal
-
-abbrev pub invariant-loop-l : goal.invariant-loop-l
-invariant-loop-l l = StandsAt l.file.holds l.l l.ring
